@@ -146,20 +146,20 @@ class Places:
     def keys(self, crate):
         return self.files.words(f"crates/{crate}/src/fault.rt", r'Key::(?P<key>\w+) => "(?P<text>\w+)"', "pub fn name(self)", "\n    }\n", "=>")
 
-    def layers(self, crate, enum, maps):
-        """The lines of a fault that carries one of a map or of sources."""
+    def layers(self, crate, enum, key, maps, of_map, of_sources):
+        """The lines of a fault that carries a key, or a fault of a map or of sources."""
         carried = {name: templates(self.files.errors(f"crates/{maps}/src/{file}.rt", name))
-                   for name, file in (("MapFault", "map"), ("SourceFault", "sources"))}
-        key = f"(?:{'|'.join(said.text for said in self.keys(crate))})"
-        return templates(self.files.errors(f"crates/{crate}/src/fault.rt", enum), Key=key, **carried)
+                   for name, file in ((of_map, "map"), (of_sources, "sources"))}
+        carried[key] = f"(?:{'|'.join(said.text for said in self.keys(crate))})"
+        return templates(self.files.errors(f"crates/{crate}/src/fault.rt", enum), **carried)
 
     @functools.cached_property
     def scripts(self):
-        return self.layers("tl_script", "ScriptFault", "tl_map")
+        return self.layers("tl_script", "ScriptFault", "ScriptKey", "tl_map", "MapFault", "SourceFault")
 
     @functools.cached_property
     def systems(self):
-        files = self.layers("check_keys", "SystemFault", "check_map")
+        files = self.layers("check_keys", "SystemFault", "Key", "check_map", "AddressMapFault", "SourceOwnerFault")
         images = self.files.errors("crates/tl_c/src/draft.rt", "ImageFault")
         return files + [one for said in images if said.key != "System" for one in filled(said, {"usize": r"\d+"})]
 
@@ -235,7 +235,7 @@ class Places:
     def of_scripts(self):
         words, page = self.files.words, "docs/FORMATS.md"
         end = ("Map", "PastEnd")
-        self.keyed(self.keys("tl_script"), words("crates/tl_script/specs/Key.antt", r'key_name (?P<key>\w+) = codes "(?P<text>\w+)"', every="key_name [A-Z]"))
+        self.keyed(self.keys("tl_script"), words("crates/tl_script/specs/Key.antt", r'script_key_name (?P<key>\w+) = codes "(?P<text>\w+)"', every="script_key_name [A-Z]"))
         table = self.files.table(page, "| Fault | Line | Such a script |\n|---|---|---|\n", 1, 0)
         memory = table.pop()
         self.tell(memory.text == self.memory.text, f"{memory.at}: {memory.text!r} is {self.memory.text!r} at {self.memory.at}")

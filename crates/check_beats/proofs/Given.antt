@@ -14,7 +14,7 @@ use Rattle.tl_types.specs.declared.operation.Logic.TheVariants.{Xor, Or, And, Sw
 use Rattle.tl_types.specs.declared.operation.Hint.TheVariants.{PrefetchRead, PrefetchWrite}
 use Rattle.tl_types.specs.declared.operation.AskOp.{AskOp}
 use Rattle.tl_types.specs.declared.operation.AskOp.TheVariants.{PutFull, PutPartial, Arithmetic, Logical, Get, Intent}
-use Rattle.check_beats.specs.Bus.{low, beat_count, active_mask}
+use Rattle.check_beats.specs.Bus.{low, beat_count_on_bus, active_mask_on_bus}
 use Rattle.check_beats.specs.Form.{IsFormed}
 use Rattle.check_beats.specs.Message.{op_of, byte_at, given_at, ask_part, ask_beats}
 use Rattle.check_beats.specs.declared.beat.AskHead.{AskHead}
@@ -69,7 +69,7 @@ byte_at-set mask lanes lane set =
 
 -- a mask of all active lanes sets each lane of a beat
 pub active_set : (w address size k : ℕ) → k < min (2 ^ w) (2 ^ size)
-    → bit_at (active_mask (2 ^ w) address size) (low address size % 2 ^ w + k) ≡ 1
+    → bit_at (active_mask_on_bus (2 ^ w) address size) (low address size % 2 ^ w + k) ≡ 1
 active_set w address size k within =
     let first = low address size % 2 ^ w in
     bit_at_mask_inside first (first + min (2 ^ w) (2 ^ size)) (first + k) (omega arith) (omega (arith, within))
@@ -100,7 +100,7 @@ all_some mask lanes first count set =
 -- ---- what one beat spells
 
 -- a mask of all active lanes sets each lane that carries a byte
-pub part_set : (w : ℕ) (beat : AskHead) → beat.mask ≡ active_mask (2 ^ w) beat.address beat.size
+pub part_set : (w : ℕ) (beat : AskHead) → beat.mask ≡ active_mask_on_bus (2 ^ w) beat.address beat.size
     → (k : ℕ) → k < min (2 ^ w) (byte_count (op_of beat.opcode beat.param) beat.size)
     → bit_at beat.mask (low beat.address beat.size % 2 ^ w + k) ≡ 1
 part_set w beat set k within =
@@ -108,7 +108,7 @@ part_set w beat set k within =
     omega (arith, within, some_count beat.size (carries_bytes (op_of beat.opcode beat.param))) in
     ap (λ m. bit_at m (low beat.address beat.size % 2 ^ w + k)) set ∙ active_set w beat.address beat.size k below
 
-pub part_some : (w : ℕ) (beat : AskHead) (lanes : List ℕ) → beat.mask ≡ active_mask (2 ^ w) beat.address beat.size
+pub part_some : (w : ℕ) (beat : AskHead) (lanes : List ℕ) → beat.mask ≡ active_mask_on_bus (2 ^ w) beat.address beat.size
     → All (λ b. IsSome b) (ask_part (2 ^ w) beat lanes)
 part_some w beat lanes set =
     all_some beat.mask lanes (low beat.address beat.size % 2 ^ w)
@@ -123,7 +123,7 @@ one_is_lawful w beat lanes formed alone =
     let carries : nat_lt beat.opcode 4 ≡ carries_bytes op = carries_named formed.op beat.opcode beat.param formed.code
     ∙ ap carries_bytes (sym named) in
     let fits : byte_count op beat.size ≤ 2 ^ w =
-    small_count w beat.size (carries_bytes op) (ap (λ b. beat_count (2 ^ w) b beat.size) (sym carries) ∙ alone) in
+    small_count w beat.size (carries_bytes op) (ap (λ b. beat_count_on_bus (2 ^ w) b beat.size) (sym carries) ∙ alone) in
     record {
       in_limit = formed.in_limit;
       counted =
@@ -133,7 +133,7 @@ one_is_lawful w beat lanes formed alone =
     }
 
 -- one beat whose mask is that of all active lanes carries what stands there
-pub one_is_given : (w : ℕ) (beat : AskHead) (lanes : List ℕ) → length lanes ≡ 2 ^ w → beat.mask ≡ active_mask (2 ^ w) beat.address beat.size
+pub one_is_given : (w : ℕ) (beat : AskHead) (lanes : List ℕ) → length lanes ≡ 2 ^ w → beat.mask ≡ active_mask_on_bus (2 ^ w) beat.address beat.size
     → map (λ byte. Some byte)
     (take (min (2 ^ w) (byte_count (op_of beat.opcode beat.param) beat.size))
     (drop (low beat.address beat.size % 2 ^ w) lanes)) ≡ ask_part (2 ^ w) beat lanes

@@ -7,7 +7,7 @@ use Rattle.std.proofs.lemmas.Nat.{pow_pos, pow_below, mul-le, shl-shr, mul-mod_s
 use Rattle.std.proofs.lemmas.List.Elements.{All-append}
 use Rattle.tl_types.specs.Operation.{carries_bytes, byte_count, may_leave_unset}
 use Rattle.tl_types.specs.Request.{IsLawfulRequest}
-use Rattle.check_beats.specs.Bus.{low, beat_count}
+use Rattle.check_beats.specs.Bus.{low, beat_count_on_bus}
 use Rattle.check_beats.specs.Form.{IsFormed, FitsAsk, SameFields}
 use Rattle.check_beats.specs.Message.{op_of, given_at, ask_part, ask_beats}
 use Rattle.check_beats.specs.State.{AskBegun, ask_begun, first_ask, asked_beats, asked_bytes, ends_ask, ask_after}
@@ -20,9 +20,9 @@ use Rattle.check_beats.proofs.Given.{op_named, carries_named, length-given_at, p
 pub record IsLong (w : ℕ) (carries : Bool) (size : ℕ) : Type 0 where
   pub carries_is : carries ≡ true
   pub wide : w ≤ size
-  pub counted : beat_count (2 ^ w) carries size * 2 ^ w ≡ 2 ^ size
+  pub counted : beat_count_on_bus (2 ^ w) carries size * 2 ^ w ≡ 2 ^ size
 
-pub long : (w size : ℕ) (carries : Bool) → 1 < beat_count (2 ^ w) carries size → IsLong w carries size
+pub long : (w size : ℕ) (carries : Bool) → 1 < beat_count_on_bus (2 ^ w) carries size → IsLong w carries size
 long w size false more = absurd (omega (arith, more))
 long w size true more = go (cases_lt size w)
   where
@@ -37,7 +37,7 @@ long w size true more = go (cases_lt size w)
         record { carries_is = refl; wide = wide; counted = ap (λ n. n * 2 ^ w) all ∙ sym power }
 
 -- a message has 256 beats at most
-pub few : (w size : ℕ) (carries : Bool) → size ≤ 8 → beat_count (2 ^ w) carries size ≤ 256
+pub few : (w size : ℕ) (carries : Bool) → size ≤ 8 → beat_count_on_bus (2 ^ w) carries size ≤ 256
 few w size false small = omega arith
 few w size true small =
     let most : 2 ^ size ≤ 2 ^ 8 = pow-le-pow_right (lit≤ tt) small in
@@ -201,7 +201,7 @@ begins_long w beat goes_on =
       eqb-false 1 (ask_beats (2 ^ w) beat) goes_on,
     ))
   where
-    some_beat : (bus size : ℕ) (carries : Bool) → 0 < beat_count bus carries size
+    some_beat : (bus size : ℕ) (carries : Bool) → 0 < beat_count_on_bus bus carries size
     some_beat bus size true = omega arith
     some_beat bus size false = omega arith
 
@@ -223,7 +223,7 @@ kept_first w beat lanes fits wide goes_on =
     } in
     record { of = λ b at. let e : after ≡ b = cc in subst (λ (x : AskBegun). IsAskBegun (2 ^ w) x) e begun }
   where
-    some_beat : (bus size : ℕ) (carries : Bool) → 0 < beat_count bus carries size
+    some_beat : (bus size : ℕ) (carries : Bool) → 0 < beat_count_on_bus bus carries size
     some_beat bus size true = omega arith
     some_beat bus size false = omega arith
 

@@ -9,9 +9,9 @@ use Rattle.std.proofs.lemmas.Nat.Bits.{bit_at-lt, bit_at_and, bit_at_ones, bit_a
 use Rattle.tl_types.specs.Operation.{reply_carries_bytes, reply_byte_count}
 use Rattle.tl_types.specs.declared.operation.ReplyOp.TheVariants.{AccessAck, AccessAckData, HintAck}
 use Rattle.check_cells.specs.Known.{all_known, known as known_of}
-use Rattle.check_beats.specs.Bus.{low, active_mask}
+use Rattle.check_beats.specs.Bus.{low, active_mask_on_bus}
 use Rattle.check_beats.specs.Form.{IsKnownReply}
-use Rattle.check_beats.specs.Message.{reply_op_of_number, byte_at, given_at, seen_at, reply_part}
+use Rattle.check_beats.specs.Message.{reply_op_of_number, byte_at, given_at, seen_cells, reply_part}
 use Rattle.check_beats.specs.declared.beat.ReplyHead.{ReplyHead}
 use Rattle.check_beats.proofs.Window.{window_fits}
 use Rattle.check_beats.proofs.Given.{length-given_at, given_at-get, active_set}
@@ -33,7 +33,7 @@ and-mod mask known width small =
     let below : bit_and mask known < 2 ^ width = omega (arith, and_le_l mask known, small) in
     ap (λ m. bit_and m (known % 2 ^ width)) (sym same) ∙ sym (and_mod mask known width) ∙ mod-eq_of_lt below
 
-pub active_small : (w address size : ℕ) → active_mask (2 ^ w) address size < 2 ^ (2 ^ w)
+pub active_small : (w address size : ℕ) → active_mask_on_bus (2 ^ w) address size < 2 ^ (2 ^ w)
 active_small w address size =
     let first = low address size % 2 ^ w in
     let last = first + min (2 ^ w) (2 ^ size) in
@@ -43,10 +43,10 @@ active_small w address size =
 -- ---- active lanes that are known
 
 pub known_active : (w address size known k : ℕ)
-    → bit_and (active_mask (2 ^ w) address size) known ≡ active_mask (2 ^ w) address size → k < min (2 ^ w) (2 ^ size)
+    → bit_and (active_mask_on_bus (2 ^ w) address size) known ≡ active_mask_on_bus (2 ^ w) address size → k < min (2 ^ w) (2 ^ size)
     → bit_at known (low address size % 2 ^ w + k) ≡ 1
 known_active w address size known k is within =
-    let active = active_mask (2 ^ w) address size in
+    let active = active_mask_on_bus (2 ^ w) address size in
     let lane = low address size % 2 ^ w + k in
     let set : bit_at active lane ≡ 1 = active_set w address size k within in
     let both : min (bit_at active lane) (bit_at known lane) ≡ bit_at active lane =
@@ -55,7 +55,7 @@ known_active w address size known k is within =
 
 pub active_known : (w address size known : ℕ)
     → ((k : ℕ) → k < min (2 ^ w) (2 ^ size) → bit_at known (low address size % 2 ^ w + k) ≡ 1)
-    → bit_and (active_mask (2 ^ w) address size) known ≡ active_mask (2 ^ w) address size
+    → bit_and (active_mask_on_bus (2 ^ w) address size) known ≡ active_mask_on_bus (2 ^ w) address size
 active_known w address size known each =
     same_from_bits_below last (bit_and active known) active
     (omega (arith, and_le_l active known, small)) small (λ i within. bit_at_and active known i ∙ go i within (cases_lt i first))
@@ -67,7 +67,7 @@ active_known w address size known each =
     last = first + min (2 ^ w) (2 ^ size)
 
     active : ℕ
-    active = active_mask (2 ^ w) address size
+    active = active_mask_on_bus (2 ^ w) address size
 
     small : active < 2 ^ last
     small = omega (arith, pow_pos first, pow_pos last)
@@ -140,7 +140,7 @@ known_part w address beat known lanes is = go beat.denied refl
     first : ℕ
     first = low address beat.size % 2 ^ w
 
-    go : (denied : Bool) → beat.denied ≡ denied → all_known (seen_at denied known lanes first (min (2 ^ w) op_count)) ≡ true
+    go : (denied : Bool) → beat.denied ≡ denied → all_known (seen_cells denied known lanes first (min (2 ^ w) op_count)) ≡ true
     go true denied = all_known-known (replicate (length (given_at known lanes first (min (2 ^ w) op_count))) 0)
     go false denied = all_known_if (given_at known lanes first (min (2 ^ w) op_count)) (λ k below.
         let within : k < min (2 ^ w) op_count = omega (arith, below, length-given_at known lanes first (min (2 ^ w) op_count)) in
@@ -160,7 +160,7 @@ part_known w address beat known lanes all one plain =
     let full : count ≡ min (2 ^ w) (2 ^ beat.size) = ap (λ b. min (2 ^ w) (if b then 2 ^ beat.size else 0)) carries in
     let inside : k < count = omega (arith, within, full) in
     let cells : all_known (given_at known lanes first count) ≡ true =
-    sym (ap (λ d. all_known (seen_at d known lanes first count)) plain) ∙ all in
+    sym (ap (λ d. all_known (seen_cells d known lanes first count)) plain) ∙ all in
     let some : IsSome (get_or (given_at known lanes first count) k None) =
     if_all_known (given_at known lanes first count) cells k (omega (arith, inside, length-given_at known lanes first count)) in
     lit_byte known lanes (first + k) (rw (given_at-get known lanes first count k inside) at some))

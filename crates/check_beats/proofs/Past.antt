@@ -8,11 +8,11 @@ use Rattle.std.specs.Prelude.{◌↔◌}
 use Rattle.tl_types.specs.Operation.{carries_bytes, byte_count, may_leave_unset, reply_carries_bytes, reply_byte_count}
 use Rattle.tl_types.specs.declared.operation.AskOp.{AskOp}
 use Rattle.check_cells.specs.Pattern.{captured_bytes}
-use Rattle.check_beats.specs.Bus.{bus_bytes, bus_log, low, active_mask}
-use Rattle.check_beats.specs.Form.{IsLawfulMask, IsKnown, IsKnownReply}
+use Rattle.check_beats.specs.Bus.{bus_bytes, bus_log, low, active_mask_on_bus}
+use Rattle.check_beats.specs.Form.{IsLawfulMaskOnBus, IsKnown, IsKnownReply}
 use Rattle.check_beats.specs.Laws.{AsksAreOnBus, RepliesAreOnBus, KnownLanesAreKnownBytes}
 use Rattle.check_beats.specs.declared.bus.Bus.{Bus}
-use Rattle.check_beats.specs.Message.{op_of, reply_op_of_number, byte_at, given_at, seen_at, ask_part, reply_part}
+use Rattle.check_beats.specs.Message.{op_of, reply_op_of_number, byte_at, given_at, seen_cells, ask_part, reply_part}
 use Rattle.check_beats.specs.State.{AskBegun, ask_of, ask_after, ReplyBegun, reply_of, reply_after}
 use Rattle.check_beats.specs.declared.beat.AskHead.{AskHead}
 use Rattle.check_beats.specs.declared.beat.ReplyHead.{ReplyHead}
@@ -36,7 +36,7 @@ given_at-take mask lanes n first count inside =
     ∙ sym (given_at-get mask lanes first count k within))
 
 pub seen_at-take : (denied : Bool) (known : ℕ) (lanes : List ℕ) (n first count : ℕ) → first + count ≤ n
-    → seen_at denied known (take n lanes) first count ≡ seen_at denied known lanes first count
+    → seen_cells denied known (take n lanes) first count ≡ seen_cells denied known lanes first count
 seen_at-take denied known lanes n first count inside =
     ap (λ bytes. captured_bytes denied bytes) (given_at-take known lanes n first count inside)
 
@@ -117,7 +117,7 @@ given_at-mod known lanes width first count inside =
     ∙ sym (given_at-get known lanes first count k within))
 
 seen_at-mod : (denied : Bool) (known : ℕ) (lanes : List ℕ) (width first count : ℕ) → first + count ≤ width
-    → seen_at denied (known % 2 ^ width) lanes first count ≡ seen_at denied known lanes first count
+    → seen_cells denied (known % 2 ^ width) lanes first count ≡ seen_cells denied known lanes first count
 seen_at-mod denied known lanes width first count inside =
     ap (λ bytes. captured_bytes denied bytes) (given_at-mod known lanes width first count inside)
 
@@ -129,13 +129,13 @@ reply_part-mod w address beat known lanes =
     (min (2 ^ w) (reply_byte_count op beat.size))
     (omega (arith, window_fits w address beat.size, some_count beat.size (reply_carries_bytes op)))
 
-small_mask : (w : ℕ) (op : AskOp) (size address mask : ℕ) → IsLawfulMask (2 ^ w) op size address mask → mask < 2 ^ (2 ^ w)
+small_mask : (w : ℕ) (op : AskOp) (size address mask : ℕ) → IsLawfulMaskOnBus (2 ^ w) op size address mask → mask < 2 ^ (2 ^ w)
 small_mask w op size address mask lawful = go (may_leave_unset op) refl
   where
     go : (part : Bool) → may_leave_unset op ≡ part → mask < 2 ^ (2 ^ w)
     go false never = omega (arith, lawful.whole never, active_small w address size)
     go true may =
-        omega (arith, lawful.part may, and_le_r mask (active_mask (2 ^ w) address size), active_small w address size)
+        omega (arith, lawful.part may, and_le_r mask (active_mask_on_bus (2 ^ w) address size), active_small w address size)
 
 known_alike : (width : ℕ) (beat : AskHead) (known : ℕ) → beat.mask < 2 ^ width
     → IsKnown beat (known % 2 ^ width) ↔ IsKnown beat known
@@ -156,7 +156,7 @@ asks_are_on_bus bus begun beat known lanes = record {
 reply_known_alike : (w address : ℕ) (beat : ReplyHead) (known : ℕ)
     → IsKnownReply (2 ^ w) address beat (known % 2 ^ (2 ^ w)) ↔ IsKnownReply (2 ^ w) address beat known
 reply_known_alike w address beat known =
-    let same = and-mod (active_mask (2 ^ w) address beat.size) known (2 ^ w) (active_small w address beat.size) in
+    let same = and-mod (active_mask_on_bus (2 ^ w) address beat.size) known (2 ^ w) (active_small w address beat.size) in
     ((λ is one plain. sym same ∙ is one plain), (λ is one plain. same ∙ is one plain))
 
 pub replies_are_on_bus : RepliesAreOnBus

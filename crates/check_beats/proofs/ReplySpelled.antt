@@ -7,12 +7,12 @@ use Rattle.std.proofs.lemmas.List.{get_or_append_left, get_or-append-add}
 use Rattle.tl_types.proofs.Lists.{slice_get-push}
 use Rattle.tl_types.specs.Operation.{reply_carries_bytes, reply_byte_count}
 use Rattle.tl_types.specs.Wire.{reply_opcode_of}
-use Rattle.check_beats.specs.Bus.{low, lane_of, beat_count, bus_log}
+use Rattle.check_beats.specs.Bus.{low, lane_on_bus, beat_count_on_bus, bus_log}
 use Rattle.check_beats.specs.Form.{IsFormedReply, FitsReply, SameReplyFields, IsLawfulFlag}
-use Rattle.check_beats.specs.Message.{reply_op_of_number, byte_at, seen_at, reply_part, reply_beats}
+use Rattle.check_beats.specs.Message.{reply_op_of_number, byte_at, seen_cells, reply_part, reply_beats}
 use Rattle.check_beats.specs.State.{ReplyBegun, reply_begun, first_reply, replied_beats, replied_bytes, ends_reply, reply_of, reply_after}
 use Rattle.check_beats.specs.Begun.{IsReplyKept}
-use Rattle.check_beats.specs.Spelling.{ReplyBeat, StandsAt, HasReplyFieldsOf, IsReplyBeatOf, SpellsReply, IsLawfulPattern}
+use Rattle.check_beats.specs.Spelling.{ReplyBeat, StandsAt, HasReplyFieldsOf, IsReplyBeatOf, SpellsReplyOnBus, IsLawfulPattern}
 use Rattle.check_beats.specs.Laws.{replying, AreFittingReplies, begun_reply, ended_replies, IsReplySpelled, ReplyIsSpelled}
 use Rattle.check_beats.specs.declared.beat.ReplyHead.{ReplyHead}
 use Rattle.check_beats.proofs.Window.{lane_wide, lane_in_window, some_count}
@@ -30,7 +30,7 @@ none_stand w j given x at found = absurd (cc)
 
 more_stand : (w : ℕ) (bytes : List (Option ℕ)) (beats : List ReplyBeat) (x : ReplyBeat)
     → length bytes ≡ length beats * 2 ^ w → length x.lanes ≡ 2 ^ w → Stand w bytes beats
-    → Stand w (bytes ++ seen_at x.head.denied x.known x.lanes 0 (length x.lanes)) (beats ++ x ∷ [])
+    → Stand w (bytes ++ seen_cells x.head.denied x.known x.lanes 0 (length x.lanes)) (beats ++ x ∷ [])
 more_stand w bytes beats x counted wide stand j given y at found = go (slice_get-push beats x y (j / 2 ^ w) found)
   where
     split : j / 2 ^ w * 2 ^ w + j % 2 ^ w ≡ j
@@ -39,8 +39,8 @@ more_stand w bytes beats x counted wide stand j given y at found = go (slice_get
     lane : j % 2 ^ w < 2 ^ w
     lane = mod_below j (2 ^ w) (pow_pos w)
 
-    whole : get_or (bytes ++ seen_at x.head.denied x.known x.lanes 0 (length x.lanes)) j None ≡ given
-    whole = get_or_from_slice_get (bytes ++ seen_at x.head.denied x.known x.lanes 0 (length x.lanes)) j given None at
+    whole : get_or (bytes ++ seen_cells x.head.denied x.known x.lanes 0 (length x.lanes)) j None ≡ given
+    whole = get_or_from_slice_get (bytes ++ seen_cells x.head.denied x.known x.lanes 0 (length x.lanes)) j given None at
 
     go : (slice_get beats (j / 2 ^ w) ≡ Some y) ⊎ ((j / 2 ^ w ≡ length beats) × (x ≡ y))
         → given ≡ seen_in y.head.denied y.known y.lanes (j % 2 ^ w)
@@ -52,18 +52,18 @@ more_stand w bytes beats x counted wide stand j given y at found = go (slice_get
         let more : (k + 1) * 2 ^ w ≡ k * 2 ^ w + 2 ^ w = search arith in
         let early : j < length bytes = omega (arith, counted, row, more, split, lane) in
         let same : get_or bytes j None ≡ given =
-        sym (get_or_append_left bytes (seen_at x.head.denied x.known x.lanes 0 (length x.lanes)) None j early)
+        sym (get_or_append_left bytes (seen_cells x.head.denied x.known x.lanes 0 (length x.lanes)) None j early)
         ∙ whole in
         stand j given y (slice_get-get_or bytes j None early ∙ ap (λ (g : Option ℕ). Some g) same) before
     go (inr last) =
         let i = j % 2 ^ w in
         let at_row : j / 2 ^ w * 2 ^ w ≡ length beats * 2 ^ w = ap (λ n. n * 2 ^ w) last.0 in
         let place : j ≡ length bytes + i = omega (arith, counted, at_row, split) in
-        let here : get_or (bytes ++ seen_at x.head.denied x.known x.lanes 0 (length x.lanes)) j None
-        ≡ get_or (seen_at x.head.denied x.known x.lanes 0 (length x.lanes)) i None =
-        ap (λ n. get_or (bytes ++ seen_at x.head.denied x.known x.lanes 0 (length x.lanes)) n None) place
-        ∙ get_or-append-add bytes (seen_at x.head.denied x.known x.lanes 0 (length x.lanes)) i None in
-        let is : get_or (seen_at x.head.denied x.known x.lanes 0 (length x.lanes)) i None ≡ seen_in x.head.denied x.known x.lanes (0 + i) =
+        let here : get_or (bytes ++ seen_cells x.head.denied x.known x.lanes 0 (length x.lanes)) j None
+        ≡ get_or (seen_cells x.head.denied x.known x.lanes 0 (length x.lanes)) i None =
+        ap (λ n. get_or (bytes ++ seen_cells x.head.denied x.known x.lanes 0 (length x.lanes)) n None) place
+        ∙ get_or-append-add bytes (seen_cells x.head.denied x.known x.lanes 0 (length x.lanes)) i None in
+        let is : get_or (seen_cells x.head.denied x.known x.lanes 0 (length x.lanes)) i None ≡ seen_in x.head.denied x.known x.lanes (0 + i) =
         seen_at-get x.head.denied x.known x.lanes 0 (length x.lanes) i (omega (arith, lane, wide)) in
         let none : 0 + i ≡ i = omega arith in
         sym whole ∙ here ∙ is ∙ ap (λ n. seen_in x.head.denied x.known x.lanes n) none
@@ -103,7 +103,7 @@ nothing_gathered w = record {
 
 first_gathered : (w : ℕ) (x : ReplyBeat) → FitsReply None x.head → length x.lanes ≡ 2 ^ w → ends_reply (2 ^ w) None x.head ≡ false
     → GatheredReply w
-    (Some (record { first = x.head; beats = 1; bytes = seen_at x.head.denied x.known x.lanes 0 (length x.lanes) }))
+    (Some (record { first = x.head; beats = 1; bytes = seen_cells x.head.denied x.known x.lanes 0 (length x.lanes) }))
     ([] ++ x ∷ [])
 first_gathered w x fits wide goes_on = record {
   kept = reply_kept_first w x.head x.known x.lanes fits wide goes_on;
@@ -133,7 +133,7 @@ pub next_gathered : (w : ℕ) (b : ReplyBegun) (beats : List ReplyBeat) (x : Rep
       first = b.first;
       beats = b.beats + 1;
       bytes =
-          b.bytes ++ seen_at x.head.denied x.known x.lanes 0 (length x.lanes);
+          b.bytes ++ seen_cells x.head.denied x.known x.lanes 0 (length x.lanes);
     })) (beats ++ x ∷ [])
 next_gathered w b beats x g fits wide goes_on =
     let some : reply_begun (Some b.first) b.beats b.bytes ≡ None → ⊥ = (λ e. absurd (cc)) in
@@ -143,7 +143,7 @@ next_gathered w b beats x g fits wide goes_on =
       kept = reply_kept_on w (Some b.first) b.beats b.bytes x.head x.known x.lanes g.kept fits some is goes_on;
       empty = λ e. absurd (cc);
       counted = counted;
-      filled = length-append b.bytes (seen_at x.head.denied x.known x.lanes 0 (length x.lanes))
+      filled = length-append b.bytes (seen_cells x.head.denied x.known x.lanes 0 (length x.lanes))
           ∙ ap (λ n. length b.bytes + n) (length-seen_at x.head.denied x.known x.lanes 0 (length x.lanes))
           ∙ is.total ∙ ap (λ n. n * 2 ^ w) (sym counted);
       each = λ k y at. any k y (slice_get-push beats x y k at);
@@ -205,13 +205,13 @@ stands_so denied known lanes lane place byte given is at =
     (subst (λ (b : Option ℕ). StandsAt known lanes place b) (sym here) (byte_stands known lanes place))
 
 carries_of : (bus : ℕ) (x : ReplyHead) → IsFormedReply x
-    → reply_beats bus x ≡ beat_count bus (reply_carries_bytes (reply_op_of_number x.opcode)) x.size
+    → reply_beats bus x ≡ beat_count_on_bus bus (reply_carries_bytes (reply_op_of_number x.opcode)) x.size
 carries_of bus x formed =
     let named : reply_op_of_number x.opcode ≡ formed.op = reply_op_named formed.op x.opcode formed.code in
-    ap (λ b. beat_count bus b x.size) (reply_carries_named formed.op x.opcode formed.code ∙ ap reply_carries_bytes (sym named))
+    ap (λ b. beat_count_on_bus bus b x.size) (reply_carries_named formed.op x.opcode formed.code ∙ ap reply_carries_bytes (sym named))
 
 one_spells : (w address : ℕ) (x : ReplyBeat) → FitsReply None x.head → reply_beats (2 ^ w) x.head ≡ 1
-    → SpellsReply (2 ^ w) (reply_of (2 ^ w) None address x.head x.known x.lanes) address ([] ++ x ∷ [])
+    → SpellsReplyOnBus (2 ^ w) (reply_of (2 ^ w) None address x.head x.known x.lanes) address ([] ++ x ∷ [])
 one_spells w address x fits alone = record {
   count = sym alone ∙ carries_of (2 ^ w) x.head fits.formed;
   each = λ b y at. only b y (slice_get-push [] x y b at);
@@ -235,7 +235,7 @@ one_spells w address x fits alone = record {
               let is : byte ≡ seen_in x.head.denied x.known x.lanes (first + j) =
               sym (get_or_from_slice_get (reply_part (2 ^ w) address x.head x.known x.lanes) j byte None at)
               ∙ seen_at-get x.head.denied x.known x.lanes first count j within in
-              stands_so x.head.denied x.known x.lanes (lane_of (2 ^ w) address x.head.size j) (first + j) byte plain is
+              stands_so x.head.denied x.known x.lanes (lane_on_bus (2 ^ w) address x.head.size j) (first + j) byte plain is
               (lane_in_window w address x.head.size j below);
         } in
         subst (λ (z : ReplyBeat). IsReplyBeatOf (2 ^ w) (reply_of (2 ^ w) None address x.head x.known x.lanes) address b z) last.1 here
@@ -243,7 +243,7 @@ one_spells w address x fits alone = record {
 long_spells : (w address : ℕ) (b : ReplyBegun) (beats : List ReplyBeat) (x : ReplyBeat)
     → GatheredReply w (Some b) beats → FitsReply (Some b.first) x.head → length x.lanes ≡ 2 ^ w
     → Returns w b.beats b.bytes x.head x.known x.lanes → b.beats + 1 ≡ reply_beats (2 ^ w) x.head
-    → SpellsReply (2 ^ w) (reply_of (2 ^ w) (Some b) address x.head x.known x.lanes) address (beats ++ x ∷ [])
+    → SpellsReplyOnBus (2 ^ w) (reply_of (2 ^ w) (Some b) address x.head x.known x.lanes) address (beats ++ x ∷ [])
 long_spells w address b beats x g fits wide is ends = record {
   count = omega (arith, length-append beats (x ∷ []), g.counted, ends) ∙ carries_of (2 ^ w) x.head fits.formed;
   each = λ k y found.
@@ -251,10 +251,10 @@ long_spells w address b beats x g fits wide is ends = record {
         fields = fields_of x.head y.head (b.bytes ++ reply_part (2 ^ w) address x.head x.known x.lanes) fits.formed there.1;
         corrupt = flag_of x.head y.head there.0 there.1;
         bytes = λ plain j byte at row.
-            let at_lanes : slice_get (b.bytes ++ seen_at x.head.denied x.known x.lanes 0 (length x.lanes)) j
+            let at_lanes : slice_get (b.bytes ++ seen_cells x.head.denied x.known x.lanes 0 (length x.lanes)) j
             ≡ Some byte = rw (is.part address) at in
             let in_row : slice_get (beats ++ x ∷ []) (j / 2 ^ w) ≡ Some y = rw row found in
-            stands_so y.head.denied y.known y.lanes (lane_of (2 ^ w) address x.head.size j) (j % 2 ^ w) byte plain
+            stands_so y.head.denied y.known y.lanes (lane_on_bus (2 ^ w) address x.head.size j) (j % 2 ^ w) byte plain
             (more_stand w b.bytes beats x g.filled wide g.stand j byte y at_lanes in_row)
             (lane_wide w address x.head.size j is.long_is.wide);
       };

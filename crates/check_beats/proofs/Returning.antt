@@ -7,9 +7,9 @@ use Rattle.std.proofs.lemmas.Nat.{mul-le}
 use Rattle.std.proofs.lemmas.List.Elements.{All-append}
 use Rattle.tl_types.specs.Operation.{reply_carries_bytes, reply_byte_count}
 use Rattle.check_beats.specs.Spelling.{IsLawfulPattern}
-use Rattle.check_beats.specs.Bus.{low, beat_count}
+use Rattle.check_beats.specs.Bus.{low, beat_count_on_bus}
 use Rattle.check_beats.specs.Form.{IsFormedReply, FitsReply, SameReplyFields}
-use Rattle.check_beats.specs.Message.{reply_op_of_number, seen_at, reply_part, reply_beats}
+use Rattle.check_beats.specs.Message.{reply_op_of_number, seen_cells, reply_part, reply_beats}
 use Rattle.check_beats.specs.State.{ReplyBegun, reply_begun, first_reply, replied_beats, replied_bytes, ends_reply, reply_after}
 use Rattle.check_beats.specs.Begun.{IsReplyBegun, IsReplyKept}
 use Rattle.check_beats.specs.declared.beat.ReplyHead.{ReplyHead}
@@ -20,7 +20,7 @@ use Rattle.check_beats.proofs.Going.{IsLong, long, few}
 -- a beat of a long reply carries the bytes at all lanes, whatever the address
 pub part_of_long_reply : (w address : ℕ) (beat : ReplyHead) (known : ℕ) (lanes : List ℕ) → length lanes ≡ 2 ^ w
     → IsFormedReply beat → IsLong w (beat.opcode == 1) beat.size
-    → seen_at beat.denied known lanes 0 (length lanes) ≡ reply_part (2 ^ w) address beat known lanes
+    → seen_cells beat.denied known lanes 0 (length lanes) ≡ reply_part (2 ^ w) address beat known lanes
 part_of_long_reply w address beat known lanes wide formed is =
     let op = reply_op_of_number beat.opcode in
     let carries : reply_carries_bytes op ≡ true =
@@ -30,8 +30,8 @@ part_of_long_reply w address beat known lanes wide formed is =
     let fits : 2 ^ w ≤ 2 ^ beat.size = pow-le-pow_right (lit≤ tt) is.wide in
     let count : length lanes ≡ min (2 ^ w) (reply_byte_count op beat.size) = omega (arith, wide, bytes, fits) in
     let first : 0 ≡ low address beat.size % 2 ^ w = sym (low-wide w address beat.size is.wide) in
-    ap (λ n. seen_at beat.denied known lanes 0 n) count
-    ∙ ap (λ n. seen_at beat.denied known lanes n (min (2 ^ w) (reply_byte_count op beat.size))) first
+    ap (λ n. seen_cells beat.denied known lanes 0 n) count
+    ∙ ap (λ n. seen_cells beat.denied known lanes n (min (2 ^ w) (reply_byte_count op beat.size))) first
 
 pub few_replied : (w : ℕ) (begun : Option ReplyBegun) → IsReplyKept (2 ^ w) begun → replied_beats begun ≤ 256
 few_replied w None kept = omega arith
@@ -47,7 +47,7 @@ first_reply_of (Some head) beats bytes = refl
 
 pub record Returns (w beats : ℕ) (bytes : List (Option ℕ)) (beat : ReplyHead) (known : ℕ) (lanes : List ℕ) : Type 0 where
   pub long_is : IsLong w (beat.opcode == 1) beat.size
-  pub part : (address : ℕ) → seen_at beat.denied known lanes 0 (length lanes) ≡ reply_part (2 ^ w) address beat known lanes
+  pub part : (address : ℕ) → seen_cells beat.denied known lanes 0 (length lanes) ≡ reply_part (2 ^ w) address beat known lanes
   pub within : beats + 1 ≤ reply_beats (2 ^ w) beat
   pub total : length bytes + length lanes ≡ (beats + 1) * 2 ^ w
   pub room : length bytes + length lanes ≤ 256
@@ -84,27 +84,27 @@ returns w (Some head) beats bytes beat known lanes kept fits wide some =
 
 more_clean : (w beats : ℕ) (bytes : List (Option ℕ)) (beat : ReplyHead) (known : ℕ) (lanes : List ℕ)
     → Returns w beats bytes beat known lanes
-    → IsTrue beat.denied → All (λ b. b ≡ Some 0) (bytes ++ seen_at beat.denied known lanes 0 (length lanes))
+    → IsTrue beat.denied → All (λ b. b ≡ Some 0) (bytes ++ seen_cells beat.denied known lanes 0 (length lanes))
 more_clean w beats bytes beat known lanes is denied =
-    All-append (λ (b : Option ℕ). b ≡ Some 0) bytes (seen_at beat.denied known lanes 0 (length lanes))
+    All-append (λ (b : Option ℕ). b ≡ Some 0) bytes (seen_cells beat.denied known lanes 0 (length lanes))
     (is.clean denied) (seen_clean beat.denied known lanes 0 (length lanes) denied)
 
 pub reply_kept_on : (w : ℕ) (first : Option ReplyHead) (beats : ℕ) (bytes : List (Option ℕ)) (beat : ReplyHead) (known : ℕ) (lanes : List ℕ)
     → IsReplyKept (2 ^ w) (reply_begun first beats bytes) → FitsReply (first_reply (reply_begun first beats bytes)) beat
     → (reply_begun first beats bytes ≡ None → ⊥) → Returns w beats bytes beat known lanes
     → ends_reply (2 ^ w) (reply_begun first beats bytes) beat ≡ false
-    → IsReplyKept (2 ^ w) (reply_begun first (beats + 1) (bytes ++ seen_at beat.denied known lanes 0 (length lanes)))
+    → IsReplyKept (2 ^ w) (reply_begun first (beats + 1) (bytes ++ seen_cells beat.denied known lanes 0 (length lanes)))
 reply_kept_on w None beats bytes beat known lanes kept fits some is goes_on = absurd (some refl)
 reply_kept_on w (Some head) beats bytes beat known lanes kept fits some is goes_on =
     let was = kept.of (record { first = head; beats = beats; bytes = bytes }) refl in
     let same : SameReplyFields head beat = fits.same head refl in
     let after : ReplyBegun =
-    record { first = head; beats = beats + 1; bytes = bytes ++ seen_at beat.denied known lanes 0 (length lanes) } in
+    record { first = head; beats = beats + 1; bytes = bytes ++ seen_cells beat.denied known lanes 0 (length lanes) } in
     let begun : IsReplyBegun (2 ^ w) after = record {
       formed = was.formed;
       some = omega arith;
       unfinished = omega (arith, is.within, same_count (2 ^ w) head beat same, eqb-false (beats + 1) (reply_beats (2 ^ w) beat) goes_on);
-      counted = length-append bytes (seen_at beat.denied known lanes 0 (length lanes))
+      counted = length-append bytes (seen_cells beat.denied known lanes 0 (length lanes))
           ∙ ap (λ n. length bytes + n) (length-seen_at beat.denied known lanes 0 (length lanes)) ∙ is.total;
       clean = λ denied. more_clean w beats bytes beat known lanes is (same.denied ∙ denied);
     } in
@@ -113,7 +113,7 @@ reply_kept_on w (Some head) beats bytes beat known lanes kept fits some is goes_
 pub reply_on_is : (w : ℕ) (first : Option ReplyHead) (beats : ℕ) (bytes : List (Option ℕ)) (beat : ReplyHead)
     (known : ℕ) (lanes : List ℕ) → length lanes ≡ 2 ^ w
     → (reply_begun first beats bytes ≡ None → ⊥) → ends_reply (2 ^ w) (reply_begun first beats bytes) beat ≡ false
-    → reply_begun first (beats + 1) (bytes ++ seen_at beat.denied known lanes 0 (length lanes))
+    → reply_begun first (beats + 1) (bytes ++ seen_cells beat.denied known lanes 0 (length lanes))
     ≡ reply_after (2 ^ w) (reply_begun first beats bytes) beat known lanes
 reply_on_is w None beats bytes beat known lanes wide some goes_on = absurd (some refl)
 reply_on_is w (Some head) beats bytes beat known lanes wide some goes_on = rw (goes_on, wide) refl
@@ -130,7 +130,7 @@ pub ended_reply_is_lawful : (w beats source : ℕ) (bytes : List (Option ℕ)) (
       size = beat.size;
       source = source;
       denied = Some beat.denied;
-      bytes = bytes ++ seen_at beat.denied known lanes 0 (length lanes);
+      bytes = bytes ++ seen_cells beat.denied known lanes 0 (length lanes);
     })
 ended_reply_is_lawful w beats source bytes beat known lanes formed is ends =
     let op = reply_op_of_number beat.opcode in
@@ -139,7 +139,7 @@ ended_reply_is_lawful w beats source bytes beat known lanes formed is ends =
     ∙ sym (reply_carries_named formed.op beat.opcode formed.code) ∙ is.long_is.carries_is in
     record {
       in_limit = formed.in_limit;
-      counted = length-append bytes (seen_at beat.denied known lanes 0 (length lanes))
+      counted = length-append bytes (seen_cells beat.denied known lanes 0 (length lanes))
           ∙ ap (λ n. length bytes + n) (length-seen_at beat.denied known lanes 0 (length lanes)) ∙ is.total
           ∙ ap (λ n. n * 2 ^ w) ends ∙ is.long_is.counted ∙ sym (ap (λ b. if b then 2 ^ beat.size else 0) carries);
       clean = λ denied. more_clean w beats bytes beat known lanes is (denied_if beat.denied denied);
@@ -164,15 +164,15 @@ one_reply_is_lawful w address beat known lanes formed alone = record {
 
 -- ---- the first beat of a long reply
 
-some_beat : (bus size : ℕ) (carries : Bool) → 0 < beat_count bus carries size
+some_beat : (bus size : ℕ) (carries : Bool) → 0 < beat_count_on_bus bus carries size
 some_beat bus size true = omega arith
 some_beat bus size false = omega arith
 
 pub reply_kept_first : (w : ℕ) (beat : ReplyHead) (known : ℕ) (lanes : List ℕ) → FitsReply None beat
     → length lanes ≡ 2 ^ w → ends_reply (2 ^ w) None beat ≡ false
-    → IsReplyKept (2 ^ w) (Some (record { first = beat; beats = 1; bytes = seen_at beat.denied known lanes 0 (length lanes) }))
+    → IsReplyKept (2 ^ w) (Some (record { first = beat; beats = 1; bytes = seen_cells beat.denied known lanes 0 (length lanes) }))
 reply_kept_first w beat known lanes fits wide goes_on =
-    let after : ReplyBegun = record { first = beat; beats = 1; bytes = seen_at beat.denied known lanes 0 (length lanes) } in
+    let after : ReplyBegun = record { first = beat; beats = 1; bytes = seen_cells beat.denied known lanes 0 (length lanes) } in
     let begun : IsReplyBegun (2 ^ w) after = record {
       formed = fits.formed;
       some = omega arith;
@@ -186,7 +186,7 @@ pub reply_first_is : (w : ℕ) (beat : ReplyHead) (known : ℕ) (lanes : List �
     → (goes_on : ends_reply (2 ^ w) None beat ≡ false)
     → ◌≡◌ {A =
     Option ReplyBegun}
-    (Some (record { first = beat; beats = 1; bytes = seen_at beat.denied known lanes 0 (length lanes) }))
+    (Some (record { first = beat; beats = 1; bytes = seen_cells beat.denied known lanes 0 (length lanes) }))
     (reply_after (2 ^ w) None beat known lanes)
 reply_first_is w beat known lanes wide goes_on = rw (goes_on, wide) refl
 

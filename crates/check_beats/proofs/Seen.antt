@@ -14,9 +14,9 @@ use Rattle.tl_types.specs.Wire.{reply_opcode_of}
 use Rattle.tl_types.specs.declared.operation.ReplyOp.{ReplyOp}
 use Rattle.tl_types.specs.declared.operation.ReplyOp.TheVariants.{AccessAck, AccessAckData, HintAck}
 use Rattle.check_cells.specs.Known.{known as known_of}
-use Rattle.check_beats.specs.Bus.{low, beat_count}
+use Rattle.check_beats.specs.Bus.{low, beat_count_on_bus}
 use Rattle.check_beats.specs.Form.{IsFormedReply}
-use Rattle.check_beats.specs.Message.{reply_op_of_number, byte_at, given_at, seen_at, reply_part, reply_beats}
+use Rattle.check_beats.specs.Message.{reply_op_of_number, byte_at, given_at, seen_cells, reply_part, reply_beats}
 use Rattle.check_beats.specs.declared.beat.ReplyHead.{ReplyHead}
 use Rattle.check_beats.proofs.Window.{small_count}
 use Rattle.check_beats.proofs.Given.{length-given_at, given_at-get}
@@ -38,7 +38,7 @@ pub reply_carries_named : (op : ReplyOp) (opcode : ℕ) → reply_opcode_of op �
 reply_carries_named op opcode code = rw (← code) (carries-code op)
 
 pub length-seen_at : (denied : Bool) (known : ℕ) (lanes : List ℕ) (first count : ℕ)
-    → length (seen_at denied known lanes first count) ≡ count
+    → length (seen_cells denied known lanes first count) ≡ count
 length-seen_at false known lanes first count = length-given_at known lanes first count
 length-seen_at true known lanes first count =
     length-map (replicate (length (given_at known lanes first count)) 0) (λ (byte : ℕ). Some byte)
@@ -49,7 +49,7 @@ abbrev pub seen_in : Bool → ℕ → List ℕ → ℕ → Option ℕ
 seen_in denied known lanes lane = if denied then Some 0 else byte_at known lanes lane
 
 pub seen_at-get : (denied : Bool) (known : ℕ) (lanes : List ℕ) (first count k : ℕ) → k < count
-    → get_or (seen_at denied known lanes first count) k None ≡ seen_in denied known lanes (first + k)
+    → get_or (seen_cells denied known lanes first count) k None ≡ seen_in denied known lanes (first + k)
 seen_at-get false known lanes first count k within = given_at-get known lanes first count k within
 seen_at-get true known lanes first count k within =
     let n = length (given_at known lanes first count) in
@@ -58,10 +58,10 @@ seen_at-get true known lanes first count k within =
     ∙ ap (λ (b : ℕ). Some b) (get_or-replicate n k 0 0 below)
 
 pub seen_clean : (denied : Bool) (known : ℕ) (lanes : List ℕ) (first count : ℕ) → IsTrue denied
-    → All (λ b. b ≡ Some 0) (seen_at denied known lanes first count)
+    → All (λ b. b ≡ Some 0) (seen_cells denied known lanes first count)
 seen_clean false known lanes first count denied = absurd (cc)
 seen_clean true known lanes first count denied =
-    All-from_get_or (λ b. b ≡ Some 0) (seen_at true known lanes first count) None (λ k within.
+    All-from_get_or (λ b. b ≡ Some 0) (seen_cells true known lanes first count) None (λ k within.
     seen_at-get true known lanes first count k (omega (arith, within, length-seen_at true known lanes first count)))
 
 -- lanes under a mask, as a list of bytes of which those are known whose bits are set
@@ -111,7 +111,7 @@ one_reply_is_counted w address beat known lanes formed alone =
     let carries : (beat.opcode == 1) ≡ reply_carries_bytes op = reply_carries_named formed.op beat.opcode formed.code
     ∙ ap reply_carries_bytes (sym named) in
     let fits : reply_byte_count op beat.size ≤ 2 ^ w =
-    small_count w beat.size (reply_carries_bytes op) (ap (λ b. beat_count (2 ^ w) b beat.size) (sym carries)
+    small_count w beat.size (reply_carries_bytes op) (ap (λ b. beat_count_on_bus (2 ^ w) b beat.size) (sym carries)
     ∙ alone) in
     length-seen_at beat.denied known lanes (low address beat.size % 2 ^ w)
     (min (2 ^ w) (reply_byte_count op beat.size)) ∙ omega (arith, fits)

@@ -12,13 +12,13 @@ use Rattle.tl_types.proofs.Lists.{slice_get-push}
 use Rattle.tl_types.specs.Operation.{carries_bytes, byte_count}
 use Rattle.tl_types.specs.Request.{Request, IsLawfulRequest}
 use Rattle.tl_types.specs.Wire.{opcode_of, param_of}
-use Rattle.check_beats.specs.Bus.{low, lane_of, beat_count, bus_log}
-use Rattle.check_beats.specs.Form.{IsFormed, FitsAsk, SameFields, IsLawfulMask}
+use Rattle.check_beats.specs.Bus.{low, lane_on_bus, beat_count_on_bus, bus_log}
+use Rattle.check_beats.specs.Form.{IsFormed, FitsAsk, SameFields, IsLawfulMaskOnBus}
 use Rattle.check_beats.specs.Message.{op_of, byte_at, given_at, ask_part, ask_beats}
 use Rattle.check_beats.specs.State.{AskBegun, ask_begun, first_ask, asked_beats, asked_bytes, ends_ask, ask_of, ask_after}
 use Rattle.check_beats.specs.Begun.{IsAskKept}
-use Rattle.check_beats.specs.Spelling.{AskBeat, StandsAt, HasFieldsOf, IsBeatOf, SpellsAsk}
-use Rattle.check_beats.specs.Laws.{asking, AreFitting, begun, ended, channel, IsSpelled, ChannelIsCutUp, AskIsSpelled}
+use Rattle.check_beats.specs.Spelling.{AskBeat, StandsAt, HasFieldsOf, IsBeatOf, SpellsAskOnBus}
+use Rattle.check_beats.specs.Laws.{asking, AreFitting, begun, ended_asks, channel, IsSpelled, ChannelIsCutUp, AskIsSpelled}
 use Rattle.check_beats.specs.declared.beat.AskHead.{AskHead}
 use Rattle.check_beats.proofs.Window.{lane_wide, lane_in_window, some_count}
 use Rattle.check_beats.proofs.Given.{op_named, carries_named, length-given_at, given_at-get, one_is_lawful}
@@ -191,7 +191,7 @@ fields_of bus x y bytes formed same =
       address = same.address;
     }
 
-mask_of : (bus : ℕ) (x y : AskHead) → IsFormed bus y → SameFields x y → IsLawfulMask bus (op_of x.opcode x.param) x.size x.address y.mask
+mask_of : (bus : ℕ) (x y : AskHead) → IsFormed bus y → SameFields x y → IsLawfulMaskOnBus bus (op_of x.opcode x.param) x.size x.address y.mask
 mask_of bus x y formed same =
     let named : op_of x.opcode x.param ≡ formed.op = rw (← same.opcode, ← same.param) (op_named formed.op y.opcode y.param formed.code) in
     rw (named, ← same.size, ← same.address) formed.mask
@@ -202,13 +202,13 @@ stands_so mask lanes lane place given is at =
     subst (λ (l : ℕ). StandsAt mask lanes l given) (sym at)
     (subst (λ (g : Option ℕ). StandsAt mask lanes place g) (sym is) (byte_stands mask lanes place))
 
-carries_of : (bus : ℕ) (x : AskHead) → IsFormed bus x → ask_beats bus x ≡ beat_count bus (carries_bytes (op_of x.opcode x.param)) x.size
+carries_of : (bus : ℕ) (x : AskHead) → IsFormed bus x → ask_beats bus x ≡ beat_count_on_bus bus (carries_bytes (op_of x.opcode x.param)) x.size
 carries_of bus x formed =
     let named : op_of x.opcode x.param ≡ formed.op = op_named formed.op x.opcode x.param formed.code in
-    ap (λ b. beat_count bus b x.size) (carries_named formed.op x.opcode x.param formed.code ∙ ap carries_bytes (sym named))
+    ap (λ b. beat_count_on_bus bus b x.size) (carries_named formed.op x.opcode x.param formed.code ∙ ap carries_bytes (sym named))
 
 one_spells : (w : ℕ) (x : AskBeat) → FitsAsk (2 ^ w) None x.head → ask_beats (2 ^ w) x.head ≡ 1
-    → SpellsAsk (2 ^ w) (ask_of (2 ^ w) None x.head x.lanes) ([] ++ x ∷ [])
+    → SpellsAskOnBus (2 ^ w) (ask_of (2 ^ w) None x.head x.lanes) ([] ++ x ∷ [])
 one_spells w x fits alone = record {
   count = sym alone ∙ carries_of (2 ^ w) x.head fits.formed;
   each = λ b y at. only b y (slice_get-push [] x y b at);
@@ -232,7 +232,7 @@ one_spells w x fits alone = record {
               let is : given ≡ byte_at x.head.mask x.lanes (first + j) =
               sym (get_or_from_slice_get (ask_part (2 ^ w) x.head x.lanes) j given None at)
               ∙ given_at-get x.head.mask x.lanes first count j within in
-              stands_so x.head.mask x.lanes (lane_of (2 ^ w) x.head.address x.head.size j) (first + j) given is
+              stands_so x.head.mask x.lanes (lane_on_bus (2 ^ w) x.head.address x.head.size j) (first + j) given is
               (lane_in_window w x.head.address x.head.size j below);
         } in
         subst (λ (z : AskBeat). IsBeatOf (2 ^ w) (ask_of (2 ^ w) None x.head x.lanes) b z) last.1 here
@@ -240,7 +240,7 @@ one_spells w x fits alone = record {
 long_spells : (w : ℕ) (b : AskBegun) (beats : List AskBeat) (x : AskBeat) → Gathered w (Some b) beats
     → FitsAsk (2 ^ w) (Some b.first) x.head → length x.lanes ≡ 2 ^ w
     → Goes w b.beats b.bytes x.head x.lanes → b.beats + 1 ≡ ask_beats (2 ^ w) x.head
-    → SpellsAsk (2 ^ w) (ask_of (2 ^ w) (Some b) x.head x.lanes) (beats ++ x ∷ [])
+    → SpellsAskOnBus (2 ^ w) (ask_of (2 ^ w) (Some b) x.head x.lanes) (beats ++ x ∷ [])
 long_spells w b beats x g fits wide is ends = record {
   count = omega (arith, length-append beats (x ∷ []), g.counted, ends) ∙ carries_of (2 ^ w) x.head fits.formed;
   each = λ k y found.
@@ -250,7 +250,7 @@ long_spells w b beats x g fits wide is ends = record {
         bytes = λ j given at row.
             let at_lanes : slice_get (b.bytes ++ given_at x.head.mask x.lanes 0 (length x.lanes)) j ≡ Some given = rw is.part at in
             let in_row : slice_get (beats ++ x ∷ []) (j / 2 ^ w) ≡ Some y = rw row found in
-            stands_so y.head.mask y.lanes (lane_of (2 ^ w) x.head.address x.head.size j) (j % 2 ^ w) given
+            stands_so y.head.mask y.lanes (lane_on_bus (2 ^ w) x.head.address x.head.size j) (j % 2 ^ w) given
             (more_stand w b.bytes beats x g.filled wide g.stand j given y at_lanes in_row)
             (lane_wide w x.head.address x.head.size j is.long_is.wide);
       };
@@ -292,18 +292,18 @@ all_more : {X : Type 0} (P : X → Type 0) (xs : List X) (x : X) → AllByRecurs
 all_more P [] x all last = (last, tt)
 all_more P (y ∷ xs) x all last = (all.0, all_more P xs x all.1 last)
 
-all_spelled : (w : ℕ) (past : List AskBeat) → AreFitting (2 ^ w) past → AllByRecursion (IsSpelled (2 ^ w)) (ended (2 ^ w) past)
+all_spelled : (w : ℕ) (past : List AskBeat) → AreFitting (2 ^ w) past → AllByRecursion (IsSpelled (2 ^ w)) (ended_asks (2 ^ w) past)
 all_spelled w [] fitting = tt
 all_spelled w (x ∷ past) fitting = go (all_spelled w past fitting.0) (ends_ask (2 ^ w) (asking (2 ^ w) past) x.head) refl
   where
-    go : AllByRecursion (IsSpelled (2 ^ w)) (ended (2 ^ w) past) → (ends : Bool) → ends_ask (2 ^ w) (asking (2 ^ w) past) x.head ≡ ends
+    go : AllByRecursion (IsSpelled (2 ^ w)) (ended_asks (2 ^ w) past) → (ends : Bool) → ends_ask (2 ^ w) (asking (2 ^ w) past) x.head ≡ ends
         → AllByRecursion (IsSpelled (2 ^ w))
-        (if ends then ended (2 ^ w) past ++ (
+        (if ends then ended_asks (2 ^ w) past ++ (
           ask_of (2 ^ w) (asking (2 ^ w) past) x.head x.lanes,
           begun (2 ^ w) past ++ x ∷ [],
-        ) ∷ [] else ended (2 ^ w) past)
+        ) ∷ [] else ended_asks (2 ^ w) past)
     go before true is =
-        all_more (IsSpelled (2 ^ w)) (ended (2 ^ w) past) (
+        all_more (IsSpelled (2 ^ w)) (ended_asks (2 ^ w) past) (
           ask_of (2 ^ w) (asking (2 ^ w) past) x.head x.lanes,
           begun (2 ^ w) past ++ x ∷ [],
         ) before
@@ -318,18 +318,18 @@ flat_more f [] x = append-nil (f x)
 flat_more f (y ∷ ys) x = ap (λ r. f y ++ r) (flat_more f ys x) ∙ sym (append_assoc (f y) (flat_map f ys) (f x))
 
 cut_more : (bus : ℕ) (past : List AskBeat) (x : AskBeat) (ends : Bool)
-    → channel past ≡ flat_map (λ (entry : Request × List AskBeat). entry.1) (ended bus past) ++ begun bus past
+    → channel past ≡ flat_map (λ (entry : Request × List AskBeat). entry.1) (ended_asks bus past) ++ begun bus past
     → channel past ++ x ∷ []
     ≡ flat_map (λ (entry : Request × List AskBeat). entry.1)
-    (if ends then ended bus past ++ (ask_of bus (asking bus past) x.head x.lanes, begun bus past ++ x ∷ []) ∷ [] else ended bus past)
+    (if ends then ended_asks bus past ++ (ask_of bus (asking bus past) x.head x.lanes, begun bus past ++ x ∷ []) ∷ [] else ended_asks bus past)
     ++ (if ends then [] else begun bus past ++ x ∷ [])
 cut_more bus past x true before =
     let f : Request × List AskBeat → List AskBeat = λ (entry : Request × List AskBeat). entry.1 in
-    ap (λ (c : List AskBeat). c ++ x ∷ []) before ∙ append_assoc (flat_map f (ended bus past)) (begun bus past) (x ∷ [])
-    ∙ sym (flat_more f (ended bus past) (ask_of bus (asking bus past) x.head x.lanes, begun bus past ++ x ∷ [])) ∙ sym (append-nil _)
+    ap (λ (c : List AskBeat). c ++ x ∷ []) before ∙ append_assoc (flat_map f (ended_asks bus past)) (begun bus past) (x ∷ [])
+    ∙ sym (flat_more f (ended_asks bus past) (ask_of bus (asking bus past) x.head x.lanes, begun bus past ++ x ∷ [])) ∙ sym (append-nil _)
 cut_more bus past x false before =
     let f : Request × List AskBeat → List AskBeat = λ (entry : Request × List AskBeat). entry.1 in
-    ap (λ (c : List AskBeat). c ++ x ∷ []) before ∙ append_assoc (flat_map f (ended bus past)) (begun bus past) (x ∷ [])
+    ap (λ (c : List AskBeat). c ++ x ∷ []) before ∙ append_assoc (flat_map f (ended_asks bus past)) (begun bus past) (x ∷ [])
 
 pub cut_up : ChannelIsCutUp
 cut_up bus [] = refl

@@ -3,7 +3,7 @@ use Rattle.std.proofs.Common.{◌≡◌, ◌∙◌, ℕ, suc, zero, ◌+◌, ◌
 use Rattle.std.proofs.Math.Nat.{mul-mod_left, mod-eq_of_lt, pow-le-pow_right, add-mod}
 use Rattle.std.proofs.lemmas.Bool.{cases_lt}
 use Rattle.std.proofs.lemmas.Nat.{pow_pos, pow-add, mod-pow-add, mul-le, div-add-mod', mod_below, shl-shr, div-mul-add}
-use Rattle.check_beats.specs.Bus.{low, lane_of, beat_count}
+use Rattle.check_beats.specs.Bus.{low, lane_on_bus, beat_count_on_bus}
 
 -- the rounded address is a multiple of the size
 low-multiple : (address size : ℕ) → low address size ≡ address / 2 ^ size * 2 ^ size
@@ -57,7 +57,7 @@ one_beat w size alone = go (cases_lt w size)
         let two : 2 ^ 1 ≤ 2 ^ more = pow-le-pow_right (lit≤ tt) one in
         absurd (omega (arith, alone, count, two))
 
-pub small_count : (w size : ℕ) (carries : Bool) → beat_count (2 ^ w) carries size ≡ 1 → (if carries then 2 ^ size else 0) ≤ 2 ^ w
+pub small_count : (w size : ℕ) (carries : Bool) → beat_count_on_bus (2 ^ w) carries size ≡ 1 → (if carries then 2 ^ size else 0) ≤ 2 ^ w
 small_count w size true alone = one_beat w size alone
 small_count w size false alone = omega arith
 
@@ -87,13 +87,13 @@ ones_from first count some fits =
     one_less (suc a) b some = search arith
 
 -- where byte j stands
-pub lane_wide : (w address size j : ℕ) → w ≤ size → lane_of (2 ^ w) address size j ≡ j % 2 ^ w
+pub lane_wide : (w address size j : ℕ) → w ≤ size → lane_on_bus (2 ^ w) address size j ≡ j % 2 ^ w
 lane_wide w address size j wide =
     let none : low address size % 2 ^ w ≡ 0 = low-wide w address size wide in
     add-mod (low address size) j (2 ^ w) ∙ ap (λ n. (n + j % 2 ^ w) % 2 ^ w) none
     ∙ mod-eq_of_lt (omega (arith, mod_below j (2 ^ w) (pow_pos w))) ∙ omega arith
 
-pub lane_in_window : (w address size k : ℕ) → k < min (2 ^ w) (2 ^ size) → lane_of (2 ^ w) address size k ≡ low address size % 2 ^ w + k
+pub lane_in_window : (w address size k : ℕ) → k < min (2 ^ w) (2 ^ size) → lane_on_bus (2 ^ w) address size k ≡ low address size % 2 ^ w + k
 lane_in_window w address size k within =
     let small : k < 2 ^ w = omega (arith, within) in
     let fits : low address size % 2 ^ w + k < 2 ^ w = omega (arith, within, window_fits w address size) in

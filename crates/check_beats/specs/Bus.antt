@@ -23,12 +23,12 @@ abbrev pub low : ℕ → ℕ → ℕ
 low address size = address - address % 2 ^ size
 
 -- the lane at which byte j of a message stands, in beat j / bus
-abbrev pub lane_of : ℕ → ℕ → ℕ → ℕ → ℕ
-lane_of bus address size j = (low address size + j) % bus
+abbrev pub lane_on_bus : ℕ → ℕ → ℕ → ℕ → ℕ
+lane_on_bus bus address size j = (low address size + j) % bus
 
 -- how many beats a message has: one if it carries no bytes, whatever its size
-abbrev pub beat_count : ℕ → Bool → ℕ → ℕ
-beat_count bus carries size = if carries then max 1 (2 ^ size / bus) else 1
+abbrev pub beat_count_on_bus : ℕ → Bool → ℕ → ℕ
+beat_count_on_bus bus carries size = if carries then max 1 (2 ^ size / bus) else 1
 
 -- a lane is active: all are in a message that fills the bus, else as many as it has bytes, from that of the rounded
 -- address upward
@@ -37,6 +37,6 @@ pub record IsActive (bus address size lane : ℕ) : Type 0 where
   pub below : lane < low address size % bus + min bus (2 ^ size)
 
 -- the mask of the active lanes
-abbrev pub active_mask : ℕ → ℕ → ℕ → ℕ
-active_mask bus address size =
+abbrev pub active_mask_on_bus : ℕ → ℕ → ℕ → ℕ
+active_mask_on_bus bus address size =
     let first = low address size % bus in 2 ^ (first + min bus (2 ^ size)) - 2 ^ first

@@ -8,7 +8,7 @@ use Rattle.tl_types.specs.Wire.{IsCodeOf, reply_opcode_of}
 use Rattle.tl_types.specs.declared.operation.AskOp.{AskOp}
 use Rattle.tl_types.specs.declared.operation.ReplyOp.{ReplyOp}
 use Rattle.tl_types.specs.declared.limits.TheConstants.{MAX_SIZE}
-use Rattle.check_beats.specs.Bus.{active_mask}
+use Rattle.check_beats.specs.Bus.{active_mask_on_bus}
 use Rattle.check_beats.specs.declared.beat.AskHead.{AskHead}
 use Rattle.check_beats.specs.declared.beat.ReplyHead.{ReplyHead}
 use Rattle.check_beats.specs.declared.fault.FormFault.{FormFault}
@@ -21,9 +21,9 @@ Continues {B} Same begun beat = (first : B) → begun ≡ Some first → Same fi
 -- ---- requests
 
 -- a mask is lawful if it sets just the active lanes, or some of them if bytes may be left unset
-pub record IsLawfulMask (bus : ℕ) (op : AskOp) (size address mask : ℕ) : Type 0 where
-  pub whole : may_leave_unset op ≡ false → mask ≡ active_mask bus address size
-  pub part : may_leave_unset op ≡ true → bit_and mask (active_mask bus address size) ≡ mask
+pub record IsLawfulMaskOnBus (bus : ℕ) (op : AskOp) (size address mask : ℕ) : Type 0 where
+  pub whole : may_leave_unset op ≡ false → mask ≡ active_mask_on_bus bus address size
+  pub part : may_leave_unset op ≡ true → bit_and mask (active_mask_on_bus bus address size) ≡ mask
 
 -- two beats of requests have the same shared fields
 pub record SameFields (first beat : AskHead) : Type 0 where
@@ -39,7 +39,7 @@ pub record IsFormed (bus : ℕ) (beat : AskHead) : Type 0 where
   pub op : AskOp
   pub code : IsCodeOf op beat.opcode beat.param
   pub in_limit : beat.size ≤ MAX_SIZE
-  pub mask : IsLawfulMask bus op beat.size beat.address beat.mask
+  pub mask : IsLawfulMaskOnBus bus op beat.size beat.address beat.mask
 
 -- the beat is lawful alone, and is one of the request that is under way, if one is
 pub record FitsAsk (bus : ℕ) (begun : Option AskHead) (beat : AskHead) : Type 0 where
@@ -56,7 +56,7 @@ HasAskFormFault bus begun beat known Changed = Continues SameFields begun beat �
 HasAskFormFault bus begun beat known Opcode = (op : AskOp) → IsCodeOf op beat.opcode beat.param → ⊥
 HasAskFormFault bus begun beat known Size = MAX_SIZE < beat.size
 HasAskFormFault bus begun beat known Mask =
-    (op : AskOp) × IsCodeOf op beat.opcode beat.param × (IsLawfulMask bus op beat.size beat.address beat.mask → ⊥)
+    (op : AskOp) × IsCodeOf op beat.opcode beat.param × (IsLawfulMaskOnBus bus op beat.size beat.address beat.mask → ⊥)
 HasAskFormFault bus begun beat known CorruptFlag = ⊥
 HasAskFormFault bus begun beat known UnknownData = (beat.opcode < 4) × (bit_and beat.mask known ≢ beat.mask)
 
@@ -90,7 +90,7 @@ pub record FitsReply (begun : Option ReplyHead) (beat : ReplyHead) : Type 0 wher
 abbrev pub IsKnownReply : ℕ → ℕ → ReplyHead → ℕ → Type 0
 IsKnownReply bus address beat known =
     beat.opcode ≡ 1 → beat.denied ≡ false
-    → bit_and (active_mask bus address beat.size) known ≡ active_mask bus address beat.size
+    → bit_and (active_mask_on_bus bus address beat.size) known ≡ active_mask_on_bus bus address beat.size
 
 -- the beat has this fault as one of a reply; which of its lanes carry a byte is said by the request that it answers, and
 -- so not here

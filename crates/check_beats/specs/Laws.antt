@@ -9,7 +9,7 @@ use Rattle.check_cells.specs.Pattern.{Pattern}
 use Rattle.check_beats.specs.Bus.{bus_bytes}
 use Rattle.check_beats.specs.Form.{IsFormed, IsKnown, IsKnownReply, FitsAsk, FitsReply}
 use Rattle.check_beats.specs.Message.{reply_part}
-use Rattle.check_beats.specs.Spelling.{AskBeat, SpellsAsk, ReplyBeat, SpellsReply, IsLawfulPattern}
+use Rattle.check_beats.specs.Spelling.{AskBeat, SpellsAskOnBus, ReplyBeat, SpellsReplyOnBus, IsLawfulPattern}
 use Rattle.check_beats.specs.State.{AskBegun, first_ask, ends_ask, ask_of, ask_after, ReplyBegun, first_reply, ends_reply, reply_of, reply_after}
 use Rattle.check_beats.specs.declared.beat.AskHead.{AskHead}
 use Rattle.check_beats.specs.declared.beat.ReplyHead.{ReplyHead}
@@ -34,12 +34,12 @@ begun bus [] = []
 begun bus (beat ∷ past) = if ends_ask bus (asking bus past) beat.head then [] else begun bus past ++ beat ∷ []
 
 -- the requests that have ended, each with its beats, the earliest first
-abbrev pub ended : ℕ → List AskBeat → List (Request × List AskBeat)
-ended bus [] = []
-ended bus (beat ∷ past) =
+abbrev pub ended_asks : ℕ → List AskBeat → List (Request × List AskBeat)
+ended_asks bus [] = []
+ended_asks bus (beat ∷ past) =
     if ends_ask bus (asking bus past) beat.head
-    then ended bus past ++ (ask_of bus (asking bus past) beat.head beat.lanes, begun bus past ++ beat ∷ []) ∷ []
-    else ended bus past
+    then ended_asks bus past ++ (ask_of bus (asking bus past) beat.head beat.lanes, begun bus past ++ beat ∷ []) ∷ []
+    else ended_asks bus past
 
 -- the beats, the earliest first
 abbrev pub channel : List AskBeat → List AskBeat
@@ -48,19 +48,19 @@ channel (beat ∷ past) = channel past ++ beat ∷ []
 
 -- the beats spell the request, which is lawful
 abbrev pub IsSpelled : ℕ → Request × List AskBeat → Type 0
-IsSpelled bus entry = IsLawfulRequest entry.0.op entry.0.size entry.0.bytes × SpellsAsk bus entry.0 entry.1
+IsSpelled bus entry = IsLawfulRequest entry.0.op entry.0.size entry.0.bytes × SpellsAskOnBus bus entry.0 entry.1
 
 -- the beats of channel A are those of requests, one after the other, and those of the request that is under way
 abbrev pub ChannelIsCutUp : Type 0
 ChannelIsCutUp =
     (bus : ℕ) (past : List AskBeat)
-    → channel past ≡ flat_map (λ (entry : Request × List AskBeat). entry.1) (ended bus past) ++ begun bus past
+    → channel past ≡ flat_map (λ (entry : Request × List AskBeat). entry.1) (ended_asks bus past) ++ begun bus past
 
 -- each request that has ended is spelled by its beats
 abbrev pub AskIsSpelled : Type 0
 AskIsSpelled =
     (bus : Bus) (past : List AskBeat) → AreFitting (bus_bytes bus) past
-    → AllByRecursion (IsSpelled (bus_bytes bus)) (ended (bus_bytes bus) past)
+    → AllByRecursion (IsSpelled (bus_bytes bus)) (ended_asks (bus_bytes bus) past)
 
 -- there are beats that complete these to those of a lawful request
 abbrev pub CanEnd : ℕ → List AskBeat → Type 0
@@ -105,7 +105,7 @@ ended_replies bus (beat ∷ past) =
 -- whatever the address of the request, the beats spell the reply, which is lawful
 abbrev pub IsReplySpelled : ℕ → (ℕ → Pattern) × List ReplyBeat → Type 0
 IsReplySpelled bus entry =
-    (address : ℕ) → IsLawfulPattern (entry.0 address) × SpellsReply bus (entry.0 address) address entry.1
+    (address : ℕ) → IsLawfulPattern (entry.0 address) × SpellsReplyOnBus bus (entry.0 address) address entry.1
 
 -- each reply that has ended is spelled by its beats
 abbrev pub ReplyIsSpelled : Type 0

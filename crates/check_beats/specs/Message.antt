@@ -14,17 +14,17 @@ use Rattle.tl_types.specs.declared.operation.AskOp.TheVariants.{PutFull, PutPart
 use Rattle.tl_types.specs.declared.operation.ReplyOp.{ReplyOp}
 use Rattle.tl_types.specs.declared.operation.ReplyOp.TheVariants.{AccessAck, AccessAckData, HintAck}
 use Rattle.check_cells.specs.Pattern.{captured_bytes}
-use Rattle.check_beats.specs.Bus.{low, beat_count}
+use Rattle.check_beats.specs.Bus.{low, beat_count_on_bus}
 use Rattle.check_beats.specs.declared.beat.AskHead.{AskHead}
 use Rattle.check_beats.specs.declared.beat.ReplyHead.{ReplyHead}
 
 -- how many beats the request has: opcodes 0 to 3 carry bytes
 abbrev pub ask_beats : ℕ → AskHead → ℕ
-ask_beats bus beat = beat_count bus (nat_lt beat.opcode 4) beat.size
+ask_beats bus beat = beat_count_on_bus bus (nat_lt beat.opcode 4) beat.size
 
 -- how many beats the reply has: AccessAckData, 1, carries bytes
 abbrev pub reply_beats : ℕ → ReplyHead → ℕ
-reply_beats bus beat = beat_count bus (beat.opcode == 1) beat.size
+reply_beats bus beat = beat_count_on_bus bus (beat.opcode == 1) beat.size
 
 abbrev pub arith_of : ℕ → Arith
 arith_of param =
@@ -63,11 +63,11 @@ ask_part bus beat lanes =
 
 -- what is seen of the bytes at so many lanes from one on, by the bits of `known`: those of a denied reply are not looked
 -- at, and are zeros
-abbrev pub seen_at : Bool → ℕ → List ℕ → ℕ → ℕ → List (Option ℕ)
-seen_at denied known lanes first count = captured_bytes denied (given_at known lanes first count)
+abbrev pub seen_cells : Bool → ℕ → List ℕ → ℕ → ℕ → List (Option ℕ)
+seen_cells denied known lanes first count = captured_bytes denied (given_at known lanes first count)
 
 -- the bytes of a reply to a request at the address that a beat carries
 abbrev pub reply_part : ℕ → ℕ → ReplyHead → ℕ → List ℕ → List (Option ℕ)
 reply_part bus address beat known lanes =
-    seen_at beat.denied known lanes (low address beat.size % bus)
+    seen_cells beat.denied known lanes (low address beat.size % bus)
     (min bus (reply_byte_count (reply_op_of_number beat.opcode) beat.size))

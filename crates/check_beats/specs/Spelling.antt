@@ -6,8 +6,8 @@ use Rattle.tl_types.specs.Wire.{opcode_of, param_of, reply_opcode_of}
 use Rattle.tl_types.specs.Request.{Request}
 use Rattle.tl_types.specs.declared.limits.TheConstants.{MAX_SIZE}
 use Rattle.check_cells.specs.Pattern.{Pattern}
-use Rattle.check_beats.specs.Bus.{lane_of, beat_count}
-use Rattle.check_beats.specs.Form.{IsLawfulMask, IsLawfulFlag}
+use Rattle.check_beats.specs.Bus.{lane_on_bus, beat_count_on_bus}
+use Rattle.check_beats.specs.Form.{IsLawfulMaskOnBus, IsLawfulFlag}
 use Rattle.check_beats.specs.declared.beat.AskHead.{AskHead}
 use Rattle.check_beats.specs.declared.beat.ReplyHead.{ReplyHead}
 
@@ -32,13 +32,13 @@ pub record HasFieldsOf (ask : Request) (beat : AskHead) : Type 0 where
 -- a beat is number b of a request
 pub record IsBeatOf (bus : ℕ) (ask : Request) (b : ℕ) (beat : AskBeat) : Type 0 where
   pub fields : HasFieldsOf ask beat.head
-  pub mask : IsLawfulMask bus ask.op ask.size ask.address beat.head.mask
+  pub mask : IsLawfulMaskOnBus bus ask.op ask.size ask.address beat.head.mask
   pub bytes : (j : ℕ) (given : Option ℕ) → slice_get ask.bytes j ≡ Some given → j / bus ≡ b
-      → StandsAt beat.head.mask beat.lanes (lane_of bus ask.address ask.size j) given
+      → StandsAt beat.head.mask beat.lanes (lane_on_bus bus ask.address ask.size j) given
 
 -- the beats spell the request
-pub record SpellsAsk (bus : ℕ) (ask : Request) (beats : List AskBeat) : Type 0 where
-  pub count : length beats ≡ beat_count bus (carries_bytes ask.op) ask.size
+pub record SpellsAskOnBus (bus : ℕ) (ask : Request) (beats : List AskBeat) : Type 0 where
+  pub count : length beats ≡ beat_count_on_bus bus (carries_bytes ask.op) ask.size
   pub each : (b : ℕ) (beat : AskBeat) → slice_get beats b ≡ Some beat → IsBeatOf bus ask b beat
 
 -- ---- replies
@@ -62,11 +62,11 @@ pub record IsReplyBeatOf (bus : ℕ) (reply : Pattern) (address b : ℕ) (beat :
   pub fields : HasReplyFieldsOf reply beat.head
   pub corrupt : IsLawfulFlag reply.op beat.head.denied beat.head.corrupt
   pub bytes : beat.head.denied ≡ false → (j : ℕ) (byte : Option ℕ) → slice_get reply.bytes j ≡ Some byte → j / bus ≡ b
-      → StandsAt beat.known beat.lanes (lane_of bus address reply.size j) byte
+      → StandsAt beat.known beat.lanes (lane_on_bus bus address reply.size j) byte
 
 -- the beats spell the reply to a request at the address
-pub record SpellsReply (bus : ℕ) (reply : Pattern) (address : ℕ) (beats : List ReplyBeat) : Type 0 where
-  pub count : length beats ≡ beat_count bus (reply_carries_bytes reply.op) reply.size
+pub record SpellsReplyOnBus (bus : ℕ) (reply : Pattern) (address : ℕ) (beats : List ReplyBeat) : Type 0 where
+  pub count : length beats ≡ beat_count_on_bus bus (reply_carries_bytes reply.op) reply.size
   pub each : (b : ℕ) (beat : ReplyBeat) → slice_get beats b ≡ Some beat → IsReplyBeatOf bus reply address b beat
 
 -- the rule of replies, of one that may be known in part: as many bytes as the opcode carries, all of them zero if it is

@@ -4,7 +4,7 @@
 use Rattle.std.specs.Prelude.{ℕ, ◌+◌, Bool, if◌then◌else◌, ◌==◌, List, [], ◌++◌, Option, Some, None, unwrap_or}
 use Rattle.tl_types.specs.Request.{Request}
 use Rattle.check_cells.specs.Pattern.{Pattern}
-use Rattle.check_beats.specs.Message.{ask_beats, reply_beats, op_of, reply_op_of_number, ask_part, reply_part, seen_at}
+use Rattle.check_beats.specs.Message.{ask_beats, reply_beats, op_of, reply_op_of_number, ask_part, reply_part, seen_cells}
 use Rattle.check_beats.specs.declared.beat.AskHead.{AskHead}
 use Rattle.check_beats.specs.declared.beat.ReplyHead.{ReplyHead}
 
@@ -111,7 +111,7 @@ reply_after bus begun beat known lanes =
     else Some (record {
       first = unwrap_or (first_reply begun) beat;
       beats = replied_beats begun + 1;
-      bytes = replied_bytes begun ++ seen_at beat.denied known lanes 0 bus;
+      bytes = replied_bytes begun ++ seen_cells beat.denied known lanes 0 bus;
     })
 
 -- ---- both channels

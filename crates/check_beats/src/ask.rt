@@ -1,13 +1,13 @@
 //! Beats of channel A.
 ghost use Rattle.std.specs.Prelude.{◌≡◌, ◌≤◌, ◌↔◌, ℕ, None, Some, length, IsTrue, IfSome, IfNone};
 ghost use Rattle.tl_types.specs.Wire.{IsCodeOf};
-ghost use Rattle.check_beats.specs.Bus.{bus_bytes, active_mask};
-ghost use Rattle.check_beats.specs.Form.{IsLawfulMask, SameFields, Continues, IsKnown, IsFormed, FitsAsk, IsFirstAskFormFault};
+ghost use Rattle.check_beats.specs.Bus.{bus_bytes, active_mask_on_bus};
+ghost use Rattle.check_beats.specs.Form.{IsLawfulMaskOnBus, SameFields, Continues, IsKnown, IsFormed, FitsAsk, IsFirstAskFormFault};
 ghost use Rattle.check_beats.specs.Message.{ask_beats, op_of};
 ghost use Rattle.check_beats.specs.State.{ask_of};
 
 use crate::beat::AskHead;
-use crate::bus::{Bus, active_mask, beat_count, first_lane};
+use crate::bus::{Bus, active_mask_on_bus, beat_count_on_bus, first_lane};
 use crate::fault::FormFault;
 use crate::lanes::push_lanes;
 use tl_types::{Ask, AskOp, Bytes, MAX_BYTES, MAX_SIZE, read_op};
@@ -25,8 +25,8 @@ pub fn same_fields(first: &AskHead, beat: &AskHead) -> bool
 
 /// Whether a mask sets just the active lanes, or some of them if bytes may be left unset.
 fn sets_active(mask: u64, op: AskOp, active: u64) -> bool
-    ensures { (bus size address : ℕ) → active ≡ active_mask bus address size
-        → (IsTrue result ↔ IsLawfulMask bus op size address mask) }
+    ensures { (bus size address : ℕ) → active ≡ active_mask_on_bus bus address size
+        → (IsTrue result ↔ IsLawfulMaskOnBus bus op size address mask) }
 {
     if op.may_leave_unset() {
         mask & active == mask
@@ -38,9 +38,9 @@ fn sets_active(mask: u64, op: AskOp, active: u64) -> bool
 /// Whether a mask is lawful.
 pub fn is_lawful_mask(bus: Bus, mask: u64, op: AskOp, size: u8, address: u64) -> bool
     requires { size ≤ MAX_SIZE }
-    ensures { IsTrue result ↔ IsLawfulMask (bus_bytes bus) op size address mask }
+    ensures { IsTrue result ↔ IsLawfulMaskOnBus (bus_bytes bus) op size address mask }
 {
-    sets_active(mask, op, active_mask(bus, address, size))
+    sets_active(mask, op, active_mask_on_bus(bus, address, size))
 }
 
 /// Whether a beat has the fields of the message that is under way, if one is.
@@ -91,7 +91,7 @@ pub fn ask_beats(bus: Bus, beat: &AskHead) -> usize
     ensures value { result ≡ ask_beats (bus_bytes bus) beat.now }
     ensures in_limit { result ≤ MAX_BYTES }
 {
-    beat_count(bus, beat.opcode < 4, beat.size)
+    beat_count_on_bus(bus, beat.opcode < 4, beat.size)
 }
 
 /// The operation of a beat that is lawful alone.
@@ -126,7 +126,7 @@ fn put_whole(bus: Bus, op: AskOp, beat: &AskHead, lanes: &[u8], ask: &mut Ask)
     requires op { op ≡ op_of beat.now.opcode beat.now.param }
     requires alone { ask_beats (bus_bytes bus) beat.now ≡ 1 }
     requires lanes { length lanes.now ≡ bus_bytes bus }
-    requires set { beat.now.mask ≡ active_mask (bus_bytes bus) beat.now.address beat.now.size }
+    requires set { beat.now.mask ≡ active_mask_on_bus (bus_bytes bus) beat.now.address beat.now.size }
     ensures { ask.new ≡ ask_of (bus_bytes bus) None beat.now lanes.now }
 {
     let first = first_lane(bus, beat.address, beat.size);
@@ -143,7 +143,7 @@ pub fn put_ask(bus: Bus, beat: &AskHead, lanes: &[u8], ask: &mut Ask)
     ensures { ask.new ≡ ask_of (bus_bytes bus) None beat.now lanes.now }
 {
     let op = op_of(bus, beat);
-    if beat.mask == active_mask(bus, beat.address, beat.size) {
+    if beat.mask == active_mask_on_bus(bus, beat.address, beat.size) {
         put_whole(bus, op, beat, lanes, ask);
     } else {
         put_part(bus, op, beat, lanes, ask);

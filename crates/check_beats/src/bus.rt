@@ -1,6 +1,6 @@
 //! The bus of a link, and where the bytes of a message stand on it.
 ghost use Rattle.std.specs.Prelude.{◌≡◌, ◌+◌, ◌%◌, ◌^◌, ◌<◌, ◌≤◌, min};
-ghost use Rattle.check_beats.specs.Bus.{bus_log, bus_bytes, low, beat_count, active_mask};
+ghost use Rattle.check_beats.specs.Bus.{bus_log, bus_bytes, low, beat_count_on_bus, active_mask_on_bus};
 
 use tl_types::{MAX_BYTES, MAX_SIZE, width};
 
@@ -48,9 +48,9 @@ impl Bus {
 }
 
 /// How many beats a message has.
-pub fn beat_count(bus: Bus, carries: bool, size: u8) -> usize
+pub fn beat_count_on_bus(bus: Bus, carries: bool, size: u8) -> usize
     requires { size ≤ MAX_SIZE }
-    ensures value { result ≡ beat_count (bus_bytes bus) carries size }
+    ensures value { result ≡ beat_count_on_bus (bus_bytes bus) carries size }
     ensures in_limit { result ≤ MAX_BYTES }
 {
     if carries {
@@ -71,9 +71,9 @@ pub fn first_lane(bus: Bus, address: u64, size: u8) -> usize
 }
 
 /// The mask of the active lanes.
-pub fn active_mask(bus: Bus, address: u64, size: u8) -> u64
+pub fn active_mask_on_bus(bus: Bus, address: u64, size: u8) -> u64
     requires { size ≤ MAX_SIZE }
-    ensures { result ≡ active_mask (bus_bytes bus) address size }
+    ensures { result ≡ active_mask_on_bus (bus_bytes bus) address size }
 {
     let first = first_lane(bus, address, size);
     let count = bus.bytes().min(width(size));

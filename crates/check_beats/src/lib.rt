@@ -26,6 +26,6 @@ mod replying;
 mod under_way;
 
 pub use beat::{AskHead, ReplyHead};
-pub use bus::{Bus, MAX_LANES};
+pub use bus::{Bus, MAX_LANES, beat_count_on_bus};
 pub use fault::FormFault;
 pub use under_way::UnderWay;

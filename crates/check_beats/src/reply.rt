@@ -3,11 +3,11 @@ ghost use Rattle.std.specs.Prelude.{◌≡◌, ◌+◌, ◌*◌, ◌/◌, ◌%�
 ghost use Rattle.tl_types.specs.Wire.{reply_opcode_of};
 ghost use Rattle.check_beats.specs.Bus.{bus_bytes};
 ghost use Rattle.check_beats.specs.Form.{IsLawfulFlag, SameReplyFields, Continues, IsFormedReply, FitsReply, IsFirstReplyFormFault, IsKnownReply};
-ghost use Rattle.check_beats.specs.Message.{reply_beats, reply_op_of_number, seen_at};
+ghost use Rattle.check_beats.specs.Message.{reply_beats, reply_op_of_number, seen_cells};
 ghost use Rattle.check_beats.specs.State.{reply_of};
 
 use crate::beat::ReplyHead;
-use crate::bus::{Bus, MAX_LANES, active_mask, beat_count, first_lane};
+use crate::bus::{Bus, MAX_LANES, active_mask_on_bus, beat_count_on_bus, first_lane};
 use crate::fault::FormFault;
 use check_cells::{Cells, Pattern};
 use tl_types::{MAX_BYTES, MAX_SIZE, ReplyOp, read_reply_op};
@@ -94,11 +94,11 @@ pub fn reply_beats(bus: Bus, beat: &ReplyHead) -> usize
     ensures value { result ≡ reply_beats (bus_bytes bus) beat.now }
     ensures in_limit { result ≤ MAX_BYTES }
 {
-    beat_count(bus, beat.opcode == 1, beat.size)
+    beat_count_on_bus(bus, beat.opcode == 1, beat.size)
 }
 
 /// The opcode of a beat that is lawful alone.
-pub fn reply_op_of(beat: &ReplyHead) -> ReplyOp
+pub fn lawful_reply_op(beat: &ReplyHead) -> ReplyOp
     requires { IsFormedReply beat.now }
     ensures value { result ≡ reply_op_of_number beat.now.opcode }
     ensures code { reply_opcode_of result ≡ beat.now.opcode }
@@ -114,7 +114,7 @@ pub fn is_known_reply(bus: Bus, address: u64, beat: &ReplyHead, known: u64) -> b
     if beat.opcode != 1 || beat.denied {
         return true;
     }
-    let active = active_mask(bus, address, beat.size);
+    let active = active_mask_on_bus(bus, address, beat.size);
     active & known == active
 }
 
@@ -129,7 +129,7 @@ pub fn put_seen(
 )
     requires inside { first + count ≤ length lanes.now }
     requires in_limit { length lanes.now ≤ MAX_LANES }
-    ensures { cells.new ≡ seen_at denied known lanes.now first count }
+    ensures { cells.new ≡ seen_cells denied known lanes.now first count }
 {
     if denied {
         cells.fill(true, count);
@@ -142,7 +142,7 @@ pub fn put_seen(
 pub fn push_seen(cells: &mut Cells, denied: bool, known: u64, lanes: &[u8])
     requires in_limit { length lanes.now ≤ MAX_LANES }
     requires room { length cells.old + length lanes.now ≤ MAX_BYTES }
-    ensures { cells.new ≡ cells.old ++ seen_at denied known lanes.now 0 (length lanes.now) }
+    ensures { cells.new ≡ cells.old ++ seen_cells denied known lanes.now 0 (length lanes.now) }
 {
     if denied {
         cells.append(&ZEROS[..lanes.len()], u64::MAX);
@@ -165,7 +165,7 @@ pub fn put_reply(
     requires lanes { length lanes.now ≡ bus_bytes bus }
     ensures { reply.new ≡ reply_of (bus_bytes bus) None address beat.now known lanes.now }
 {
-    let op = reply_op_of(beat);
+    let op = lawful_reply_op(beat);
     let first = first_lane(bus, address, beat.size);
     let count = bus.bytes().min(op.byte_count(beat.size));
     reply.set_fields(op, beat.size, beat.source, Some(beat.denied));

@@ -7,7 +7,9 @@ ghost use Rattle.check_beats.specs.State.{first_reply, replied_beats, ends_reply
 use crate::beat::ReplyHead;
 use crate::bus::Bus;
 use crate::fault::FormFault;
-use crate::reply::{next_reply_fault, push_seen, put_reply, reply_beats, reply_fault, reply_op_of};
+use crate::reply::{
+    lawful_reply_op, next_reply_fault, push_seen, put_reply, reply_beats, reply_fault,
+};
 use check_cells::{Cells, Pattern};
 use std::marker::Model;
 use tl_types::MAX_BYTES;
@@ -183,7 +185,7 @@ impl Replying {
         requires goes_on { self.now.begun ≡ None → ⊥ }
         ensures { (address : ℕ) → reply.new ≡ reply_of self.now.bus self.now.begun address beat.now known lanes.now }
     {
-        let op = reply_op_of(beat);
+        let op = lawful_reply_op(beat);
         reply.set_fields(op, beat.size, beat.source, Some(beat.denied));
         reply.cells.refill_from(&self.bytes);
         push_seen(&mut reply.cells, beat.denied, known, lanes);

@@ -20,7 +20,7 @@ pub record Pattern : Type 0 where
 
 -- a captured reply fits what is expected: its opcode, size and source are those, and all else that is expected is known
 -- and is the same
-pub record Fits (expected captured : Pattern) : Type 0 where
+pub record FitsPattern (expected captured : Pattern) : Type 0 where
   pub op_is : captured.op ≡ expected.op
   pub size_is : captured.size ≡ expected.size
   pub source_is : captured.source ≡ expected.source

@@ -1,10 +1,10 @@
 //! The bytes of a message, each known or unknown, and replies of such bytes.
 //!
 //! Contracts see [`Cells`] as a list of optional bytes. They lie in words with a mask for each, as the pages of
-//! `check_memory` do, so that a part of one word is read, written and compared as one number. A [`Pattern`] is a reply of
-//! which the denied flag and some bytes may be unknown: the one that is expected, or the one that was captured.
-//! [`Pattern::fits`] says whether a captured reply fits what is expected (`Fits` of `specs/Pattern.antt`): all that is
-//! expected is known in it and is the same.
+//! `check_memory` do, so that a part of one word is read, written and compared as one number. A [`Pattern`] is a
+//! reply of which the denied flag and some bytes may be unknown: the one that is expected, or the one that was
+//! captured. [`Pattern::fits`] says whether a captured reply fits what is expected (`FitsPattern` of
+//! `specs/Pattern.antt`): all that is expected is known in it and is the same.
 //!
 //! The link layer (`check_beats`) gathers replies as patterns, and memories (`check_memory`) answer them.
 //!

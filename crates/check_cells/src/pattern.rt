@@ -2,7 +2,7 @@
 ghost use Rattle.std.specs.Prelude.{◌≡◌, ◌↔◌, ℕ, ◌≤◌, Bool, [], length, false, IsTrue, Some};
 ghost use Rattle.tl_types.specs.Operation.{reply_op_of};
 ghost use Rattle.tl_types.specs.declared.operation.ReplyOp.TheVariants.{AccessAck};
-ghost use Rattle.check_cells.specs.Pattern.{Fits, captured_as, captured_bytes, device_pattern};
+ghost use Rattle.check_cells.specs.Pattern.{FitsPattern, captured_as, captured_bytes, device_pattern};
 
 use crate::cells::Cells;
 use std::marker::Model;
@@ -147,7 +147,7 @@ impl Pattern {
 
     /// Whether a captured reply fits this one, which is expected.
     pub fn fits(&self, captured: &Pattern) -> bool
-        ensures { IsTrue result ↔ Fits self.now captured.now }
+        ensures { IsTrue result ↔ FitsPattern self.now captured.now }
     {
         self.op == captured.op
             && self.size == captured.size

@@ -3,7 +3,7 @@ use Rattle.std.proofs.Common.{◌≡◌, ◌∙◌, ⊎_elim, ℕ, Bool, true, f
 use Rattle.tl_types.specs.Request.{Request}
 use Rattle.tl_ops.specs.declared.kind.Kind.TheVariants.{ClearRegs}
 use Rattle.check_memory.specs.Cells.{is_atomic}
-use Rattle.check_memory.specs.Laws.{IsLawful}
+use Rattle.check_memory.specs.Laws.{IsLawfulAsk}
 use Rattle.check_memory.specs.Partial.{Partial, AreWithin}
 use Rattle.check_contests.specs.Writes.{may_write, leave_unknown}
 use Rattle.check_contests.specs.Moments.{Course, asked_of, course_with, AreBytes}
@@ -16,7 +16,7 @@ use Rattle.check_contests.proofs.Effect.{cells_after, stays, Matters, leaves_mor
 -- a request is accepted, and a byte is not contested
 pub record IsFree (truth : Partial) (ours : List (Option ℕ)) (course : ℕ → Course) (wide : ℕ) (ask : Request) (a : ℕ) : Type 0 where
   pub idle : course wide ≡ Idle
-  pub lawful : IsLawful ask
+  pub lawful : IsLawfulAsk ask
   pub within : AreWithin truth.ranges (length ours)
   pub counted : length ours ≡ length truth.cells
   pub bytes : truth.kind ≡ ClearRegs → AreBytes ours

@@ -2,7 +2,7 @@
 use Rattle.std.proofs.Common.{◌≡◌, ◌∙◌, ⊎_elim, ℕ, ◌+◌, Bool, true, false, List, map, Option, Some, None, refl, sym, ap, subst}
 use Rattle.tl_types.specs.Request.{Request}
 use Rattle.check_memory.specs.Partial.{Partial, permits}
-use Rattle.check_memory.specs.Pattern.{Pattern, Fits, pattern, device_pattern}
+use Rattle.check_memory.specs.Pattern.{Pattern, FitsPattern, pattern, device_pattern}
 use Rattle.check_memory.specs.Slave.{expected_of}
 use Rattle.check_memory.specs.declared.slave.Slave.{Slave}
 use Rattle.check_memory.specs.declared.slave.Slave.TheVariants.{Memory, Device}
@@ -20,7 +20,7 @@ use Rattle.check_contests.proofs.Kept.{apart-map, apart-new}
 -- what is due to the new one says no more than what is expected of the true memory
 new_fits : (ours : List (Option ℕ)) (truth : Partial) (kept : List Accepted) (course : ℕ → Course) (wide : ℕ)
     (ask : Request) → Accepts ours truth kept course wide ask
-    → Fits (due_of (Memory (with_cells truth ours)) kept ask) (pattern truth ask)
+    → FitsPattern (due_of (Memory (with_cells truth ours)) kept ask) (pattern truth ask)
 new_fits ours truth kept course wide ask is = by_cases (permits truth ask) refl
   where
     memory : Partial
@@ -29,10 +29,10 @@ new_fits ours truth kept course wide ask is = by_cases (permits truth ask) refl
     due : Pattern
     due = due_of (Memory memory) kept ask
 
-    fits : Fits due (pattern memory ask)
+    fits : FitsPattern due (pattern memory ask)
     fits = beside_below memory ask (one_may_write memory kept) (pattern memory ask)
 
-    by_cases : (p : Bool) → permits truth ask ≡ p → Fits due (pattern truth ask)
+    by_cases : (p : Bool) → permits truth ask ≡ p → FitsPattern due (pattern truth ask)
     by_cases true legal =
         let s = stands truth ask ours (within_ours ours truth kept course is.below) is.carried.lawful legal in
         let s' = stands truth ask truth.cells is.below.within is.carried.lawful legal in
@@ -53,21 +53,21 @@ new_fits ours truth kept course wide ask is = by_cases (permits truth ask) refl
           };
         }
     by_cases false denied =
-        subst (λ (p : Pattern). Fits due p) (pattern_denied truth ask ours truth.cells denied) fits
+        subst (λ (p : Pattern). FitsPattern due p) (pattern_denied truth ask ours truth.cells denied) fits
 
 -- what says less fits what more did
-pub fits_less : (slave : Slave) (less due : Pattern) (course : Course) → Fits less due → DueFits slave due course
+pub fits_less : (slave : Slave) (less due : Pattern) (course : Course) → FitsPattern less due → DueFits slave due course
     → DueFits slave less course
 fits_less slave less due Idle below fits = tt
 fits_less slave less due (Waiting ask) below fits = fits_through less due (expected_of slave ask) below fits
 fits_less slave less due (Served ask reply) below fits = fits_through less due reply below fits
 
-entry_below : (slave : Slave) (ask : Request) (entry : Accepted) → Fits (entry_accepting slave ask entry).due entry.due
+entry_below : (slave : Slave) (ask : Request) (entry : Accepted) → FitsPattern (entry_accepting slave ask entry).due entry.due
 entry_below (Memory memory) ask entry = beside_below memory entry.ask (may_write memory ask) entry.due
 entry_below Device ask entry = fits_itself entry.due
 
 fits_then : (ours truth : Slave) (kept : List Accepted) (course : ℕ → Course) (wide index : ℕ) (ask : Request)
-    → Asks kept course → course wide ≡ Idle → Fits (due_of ours kept ask) (expected_of truth ask)
+    → Asks kept course → course wide ≡ Idle → FitsPattern (due_of ours kept ask) (expected_of truth ask)
     → ((w : ℕ) (entry : Accepted) → kept_of kept w ≡ Some entry → DueFits truth entry.due (course w))
     → (w : ℕ) (entry : Accepted) → kept_of (kept_accepting ours kept wide index ask) w ≡ Some entry
     → DueFits truth entry.due (course_with course wide (Waiting ask) w)

@@ -4,7 +4,7 @@ use Rattle.check_memory.specs.Partial.{Partial}
 use Rattle.std.specs.Prelude.{option_map}
 use Rattle.std.proofs.lemmas.Bool.{cases_eq}
 use Rattle.tl_types.specs.Request.{Request}
-use Rattle.check_memory.specs.Pattern.{Pattern, Fits}
+use Rattle.check_memory.specs.Pattern.{Pattern, FitsPattern}
 use Rattle.check_memory.specs.declared.slave.Slave.{Slave}
 use Rattle.check_memory.specs.declared.slave.Slave.TheVariants.{Memory, Device}
 use Rattle.check_contests.specs.Contests.{Accepted, kept_of, kept_answering}
@@ -109,7 +109,7 @@ answering_keeps ours kept truth wide ask reply is served = record {
 -- the one that is answered is kept, and what is due to it fits what was expected as it took effect
 pub answer_fits : (ours : Slave) (kept : List Accepted) (truth : Truth) (wide : ℕ) (ask : Request) (reply : Pattern)
     → IsBelowTruth ours kept truth → truth.course wide ≡ Served ask reply
-    → (entry : Accepted) × (kept_of kept wide ≡ Some entry) × (entry.ask ≡ ask) × Fits entry.due reply
+    → (entry : Accepted) × (kept_of kept wide ≡ Some entry) × (entry.ask ≡ ask) × FitsPattern entry.due reply
 answer_fits ours kept truth wide ask reply is served =
     let entry = entry_of (kept_of kept wide) ask (is.asks wide ∙ ap asked_of served) in (
       entry.0,

@@ -15,7 +15,7 @@ use Rattle.tl_ops.specs.Number.{number, signed, low_bytes}
 use Rattle.tl_ops.specs.Window.{operand_of, combine_arith, combine_byte, combine_logic, not_byte}
 use Rattle.check_memory.specs.Known.{known, all_known}
 use Rattle.check_memory.specs.Cells.{clear_cell, put_cells, combined, combined_logic, new_cells}
-use Rattle.check_memory.specs.Laws.{IsLawful}
+use Rattle.check_memory.specs.Laws.{IsLawfulAsk}
 use Rattle.check_memory.specs.Partial.{Partial, permits, AreWithin}
 use Rattle.check_contests.specs.Moments.{AreBytes}
 use Rattle.check_contests.proofs.Cells.{none_known}
@@ -133,7 +133,7 @@ small_window ask cells room small k byte is =
     small (ask.address + k) byte (sym (get_or-window ask cells k below) ∙ is)
 
 pub small_after : (memory : Partial) (ask : Request) (cells : List (Option ℕ)) → memory.kind ≡ ClearRegs
-    → AreWithin memory.ranges (length cells) → IsLawful ask → AreBytes cells → AreBytes ask.bytes
+    → AreWithin memory.ranges (length cells) → IsLawfulAsk ask → AreBytes cells → AreBytes ask.bytes
     → AreBytes (cells_after memory ask cells)
 small_after memory ask cells clears within lawful small small' a byte is = by_cases (permits memory ask) refl
   where

@@ -12,7 +12,7 @@ use Rattle.tl_ops.specs.declared.kind.Kind.TheVariants.{ClearRegs}
 use Rattle.check_memory.specs.Known.{replaced}
 use Rattle.check_memory.specs.Cells.{put_at, put_cells, new_cells, is_atomic}
 use Rattle.check_memory.specs.Partial.{Partial, permits, after_partial, AreWithin}
-use Rattle.check_memory.specs.Laws.{IsLawful}
+use Rattle.check_memory.specs.Laws.{IsLawfulAsk}
 use Rattle.check_memory.proofs.PageCells.{length-replaced}
 use Rattle.check_memory.proofs.PagePlaces.{length-new_cells}
 use Rattle.check_memory.proofs.Soundness.{within_if_held, held_if_permitted}
@@ -85,7 +85,7 @@ pub record Stands (memory : Partial) (ask : Request) (cells : List (Option ℕ))
   pub long : length (new_of memory ask cells) ≡ 2 ^ ask.size
 
 pub stands : (memory : Partial) (ask : Request) (cells : List (Option ℕ)) → AreWithin memory.ranges (length cells)
-    → IsLawful ask → permits memory ask ≡ true → Stands memory ask cells
+    → IsLawfulAsk ask → permits memory ask ≡ true → Stands memory ask cells
 stands memory ask cells within lawful is =
     let room : ask.address + 2 ^ ask.size ≤ length cells = inside memory ask cells within is in
     let wide : length (window ask cells) ≡ 2 ^ ask.size = window_long ask cells room in
@@ -96,7 +96,7 @@ stands memory ask cells within lawful is =
     }
 
 pub length-cells_after : (memory : Partial) (ask : Request) (cells : List (Option ℕ))
-    → AreWithin memory.ranges (length cells) → IsLawful ask → length (cells_after memory ask cells) ≡ length cells
+    → AreWithin memory.ranges (length cells) → IsLawfulAsk ask → length (cells_after memory ask cells) ≡ length cells
 length-cells_after memory ask cells within lawful = by_cases (permits memory ask) refl
   where
     by_cases : (p : Bool) → permits memory ask ≡ p → length (cells_after memory ask cells) ≡ length cells
@@ -182,7 +182,7 @@ where_is ask a = ⊎_elim
 
 -- a byte that a request may not write stays
 pub stays : (memory : Partial) (ask : Request) (cells : List (Option ℕ)) (a : ℕ)
-    → AreWithin memory.ranges (length cells) → IsLawful ask → IsByteAt memory.kind cells a
+    → AreWithin memory.ranges (length cells) → IsLawfulAsk ask → IsByteAt memory.kind cells a
     → may_write memory ask a ≡ false
     → get_or (cells_after memory ask cells) a None ≡ get_or cells a None
 stays memory ask cells a within lawful small none = by_cases (permits memory ask) refl
@@ -272,7 +272,7 @@ Matters memory ask a place = (may_write memory ask place ≡ true) × (is_atomic
 
 -- a byte that a request leaves known, it leaves known and the same where more is known of those on which it depends
 pub leaves_more : (memory : Partial) (ask : Request) (less more : List (Option ℕ)) (a byte : ℕ)
-    → AreWithin memory.ranges (length less) → length less ≡ length more → IsLawful ask
+    → AreWithin memory.ranges (length less) → length less ≡ length more → IsLawfulAsk ask
     → may_write memory ask a ≡ true
     → ((place b : ℕ) → Matters memory ask a place → get_or less place None ≡ Some b → get_or more place None ≡ Some b)
     → get_or (cells_after memory ask less) a None ≡ Some byte → get_or (cells_after memory ask more) a None ≡ Some byte

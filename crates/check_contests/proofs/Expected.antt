@@ -6,7 +6,7 @@ use Rattle.tl_types.specs.declared.operation.ReplyOp.{ReplyOp}
 use Rattle.tl_types.specs.declared.operation.ReplyOp.TheVariants.{AccessAck, AccessAckData, HintAck}
 use Rattle.check_memory.specs.Known.{IsBelow, known}
 use Rattle.check_memory.specs.Partial.{Partial, permits}
-use Rattle.check_memory.specs.Pattern.{Pattern, Fits, pattern, shown_cells}
+use Rattle.check_memory.specs.Pattern.{Pattern, FitsPattern, pattern, shown_cells}
 use Rattle.check_contests.specs.Writes.{unknown_where}
 use Rattle.check_contests.specs.Contests.{due_beside}
 use Rattle.check_contests.proofs.Effect.{with_cells, window, get_or-window, there_if_known, Stands}
@@ -14,7 +14,7 @@ use Rattle.check_contests.proofs.Kept.{known_where, length-unknown_where}
 
 -- ---- fitting
 
-pub fits_itself : (due : Pattern) → Fits due due
+pub fits_itself : (due : Pattern) → FitsPattern due due
 fits_itself due = record {
   op_is = refl;
   size_is = refl;
@@ -23,7 +23,7 @@ fits_itself due = record {
   bytes_fit = record { counted = refl; kept = λ place byte is. is };
 }
 
-pub fits_through : (due reply captured : Pattern) → Fits due reply → Fits reply captured → Fits due captured
+pub fits_through : (due reply captured : Pattern) → FitsPattern due reply → FitsPattern reply captured → FitsPattern due captured
 fits_through due reply captured fits more = record {
   op_is = more.op_is ∙ fits.op_is;
   size_is = more.size_is ∙ fits.size_is;
@@ -36,8 +36,8 @@ fits_through due reply captured fits more = record {
 }
 
 -- with other bytes
-pub fits_bytes : (due reply : Pattern) (bytes : List (Option ℕ)) → Fits due reply → IsBelow due.bytes bytes
-    → Fits due (record reply { bytes = bytes })
+pub fits_bytes : (due reply : Pattern) (bytes : List (Option ℕ)) → FitsPattern due reply → IsBelow due.bytes bytes
+    → FitsPattern due (record reply { bytes = bytes })
 fits_bytes due reply bytes fits below = record {
   op_is = fits.op_is;
   size_is = fits.size_is;
@@ -57,14 +57,14 @@ pub beside_denied : (memory : Partial) (ask : Request) (test : ℕ → Bool) (du
 beside_denied memory ask test due is = rw (is, due_beside) refl
 
 pub beside_below : (memory : Partial) (ask : Request) (test : ℕ → Bool) (due : Pattern)
-    → Fits (due_beside memory ask test due) due
+    → FitsPattern (due_beside memory ask test due) due
 beside_below memory ask test due = by_cases (permits memory ask) refl
   where
     rule : ℕ → Bool
     rule place = test (ask.address + place)
 
-    by_cases : (p : Bool) → permits memory ask ≡ p → Fits (due_beside memory ask test due) due
-    by_cases true is = let P : Pattern → Type 0 = λ less. Fits less due in
+    by_cases : (p : Bool) → permits memory ask ≡ p → FitsPattern (due_beside memory ask test due) due
+    by_cases true is = let P : Pattern → Type 0 = λ less. FitsPattern less due in
         subst P (sym (beside_legal memory ask test due is)) (record {
           op_is = refl;
           size_is = refl;
@@ -75,7 +75,7 @@ beside_below memory ask test due = by_cases (permits memory ask) refl
             kept = λ place byte is'. (known_where (λ place. test (ask.address + place)) due.bytes place byte is').1;
           };
         })
-    by_cases false is = let P : Pattern → Type 0 = λ less. Fits less due in
+    by_cases false is = let P : Pattern → Type 0 = λ less. FitsPattern less due in
         subst P (sym (beside_denied memory ask test due is)) (fits_itself due)
 
 -- what is known of it no other may write

@@ -6,8 +6,8 @@ use Rattle.check_memory.specs.Pattern.{Pattern}
 use Rattle.check_memory.specs.declared.slave.Slave.{Slave}
 use Rattle.check_memory.specs.declared.slave.Slave.TheVariants.{Memory, Device}
 use Rattle.check_contests.specs.Contests.{Accepted}
-use Rattle.check_contests.specs.Moments.{Moment, Course, Truth, untouched, truth_taking, truth_after, IsWaiting, IsServed, MayAllCome}
-use Rattle.check_contests.specs.Moments.Moment.{Accepts, TakesEffect, Answers}
+use Rattle.check_contests.specs.Moments.{SlaveMoment, Course, Truth, untouched, truth_taking, truth_after, IsWaiting, IsServedCourse, MayAllCome}
+use Rattle.check_contests.specs.Moments.SlaveMoment.{Accepts, TakesEffect, Answers}
 use Rattle.check_contests.specs.Moments.Course.{Idle, Waiting, Served}
 use Rattle.check_contests.specs.Below.{IsMemoryBelow, IsSlaveBelow, IsBelowTruth}
 use Rattle.check_contests.specs.Laws.{IsMemoryAtReset, IsBelowAtReset, IsDueBelow, Judged, judged_after, IsAnswerBelow, AreAllBelow}
@@ -74,7 +74,7 @@ taking_keeps judged truth wide (Waiting ask) at waits is =
 taking_keeps judged truth wide (Served ask reply) at waits is = absurd waits
 
 answered_keeps : (judged : Judged) (truth : Truth) (wide : ℕ) (course : Course) → truth.course wide ≡ course
-    → IsServed course → IsBelowTruth judged.slave judged.kept truth
+    → IsServedCourse course → IsBelowTruth judged.slave judged.kept truth
     → IsAnswerBelow judged wide course
     × IsBelowTruth judged.slave (judged_after judged (Answers wide)).kept (truth_after truth (Answers wide))
 answered_keeps judged truth wide Idle at served is = absurd served
@@ -84,7 +84,7 @@ answered_keeps judged truth wide (Served ask reply) at served is = (
   answering_keeps judged.slave judged.kept truth wide ask reply is at,
 )
 
-pub all_below : (judged : Judged) (truth : Truth) (moments : List Moment) → IsBelowTruth judged.slave judged.kept truth
+pub all_below : (judged : Judged) (truth : Truth) (moments : List SlaveMoment) → IsBelowTruth judged.slave judged.kept truth
     → MayAllCome truth moments → AreAllBelow judged truth moments
 all_below judged truth [] is may = tt
 all_below judged truth (Accepts wide ask ∷ moments) is may = (
@@ -103,7 +103,7 @@ all_below judged truth (Answers wide ∷ moments) is may =
       all_below (judged_after judged (Answers wide)) (truth_after truth (Answers wide)) moments both.1 may.1,
     )
 
-pub any_order_is_below : (ours truth : Slave) (moments : List Moment) → IsBelowAtReset ours truth
+pub any_order_is_below : (ours truth : Slave) (moments : List SlaveMoment) → IsBelowAtReset ours truth
     → MayAllCome (untouched truth) moments
     → AreAllBelow (record { slave = ours; kept = []; served = 0 }) (untouched truth) moments
 any_order_is_below ours truth moments is may =

@@ -1,12 +1,12 @@
 -- What is kept says no more than the truth, once a request takes effect.
 use Rattle.std.proofs.Common.{◌≡◌, ◌∙◌, ⊎_elim, ℕ, ◌+◌, ◌<◌, Bool, true, false, List, length, get_or, Option, Some, None, refl, sym, ap, subst}
-use Rattle.check_memory.specs.Laws.{IsLawful}
+use Rattle.check_memory.specs.Laws.{IsLawfulAsk}
 use Rattle.std.proofs.lemmas.Bool.{cases_eq}
 use Rattle.tl_types.specs.Request.{Request}
 use Rattle.tl_ops.specs.declared.kind.Kind.TheVariants.{ClearRegs}
 use Rattle.check_memory.specs.Cells.{is_atomic}
 use Rattle.check_memory.specs.Partial.{Partial, permits, after_partial, AreWithin}
-use Rattle.check_memory.specs.Pattern.{Pattern, Fits, pattern}
+use Rattle.check_memory.specs.Pattern.{Pattern, FitsPattern, pattern}
 use Rattle.check_memory.specs.Slave.{expected_of}
 use Rattle.check_memory.specs.declared.slave.Slave.{Slave}
 use Rattle.check_memory.specs.declared.slave.Slave.TheVariants.{Memory, Device}
@@ -79,7 +79,7 @@ served_byte ours truth kept course wide ask reply a byte is known = record {
     right : IsKnownRightly truth course a byte
     right = is.below.known a byte known
 
-    lawful : IsLawful ask
+    lawful : IsLawfulAsk ask
     lawful = (is.below.carried wide ask (ap asked_of is.waits)).lawful
 
     unmoved : (place : ℕ) → may_write truth ask place ≡ false
@@ -145,24 +145,24 @@ served_below ours truth kept course wide ask reply is =
 memory_fits : (ours : List (Option ℕ)) (truth : Partial) (kept : List Accepted) (course : ℕ → Course) (wide : ℕ)
     (ask : Request) → Serves ours truth kept course wide ask → (w : ℕ) (entry : Accepted) (ask' : Request)
     → (w ≡ wide → ⊥) → course w ≡ Waiting ask' → kept_of kept w ≡ Some entry
-    → Fits entry.due (pattern truth ask')
-    → Fits entry.due (pattern (with_cells truth (cells_after truth ask truth.cells)) ask')
+    → FitsPattern entry.due (pattern truth ask')
+    → FitsPattern entry.due (pattern (with_cells truth (cells_after truth ask truth.cells)) ask')
 memory_fits ours truth kept course wide ask is w entry ask' apart waits there fits = by_cases (permits truth ask') refl
   where
     left : List (Option ℕ)
     left = cells_after truth ask truth.cells
 
-    lawful : IsLawful ask
+    lawful : IsLawfulAsk ask
     lawful = (is.below.carried wide ask (ap asked_of is.waits)).lawful
 
-    lawful' : IsLawful ask'
+    lawful' : IsLawfulAsk ask'
     lawful' = (is.below.carried w ask' (ap asked_of waits)).lawful
 
     within' : AreWithin truth.ranges (length left)
     within' = subst (λ (n : ℕ). AreWithin truth.ranges n)
         (sym (length-cells_after truth ask truth.cells is.below.within lawful)) is.below.within
 
-    by_cases : (p : Bool) → permits truth ask' ≡ p → Fits entry.due (pattern (with_cells truth left) ask')
+    by_cases : (p : Bool) → permits truth ask' ≡ p → FitsPattern entry.due (pattern (with_cells truth left) ask')
     by_cases true legal =
         let s = stands truth ask' truth.cells is.below.within lawful' legal in
         let s' = stands truth ask' left within' lawful' legal in
@@ -184,13 +184,13 @@ memory_fits ours truth kept course wide ask is w entry ask' apart waits there fi
           };
         }
     by_cases false denied =
-        subst (λ (p : Pattern). Fits entry.due p) (pattern_denied truth ask' truth.cells left denied) fits
+        subst (λ (p : Pattern). FitsPattern entry.due p) (pattern_denied truth ask' truth.cells left denied) fits
 
 -- of each course, by what the others make of it
 fits_then : (slave slave' : Slave) (course : ℕ → Course) (wide : ℕ) (ask : Request) (w : ℕ) (due : Pattern)
     → course wide ≡ Waiting ask
-    → ((ask' : Request) → (w ≡ wide → ⊥) → course w ≡ Waiting ask' → Fits due (expected_of slave ask')
-    → Fits due (expected_of slave' ask'))
+    → ((ask' : Request) → (w ≡ wide → ⊥) → course w ≡ Waiting ask' → FitsPattern due (expected_of slave ask')
+    → FitsPattern due (expected_of slave' ask'))
     → DueFits slave due (course w) → DueFits slave' due (course_with course wide (Served ask (expected_of slave ask)) w)
 fits_then slave slave' course wide ask w due waits others fits = ⊎_elim
     (λ (same : w ≡ wide).
@@ -205,8 +205,8 @@ fits_then slave slave' course wide ask w due waits others fits = ⊎_elim
     (by_course (course w) (λ ask' is. others ask' apart is) fits))
     (cases_eq w wide)
   where
-    by_course : (c : Course) → ((ask' : Request) → c ≡ Waiting ask' → Fits due (expected_of slave ask')
-        → Fits due (expected_of slave' ask')) → DueFits slave due c → DueFits slave' due c
+    by_course : (c : Course) → ((ask' : Request) → c ≡ Waiting ask' → FitsPattern due (expected_of slave ask')
+        → FitsPattern due (expected_of slave' ask')) → DueFits slave due c → DueFits slave' due c
     by_course Idle others' fits' = tt
     by_course (Waiting ask') others' fits' = others' ask' refl fits'
     by_course (Served ask' reply) others' fits' = fits'

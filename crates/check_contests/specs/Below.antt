@@ -5,7 +5,7 @@ use Rattle.tl_types.specs.Request.{Request}
 use Rattle.tl_ops.specs.declared.kind.Kind.TheVariants.{ClearRegs}
 use Rattle.check_memory.specs.Cells.{is_atomic}
 use Rattle.check_memory.specs.Partial.{Partial, permits, after_partial, AreWithin}
-use Rattle.check_memory.specs.Pattern.{Pattern, Fits}
+use Rattle.check_memory.specs.Pattern.{Pattern, FitsPattern}
 use Rattle.check_memory.specs.Slave.{expected_of}
 use Rattle.check_memory.specs.declared.slave.Slave.{Slave}
 use Rattle.check_memory.specs.declared.slave.Slave.TheVariants.{Memory, Device}
@@ -24,8 +24,8 @@ AreApart (entry ∷ kept) = (kept_of kept entry.wide ≡ None) × AreApart kept
 -- what is due says no more than what is expected of the slave, or was when the request took effect
 abbrev pub DueFits : Slave → Pattern → Course → Type 0
 DueFits slave due Idle = Unit {0}
-DueFits slave due (Waiting ask) = Fits due (expected_of slave ask)
-DueFits slave due (Served ask reply) = Fits due reply
+DueFits slave due (Waiting ask) = FitsPattern due (expected_of slave ask)
+DueFits slave due (Served ask reply) = FitsPattern due reply
 
 -- ---- bytes of a memory
 

@@ -4,14 +4,14 @@ use Rattle.tl_types.specs.Request.{Request}
 use Rattle.tl_ops.specs.declared.kind.Kind.TheVariants.{ClearRegs}
 use Rattle.check_memory.specs.Known.{IsBelow}
 use Rattle.check_memory.specs.Partial.{Partial, permits, AreWithin}
-use Rattle.check_memory.specs.Pattern.{Pattern, Fits}
+use Rattle.check_memory.specs.Pattern.{Pattern, FitsPattern}
 use Rattle.check_memory.specs.Slave.{slave_after, expected_of}
 use Rattle.check_memory.specs.declared.slave.Slave.{Slave}
 use Rattle.check_memory.specs.declared.slave.Slave.TheVariants.{Memory, Device}
 use Rattle.check_contests.specs.Writes.{in_window, may_write}
 use Rattle.check_contests.specs.Contests.{Accepted, due_of, slave_accepting, kept_accepting, kept_of, kept_answering}
-use Rattle.check_contests.specs.Moments.{Moment, Course, Truth, untouched, truth_accepting, truth_serving, truth_answering, truth_after, AreBytes, IsCarried, MayAllCome}
-use Rattle.check_contests.specs.Moments.Moment.{Accepts, TakesEffect, Answers}
+use Rattle.check_contests.specs.Moments.{SlaveMoment, Course, Truth, untouched, truth_accepting, truth_serving, truth_answering, truth_after, AreBytes, IsCarried, MayAllCome}
+use Rattle.check_contests.specs.Moments.SlaveMoment.{Accepts, TakesEffect, Answers}
 use Rattle.check_contests.specs.Moments.Course.{Idle, Waiting, Served}
 use Rattle.check_contests.specs.Below.{IsBelowTruth}
 
@@ -58,7 +58,7 @@ pub record IsDueBelow (kept : List Accepted) (wide : ℕ) (ask : Request) (reply
   pub entry : Accepted
   pub kept_as : kept_of kept wide ≡ Some entry
   pub ask_is : entry.ask ≡ ask
-  pub fits : Fits entry.due reply
+  pub fits : FitsPattern entry.due reply
 
 abbrev pub AnswerIsDue : Type 0
 AnswerIsDue =
@@ -67,7 +67,7 @@ AnswerIsDue =
 
 -- so each reply that fits what was expected of the true slave fits what is due
 abbrev pub FitsThrough : Type 0
-FitsThrough = (due reply captured : Pattern) → Fits due reply → Fits reply captured → Fits due captured
+FitsThrough = (due reply captured : Pattern) → FitsPattern due reply → FitsPattern reply captured → FitsPattern due captured
 
 -- ---- the same of whole runs
 
@@ -77,7 +77,7 @@ pub record Judged : Type 0 where
   pub kept : List Accepted
   pub served : ℕ
 
-abbrev pub judged_after : Judged → Moment → Judged
+abbrev pub judged_after : Judged → SlaveMoment → Judged
 judged_after judged (Accepts wide ask) = record {
   slave = slave_accepting judged.slave judged.kept ask;
   kept = kept_accepting judged.slave judged.kept wide judged.served ask;
@@ -92,12 +92,12 @@ IsAnswerBelow judged wide Idle = ⊥
 IsAnswerBelow judged wide (Waiting ask) = ⊥
 IsAnswerBelow judged wide (Served ask reply) = IsDueBelow judged.kept wide ask reply
 
-abbrev pub IsMomentBelow : Judged → Truth → Moment → Type 0
+abbrev pub IsMomentBelow : Judged → Truth → SlaveMoment → Type 0
 IsMomentBelow judged truth (Accepts wide ask) = Unit {0}
 IsMomentBelow judged truth (TakesEffect wide) = Unit {0}
 IsMomentBelow judged truth (Answers wide) = IsAnswerBelow judged wide (truth.course wide)
 
-abbrev pub AreAllBelow : Judged → Truth → List Moment → Type 0
+abbrev pub AreAllBelow : Judged → Truth → List SlaveMoment → Type 0
 AreAllBelow judged truth [] = Unit {0}
 AreAllBelow judged truth (moment ∷ moments) =
     IsMomentBelow judged truth moment × AreAllBelow (judged_after judged moment) (truth_after truth moment) moments
@@ -106,7 +106,7 @@ AreAllBelow judged truth (moment ∷ moments) =
 -- each that is answered says no more than what was expected of that slave
 abbrev pub AnyOrderIsBelow : Type 0
 AnyOrderIsBelow =
-    (ours truth : Slave) (moments : List Moment) → IsBelowAtReset ours truth → MayAllCome (untouched truth) moments
+    (ours truth : Slave) (moments : List SlaveMoment) → IsBelowAtReset ours truth → MayAllCome (untouched truth) moments
     → AreAllBelow (record { slave = ours; kept = []; served = 0 }) (untouched truth) moments
 
 -- ---- nothing is lost without need

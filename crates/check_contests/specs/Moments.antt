@@ -3,17 +3,17 @@
 use Rattle.std.specs.Prelude.{◌≡◌, ℕ, ◌<◌, if◌then◌else◌, ◌==◌, List, [], ◌∷◌, Option, Some, None, slice_index_or}
 use Rattle.tl_types.specs.Request.{Request}
 use Rattle.tl_ops.specs.declared.kind.Kind.TheVariants.{ClearRegs}
-use Rattle.check_memory.specs.Laws.{IsLawful}
+use Rattle.check_memory.specs.Laws.{IsLawfulAsk}
 use Rattle.check_memory.specs.Pattern.{Pattern}
 use Rattle.check_memory.specs.Slave.{slave_after, expected_of}
 use Rattle.check_memory.specs.declared.slave.Slave.{Slave}
 use Rattle.check_memory.specs.declared.slave.Slave.TheVariants.{Memory, Device}
 
 -- a request of a wide source is accepted, it takes effect, or its reply begins
-pub data Moment : Type 0 where
-  Accepts : ℕ → Request → Moment
-  TakesEffect : ℕ → Moment
-  Answers : ℕ → Moment
+pub data SlaveMoment : Type 0 where
+  Accepts : ℕ → Request → SlaveMoment
+  TakesEffect : ℕ → SlaveMoment
+  Answers : ℕ → SlaveMoment
 
 -- ---- a slave with the requests that it has accepted
 
@@ -63,7 +63,7 @@ truth_taking truth wide Idle = truth
 truth_taking truth wide (Waiting ask) = truth_serving truth wide ask
 truth_taking truth wide (Served ask reply) = truth
 
-abbrev pub truth_after : Truth → Moment → Truth
+abbrev pub truth_after : Truth → SlaveMoment → Truth
 truth_after truth (Accepts wide ask) = truth_accepting truth wide ask
 truth_after truth (TakesEffect wide) = truth_taking truth wide (truth.course wide)
 truth_after truth (Answers wide) = truth_answering truth wide
@@ -81,7 +81,7 @@ AreBytesAt Device cells = Unit {0}
 
 -- a request as messages carry it to this slave
 pub record IsCarried (slave : Slave) (ask : Request) : Type 0 where
-  pub lawful : IsLawful ask
+  pub lawful : IsLawfulAsk ask
   pub bytes : AreBytesAt slave ask.bytes
 
 abbrev pub IsWaiting : Course → Type 0
@@ -89,18 +89,18 @@ IsWaiting Idle = ⊥
 IsWaiting (Waiting ask) = Unit {0}
 IsWaiting (Served ask reply) = ⊥
 
-abbrev pub IsServed : Course → Type 0
-IsServed Idle = ⊥
-IsServed (Waiting ask) = ⊥
-IsServed (Served ask reply) = Unit {0}
+abbrev pub IsServedCourse : Course → Type 0
+IsServedCourse Idle = ⊥
+IsServedCourse (Waiting ask) = ⊥
+IsServedCourse (Served ask reply) = Unit {0}
 
 -- a wide source has one request at a time, which takes effect once, between its acceptance and its answer
-abbrev pub MayCome : Truth → Moment → Type 0
+abbrev pub MayCome : Truth → SlaveMoment → Type 0
 MayCome truth (Accepts wide ask) = (truth.course wide ≡ Idle) × IsCarried truth.slave ask
 MayCome truth (TakesEffect wide) = IsWaiting (truth.course wide)
-MayCome truth (Answers wide) = IsServed (truth.course wide)
+MayCome truth (Answers wide) = IsServedCourse (truth.course wide)
 
 -- moments that may come one after the other
-abbrev pub MayAllCome : Truth → List Moment → Type 0
+abbrev pub MayAllCome : Truth → List SlaveMoment → Type 0
 MayAllCome truth [] = Unit {0}
 MayAllCome truth (moment ∷ moments) = MayCome truth moment × MayAllCome (truth_after truth moment) moments

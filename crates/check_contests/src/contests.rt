@@ -8,7 +8,7 @@ use crate::accepted::Accepted;
 use crate::due::hide;
 use crate::flags::contested;
 use check_cells::Pattern;
-use check_memory::{Memory, Slave};
+use check_memory::{PartialMemory, Slave};
 use std::alloc::{AllocError, Global};
 use std::marker::Model;
 use tl_types::Ask;
@@ -29,7 +29,7 @@ impl Model for Contests {
 }
 
 /// Makes each byte of what is due to a request unknown that one of those kept may write.
-fn hide_each(memory: &Memory, kept: &[Accepted], ask: &Ask, due: &mut Pattern)
+fn hide_each(memory: &PartialMemory, kept: &[Accepted], ask: &Ask, due: &mut Pattern)
     ensures { due.new ≡ due_beside memory.now ask.now (one_may_write memory.now kept.now) due.old }
 {
     for entry in kept {
@@ -41,7 +41,7 @@ fn hide_each(memory: &Memory, kept: &[Accepted], ask: &Ask, due: &mut Pattern)
 /// expected of it stands in the place of another pattern. If there is no memory for a page, nothing is changed.
 fn serve_contested(
     alloc: Global,
-    memory: &mut Memory,
+    memory: &mut PartialMemory,
     kept: &[Accepted],
     ask: &Ask,
     due: &mut Pattern,
@@ -63,7 +63,7 @@ fn serve_contested(
 /// those kept may write.
 fn serve_beside(
     alloc: Global,
-    memory: &mut Memory,
+    memory: &mut PartialMemory,
     kept: &[Accepted],
     ask: &Ask,
     due: &mut Pattern,

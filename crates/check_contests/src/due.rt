@@ -5,7 +5,7 @@ ghost use Rattle.check_contests.specs.Contests.{due_beside};
 
 use crate::writes::{is_near, writes_after};
 use check_cells::{Cells, Pattern};
-use check_memory::Memory;
+use check_memory::PartialMemory;
 use tl_types::Ask;
 
 /// The bytes from an address on, of which those are unknown that a request writes.
@@ -25,7 +25,7 @@ fn without(cells: &Cells, address: u64, other: &Ask) -> Cells
 }
 
 /// Makes each byte of what is due to a request unknown that another one may write. What is due to one that is denied stays.
-pub fn hide(memory: &Memory, ask: &Ask, other: &Ask, due: &mut Pattern)
+pub fn hide(memory: &PartialMemory, ask: &Ask, other: &Ask, due: &mut Pattern)
     ensures { due.new ≡ due_beside memory.now ask.now (may_write memory.now other.now) due.old }
 {
     if other.op().carries_bytes()

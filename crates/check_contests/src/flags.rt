@@ -8,8 +8,8 @@ ghost use Rattle.check_contests.specs.Writes.{in_window, writes, meets, leave_un
 ghost use Rattle.check_contests.specs.Contests.{is_contested};
 
 use crate::accepted::Accepted;
-use crate::writes::{is_atomic, is_near, writes_after, writes_at};
-use check_memory::Memory;
+use crate::writes::{is_atomic_op, is_near, writes_after, writes_at};
+use check_memory::PartialMemory;
 use tl_types::{Ask, MAX_BYTES};
 
 /// Flags the bytes of a request's window, if it is an atomic.
@@ -18,7 +18,7 @@ fn mark_atomic(ask: &Ask, block: u64, flags: &mut [bool; MAX_BYTES])
     ensures { (k : ℕ) → k < MAX_BYTES → slice_index_or flags.new k false
         ≡ (slice_index_or flags.old k false || (is_atomic ask.now.op && in_window ask.now (block + k))) }
 {
-    if !is_atomic(ask.op()) {
+    if !is_atomic_op(ask.op()) {
         return;
     }
     let start = (ask.address() - block) as usize;
@@ -48,7 +48,7 @@ fn mark_shared(ask: &Ask, other: &Ask, block: u64, flags: &mut [bool; MAX_BYTES]
 }
 
 /// Whether a legal request may meet another one. If so, both lie in the block of the first.
-fn may_meet(memory: &Memory, ask: &Ask, other: &Ask) -> bool
+fn may_meet(memory: &PartialMemory, ask: &Ask, other: &Ask) -> bool
     requires { permits memory.now ask.now ≡ true }
     ensures met { meets memory.now ask.now other.now ≡ true → IsTrue result }
     ensures legal { IsTrue result → permits memory.now other.now ≡ true }
@@ -62,7 +62,7 @@ fn may_meet(memory: &Memory, ask: &Ask, other: &Ask) -> bool
 
 /// Flags the bytes that a legal request and another one leave unknown, of the block of the first.
 fn mark_contested(
-    memory: &Memory,
+    memory: &PartialMemory,
     ask: &Ask,
     other: &Ask,
     block: u64,
@@ -82,7 +82,7 @@ fn mark_contested(
 }
 
 /// Which bytes of the block of a legal request are unknown once it is accepted beside those that are kept.
-pub fn contested(memory: &Memory, kept: &[Accepted], ask: &Ask) -> [bool; MAX_BYTES]
+pub fn contested(memory: &PartialMemory, kept: &[Accepted], ask: &Ask) -> [bool; MAX_BYTES]
     requires { permits memory.now ask.now ≡ true }
     ensures counted { length result ≡ MAX_BYTES }
     ensures flags { (k : ℕ) → k < MAX_BYTES → slice_index_or result k false

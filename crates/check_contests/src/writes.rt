@@ -47,7 +47,7 @@ pub fn writes_after(ask: &Ask, address: u64, after: usize) -> bool
 }
 
 /// Whether an operation is an atomic.
-pub fn is_atomic(op: AskOp) -> bool
+pub fn is_atomic_op(op: AskOp) -> bool
     ensures { result ≡ is_atomic op }
 {
     matches!(op, AskOp::Arithmetic(_) | AskOp::Logical(_))

@@ -6,8 +6,8 @@ use Rattle.std.proofs.lemmas.Option.{none-some, same_Some}
 use Rattle.check_coverage.specs.declared.bin.Bin.{Bin}
 use Rattle.check_coverage.specs.declared.bin.Bin.TheVariants as bin
 use Rattle.check_coverage.specs.declared.counts.Counts.{Counts}
-use Rattle.check_coverage.specs.declared.flight.Flight.{Flight}
-use Rattle.check_coverage.specs.Bins.{again, begin_bins, contested_bins, contests, is_of_master, is_of_port, is_younger, overtook_bins, pair_of, with_one}
+use Rattle.check_coverage.specs.declared.flight.CountedFlight.{CountedFlight}
+use Rattle.check_coverage.specs.Bins.{again, begin_bins, contested_bins, contests, is_of_master, is_of_port, is_younger, overtook_bins, bin_pair, with_one}
 use Rattle.check_coverage.specs.Flights.{InFlight, is_of, kept}
 use Rattle.check_coverage.specs.View.{Adds}
 use Rattle.check_coverage.proofs.Counted.{adds_ok}
@@ -19,19 +19,19 @@ pub adds_two : {E : Type 0} (old a b new : Counts) (x y : Bin) (rest : List Bin)
 adds_two old a b new x y rest r first second third =
     adds_ok old a new (x ∷ []) (y ∷ rest) r first (adds_ok a b new (y ∷ []) rest r second third)
 
-module _ (before : List InFlight) (this : InFlight) (flights : List Flight) (flight : Flight)
+module _ (before : List InFlight) (this : InFlight) (flights : List CountedFlight) (flight : CountedFlight)
     (is : flights ≡ map kept before) (is_this : flight ≡ kept this) where
-  pub count_master : length (filter (λ (other : Flight). other.master == flight.master) flights)
+  pub count_master : length (filter (λ (other : CountedFlight). other.master == flight.master) flights)
       ≡ length (filter (is_of_master this.master) before)
   count_master =
-      (λ i. length (filter (λ (other : Flight). other.master == (is_this i).master) (is i)))
-      ∙ filter_count (λ (other : Flight). other.master == this.master) before
+      (λ i. length (filter (λ (other : CountedFlight). other.master == (is_this i).master) (is i)))
+      ∙ filter_count (λ (other : CountedFlight). other.master == this.master) before
 
-  pub count_port : length (filter (λ (other : Flight). other.port == flight.port) flights)
+  pub count_port : length (filter (λ (other : CountedFlight). other.port == flight.port) flights)
       ≡ length (filter (is_of_port this.port) before)
   count_port =
-      (λ i. length (filter (λ (other : Flight). other.port == (is_this i).port) (is i)))
-      ∙ filter_count (λ (other : Flight). other.port == this.port) before
+      (λ i. length (filter (λ (other : CountedFlight). other.port == (is_this i).port) (is i)))
+      ∙ filter_count (λ (other : CountedFlight). other.port == this.port) before
 
   pub begin_is : (m p time : ℕ) (answered : Option ℕ) (rest : List Bin)
       → m ≡ with_one (filter (is_of_master this.master) before) → p ≡ with_one (filter (is_of_port this.port) before)
@@ -43,21 +43,21 @@ module _ (before : List InFlight) (this : InFlight) (flights : List Flight) (fli
   pub contested_is : (b : Bool) → b ≡ list_any (contests this) before → b ≡ true
       → (bin.Contested flight.port ∷ []) ≡ contested_bins before this
   contested_is b tells is_true =
-      ap (λ (f : Flight). bin.Contested f.port ∷ []) is_this
+      ap (λ (f : CountedFlight). bin.Contested f.port ∷ []) is_this
       ∙ ap (λ t. if t then bin.Contested this.port ∷ [] else []) (sym is_true ∙ tells)
 
   -- the oldest one of its master
-  pub oldest_is : find (λ (other : Flight). other.master == flight.master) flights
+  pub oldest_is : find (λ (other : CountedFlight). other.master == flight.master) flights
       ≡ option_map kept (find (is_of_master this.master) before)
   oldest_is =
-      (λ i. find (λ (other : Flight). other.master == (is_this i).master) (is i))
-      ∙ find_kept (λ (other : Flight). other.master == this.master) before
+      (λ i. find (λ (other : CountedFlight). other.master == (is_this i).master) (is i))
+      ∙ find_kept (λ (other : CountedFlight). other.master == this.master) before
 
-younger_by : (this : InFlight) (found : Option InFlight) (oldest : Flight) → Some oldest ≡ option_map kept found
+younger_by : (this : InFlight) (found : Option InFlight) (oldest : CountedFlight) → Some oldest ≡ option_map kept found
     → is_younger this found ≡ not (oldest.wide == this.wide)
 younger_by this None oldest is = absurd (none-some oldest (sym is))
 younger_by this (Some first) oldest is =
-    ap (λ (f : Flight). not (f.wide == this.wide)) (sym (same_Some oldest (kept first) is))
+    ap (λ (f : CountedFlight). not (f.wide == this.wide)) (sym (same_Some oldest (kept first) is))
 
 older_none : (this : InFlight) (found : Option InFlight) → None ≡ option_map kept found → is_younger this found ≡ false
 older_none this None is = refl
@@ -65,9 +65,9 @@ older_none this (Some first) is = absurd (none-some (kept first) is)
 
 module _ (before : List InFlight) (this : InFlight) where
   abbrev by : Bool → List Bin
-  by younger = if younger then bin.Overtook (pair_of this) ∷ [] else []
+  by younger = if younger then bin.Overtook (bin_pair this) ∷ [] else []
 
-  pub overtook_some : (oldest : Flight) (wide : ℕ) (younger : Bool)
+  pub overtook_some : (oldest : CountedFlight) (wide : ℕ) (younger : Bool)
       → Some oldest ≡ option_map kept (find (is_of_master this.master) before) → wide ≡ this.wide
       → not (oldest.wide == wide) ≡ younger → overtook_bins before this ≡ by younger
   overtook_some oldest wide younger is same told =
@@ -83,12 +83,12 @@ some_kept : (found : Option InFlight) → is_some (option_map kept found) ≡ is
 some_kept None = refl
 some_kept (Some flight) = refl
 
-pub record IsFound (found : Option InFlight) (flight : Flight) : Type 0 where
+pub record IsFound (found : Option InFlight) (flight : CountedFlight) : Type 0 where
   pub this : InFlight
   pub is : found ≡ Some this
   pub kept_is : flight ≡ kept this
 
-pub found_some : (found : Option InFlight) (flight : Flight) → Some flight ≡ option_map kept found → IsFound found flight
+pub found_some : (found : Option InFlight) (flight : CountedFlight) → Some flight ≡ option_map kept found → IsFound found flight
 found_some None flight is = absurd (none-some flight (sym is))
 found_some (Some this) flight is = record { this = this; is = refl; kept_is = same_Some flight (kept this) is }
 
@@ -96,13 +96,13 @@ pub found_none : (found : Option InFlight) → None ≡ option_map kept found �
 found_none None is = refl
 found_none (Some this) is = absurd (none-some (kept this) is)
 
-module _ (wide : ℕ) (before : List InFlight) (flights : List Flight) (is : flights ≡ map kept before) where
-  pub found_is : find (λ (flight : Flight). flight.wide == wide) flights ≡ option_map kept (find (is_of wide) before)
+module _ (wide : ℕ) (before : List InFlight) (flights : List CountedFlight) (is : flights ≡ map kept before) where
+  pub found_is : find (λ (flight : CountedFlight). flight.wide == wide) flights ≡ option_map kept (find (is_of wide) before)
   found_is =
-      (λ i. find (λ (flight : Flight). flight.wide == wide) (is i))
-      ∙ find_kept (λ (flight : Flight). flight.wide == wide) before
+      (λ i. find (λ (flight : CountedFlight). flight.wide == wide) (is i))
+      ∙ find_kept (λ (flight : CountedFlight). flight.wide == wide) before
 
-  pub any_is : (found : Option Flight) → found ≡ find (λ (flight : Flight). flight.wide == wide) flights
+  pub any_is : (found : Option CountedFlight) → found ≡ find (λ (flight : CountedFlight). flight.wide == wide) flights
       → list_any (is_of wide) before ≡ is_some found
   any_is found of =
       sym (found_any (is_of wide) before) ∙ sym (some_kept (find (is_of wide) before))

@@ -8,7 +8,7 @@ use Rattle.std.proofs.lemmas.List.FromFn.{map-range_with_len_more}
 use Rattle.std.specs.Int.{bit_at}
 use Rattle.std.proofs.lemmas.Bool.{lt-ltb, ltb-true}
 use Rattle.check_coverage.specs.declared.marks.Marks.{Marks}
-use Rattle.check_coverage.specs.Shape.{bytes_of, count_given, fits, is_even, is_low, lanes_given, marks_in, marks_of}
+use Rattle.check_coverage.specs.Shape.{sized_bytes, count_given, fits, is_even, is_low, lanes_given, marks_in, marks_of}
 
 -- ---- the first of them
 
@@ -98,11 +98,11 @@ marks_push size old x low even more is_l is_e is_m =
     }
 
 -- if there is room for it
-pub marks_more : (size : ℕ) (bytes : List Bool) (x low even : Bool) (more : ℕ) → length (bytes_of size bytes) < 2 ^ size
-    → low ≡ is_low size (length (bytes_of size bytes)) → even ≡ is_even (length (bytes_of size bytes))
-    → more ≡ count_given (bytes_of size bytes ++ x ∷ [])
+pub marks_more : (size : ℕ) (bytes : List Bool) (x low even : Bool) (more : ℕ) → length (sized_bytes size bytes) < 2 ^ size
+    → low ≡ is_low size (length (sized_bytes size bytes)) → even ≡ is_even (length (sized_bytes size bytes))
+    → more ≡ count_given (sized_bytes size bytes ++ x ∷ [])
     → record {
-      places = length (bytes_of size bytes) + 1;
+      places = length (sized_bytes size bytes) + 1;
       given = more;
       low = (marks_of size bytes).low && beq x low;
       high = (marks_of size bytes).high && beq x (not low);
@@ -110,11 +110,11 @@ pub marks_more : (size : ℕ) (bytes : List Bool) (x low even : Bool) (more : �
       odd = (marks_of size bytes).odd && beq x (not even);
     } ≡ marks_of size (bytes ++ x ∷ [])
 marks_more size bytes x low even more room is_l is_e is_m =
-    marks_push size (bytes_of size bytes) x low even more is_l is_e is_m
+    marks_push size (sized_bytes size bytes) x low even more is_l is_e is_m
     ∙ ap (marks_in size) (sym (take_short (2 ^ size) bytes x room))
 
 -- and nothing, if there is none
-pub marks_same : (size : ℕ) (bytes : List Bool) (x : Bool) → 2 ^ size ≤ length (bytes_of size bytes)
+pub marks_same : (size : ℕ) (bytes : List Bool) (x : Bool) → 2 ^ size ≤ length (sized_bytes size bytes)
     → marks_of size bytes ≡ marks_of size (bytes ++ x ∷ [])
 marks_same size bytes x full = ap (marks_in size) (sym (take_full (2 ^ size) bytes x full))
 
@@ -139,7 +139,7 @@ pub added_marks : (size : ℕ) (bytes : List Bool) (span : ℕ) (x : Bool) (was 
     → g ≡ (if x then (was.given + 1) % 2 ^ 64 else was.given)
     → record { places = was.places + 1; given = g; low = l; high = h; even = e; odd = o } ≡ marks_of size (bytes ++ x ∷ [])
 added_marks size bytes span x was is_span is small room l h e o g is_l is_h is_e is_o is_g =
-    let old = bytes_of size bytes in
+    let old = sized_bytes size bytes in
     let places : was.places ≡ length old = ap (λ m. m.places) is in
     let given : was.given ≡ count_given old = ap (λ m. m.given) is in
     let few : count_given old ≤ length old = count_at_most old in
@@ -164,7 +164,7 @@ added_marks size bytes span x was is_span is small room l h e o g is_l is_h is_e
 pub full_marks : (size : ℕ) (bytes : List Bool) (span : ℕ) (x : Bool) (was : Marks) → span ≡ 2 ^ size
     → was ≡ marks_of size bytes → span ≤ was.places → was ≡ marks_of size (bytes ++ x ∷ [])
 full_marks size bytes span x was is_span is full =
-    let places : was.places ≡ length (bytes_of size bytes) = ap (λ m. m.places) is in
+    let places : was.places ≡ length (sized_bytes size bytes) = ap (λ m. m.places) is in
     is ∙ marks_same size bytes x (omega (arith, places, full, is_span))
 
 -- one lane more of a beat

@@ -8,7 +8,7 @@ use Rattle.check_rows.specs.Row.{SeenRow}
 use Rattle.check_coverage.specs.declared.bin.Bin.{Bin}
 use Rattle.check_coverage.specs.declared.coverage.Coverage.{Coverage}
 use Rattle.check_coverage.specs.Bins.{bins, bins_by, bins_of}
-use Rattle.check_coverage.specs.Flights.{InFlight, answered_at, end_of, ends_reply, flights_after, in_flight, is_counted, kept, wide_at}
+use Rattle.check_coverage.specs.Flights.{InFlight, answered_at, end_of, ends_at_reply, flights_after, in_flight, is_counted, kept, wide_at}
 use Rattle.check_coverage.specs.Text.{TellsCoverage, bin_line}
 use Rattle.check_coverage.specs.View.{Covers, IsNoted, bin_cmp, capped, how_often}
 use Rattle.check_coverage.proofs.Counted.{how_often-append}
@@ -23,7 +23,7 @@ module _ (plan : Plan) (before : List SeenRow) (row : SeenRow) where
 
   abbrev answered_by : ℕ → Bool → Option ℕ
   answered_by wide counted =
-      if counted && (ends_reply row.sighting.beat (end_of plan before row) && (wide_at plan row.sighting == wide))
+      if counted && (ends_at_reply row.sighting.beat (end_of plan before row) && (wide_at plan row.sighting == wide))
       then Some row.time
       else answered_at plan before wide
 
@@ -54,7 +54,7 @@ module _ (plan : Plan) (before : List SeenRow) (row : SeenRow) where
         row.sighting.beat (end_of plan before row))) is_bus
         ∙ ap (λ b. map kept (flights_by b)) (sym is);
     answered = λ wide. noted.answered wide
-        ∙ ap (λ o. if ends_reply row.sighting.beat (end_of plan before row) && (wide_at plan row.sighting == wide)
+        ∙ ap (λ o. if ends_at_reply row.sighting.beat (end_of plan before row) && (wide_at plan row.sighting == wide)
         then Some row.time else o) (covers.answered wide)
         ∙ ap (λ b. answered_by wide b) (sym is);
     counts = λ bin.

@@ -7,13 +7,13 @@ use Rattle.std.specs.declared.cmp.Ordering.{Ordering}
 use Rattle.std.specs.declared.cmp.Ordering.TheVariants.{Less, Equal, Greater}
 use Rattle.std.proofs.lemmas.Bool.{true≢false}
 use Rattle.std.proofs.lemmas.Map.Lookups.{exact_unsigned}
-use Rattle.check_coverage.specs.contracts.bin.ChannelOrd.TheImpl as channel_ord
+use Rattle.check_coverage.specs.contracts.bin.CountedChannelOrd.TheImpl as channel_ord
 use Rattle.check_coverage.specs.contracts.bin.OperationOrd.TheImpl as operation_ord
 use Rattle.check_coverage.specs.contracts.bin.PairOrd.TheImpl as pair_ord
 use Rattle.check_coverage.specs.contracts.bin.ShapeOrd.TheImpl as shape_ord
 use Rattle.check_coverage.specs.declared.bin.Bin.{Bin}
-use Rattle.check_coverage.specs.declared.bin.Channel.{Channel}
-use Rattle.check_coverage.specs.declared.bin.Channel.TheVariants.{A, D}
+use Rattle.check_coverage.specs.declared.bin.CountedChannel.{CountedChannel}
+use Rattle.check_coverage.specs.declared.bin.CountedChannel.TheVariants.{A, D}
 use Rattle.check_coverage.specs.declared.bin.Operation.{Operation}
 use Rattle.check_coverage.specs.declared.bin.Pair.{Pair}
 use Rattle.check_coverage.specs.declared.bin.Shape.{Shape}
@@ -32,7 +32,7 @@ bool_exact true false is = absurd (cc)
 bool_exact false true is = absurd (cc)
 bool_exact false false is = refl
 
-channel_exact : (a b : Channel) → (channel_ord.ghosts).cmp a b ≡ Equal → a ≡ b
+channel_exact : (a b : CountedChannel) → (channel_ord.ghosts).cmp a b ≡ Equal → a ≡ b
 channel_exact A A is = refl
 channel_exact D D is = refl
 channel_exact a b is = absurd (true≢false (ap is_eq (sym is)))

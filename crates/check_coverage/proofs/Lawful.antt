@@ -1,14 +1,14 @@
 -- What a lawful row has: a size within the limit, and a source of its link.
 use Rattle.std.proofs.Common.{◌≡◌, ℕ, Bool, true, false, List, ◌∷◌, Option, Some, refl, ap, sym, subst}
 use Rattle.std.specs.Prelude.{◌↔◌, if◌then◌else◌}
-use Rattle.check_map.specs.Owner.{IsWide}
+use Rattle.check_map.specs.Owner.{IsWideSource}
 use Rattle.check_map.specs.declared.sources.Owner.{Owner}
 use Rattle.check_watch.specs.declared.beat.Beat.{Beat}
 use Rattle.check_watch.specs.declared.beat.Beat.TheVariants.{A, D}
 use Rattle.check_watch.specs.declared.beat.Link.{Link}
 use Rattle.check_watch.specs.declared.beat.Link.TheVariants.{Master, Port}
 use Rattle.check_watch.specs.Lawful.{IsAllowedBeat}
-use Rattle.check_watch.specs.Plan.{HasSource, Plan as GroupPlan, Sighting, source_of, wide_of}
+use Rattle.check_watch.specs.Plan.{HasSource, GroupPlan, Sighting, source_of, wide_of}
 use Rattle.check_watch.specs.Scene.{Scene}
 use Rattle.check_sides.specs.declared.links.Links.{Links}
 use Rattle.check_sides.specs.declared.links.Links.TheVariants.{Both, Masters, Ports, Each}
@@ -45,14 +45,14 @@ module _ (plan : Plan) (past : List Sighting) (x : Sighting) (is_plan : IsPlan p
       (allowed_source (plan_at plan x.link) (scene plan past x) x x.beat lawful.1)
 
   -- a master's link has the wide source of the beat
-  wide_of_master : (m wide : ℕ) → IsWide plan.layout.owners m (source_of x.beat) wide
-      → IsWide plan.layout.owners m (source_of x.beat) (plan.wide m (source_of x.beat))
+  wide_of_master : (m wide : ℕ) → IsWideSource plan.layout.owners m (source_of x.beat) wide
+      → IsWideSource plan.layout.owners m (source_of x.beat) (plan.wide m (source_of x.beat))
   wide_of_master m wide is =
-      subst (λ w. IsWide plan.layout.owners m (source_of x.beat) w) (sym (is_plan.wide m (source_of x.beat) wide is)) is
+      subst (λ w. IsWideSource plan.layout.owners m (source_of x.beat) w) (sym (is_plan.wide m (source_of x.beat) wide is)) is
 
   pub found_wide : (owners : List Owner) (result : Option ℕ) → owners ≡ plan.layout.owners
       → ((number wide : ℕ) → x.link ≡ Master number
-      → (result ≡ Some wide) ↔ IsWide owners number (source_of x.beat) wide)
+      → (result ≡ Some wide) ↔ IsWideSource owners number (source_of x.beat) wide)
       → ((number : ℕ) → x.link ≡ Port number → result ≡ Some (source_of x.beat)) → result ≡ Some (wide_at plan x)
   found_wide owners result same of_master of_port = go x.link refl has_source
     where
@@ -60,6 +60,6 @@ module _ (plan : Plan) (past : List Sighting) (x : Sighting) (is_plan : IsPlan p
           → result ≡ Some (wide_of (shared_plan plan) link (source_of x.beat))
       go (Master m) is has =
           (of_master m (plan.wide m (source_of x.beat)) is).1
-          (subst (λ o. IsWide o m (source_of x.beat) (plan.wide m (source_of x.beat))) (sym same)
+          (subst (λ o. IsWideSource o m (source_of x.beat) (plan.wide m (source_of x.beat))) (sym same)
           (wide_of_master m has.0 has.1))
       go (Port p) is has = of_port p is

@@ -13,9 +13,9 @@ use Rattle.check_watch.specs.declared.seen.Ended.{Ended}
 use Rattle.check_watch.specs.declared.seen.Ended.TheVariants as ends
 use Rattle.check_sides.specs.Plan.{Plan}
 use Rattle.check_coverage.specs.declared.coverage.Coverage.{Coverage}
-use Rattle.check_coverage.specs.declared.flight.Flight.{Flight}
+use Rattle.check_coverage.specs.declared.flight.CountedFlight.{CountedFlight}
 use Rattle.check_coverage.specs.Bins.{first_bins, last_bins, of_found, reply_bins}
-use Rattle.check_coverage.specs.Flights.{InFlight, flights_after, is_of, is_whole_ask, kept, with_beat, with_begun}
+use Rattle.check_coverage.specs.Flights.{InFlight, flights_after, is_of, ends_an_ask, kept, with_beat, with_begun}
 use Rattle.check_coverage.specs.View.{Adds, IsNoted}
 use Rattle.check_coverage.proofs.Counted.{adds_then}
 use Rattle.check_coverage.proofs.Places.{filter_kept}
@@ -27,14 +27,14 @@ ok_then (Err fault) next first = tt
 -- ---- a beat of channel A: its request begins if none is in flight, has one beat more, and ends
 
 module _ (plan : Plan) (bus wide time : ℕ) (beat : AskHead) (end : Ended) (old mid : Coverage)
-    (grown : Vec Flight Global) (whole : Bool) (new : Coverage) (answered : mid.answered ≡ old.answered)
+    (grown : Vec CountedFlight Global) (whole : Bool) (new : Coverage) (answered : mid.answered ≡ old.answered)
     (flights : (before : List InFlight) → old.flights.items ≡ map kept before
     → mid.flights.items ≡ map kept (with_begun plan wide beat before))
     (counts : (before : List InFlight) → old.flights.items ≡ map kept before
     → Adds old.counts mid.counts (first_bins plan wide before time (get nat_cmp old.answered wide) beat))
     (grows : (before : List InFlight) → mid.flights.items ≡ map kept before
     → grown.items ≡ map kept (map (with_beat bus wide beat whole) before))
-    (is_whole : whole ≡ is_whole_ask end) where
+    (is_whole : whole ≡ ends_an_ask end) where
   after_grown : (before : List InFlight) → old.flights.items ≡ map kept before
       → grown.items ≡ map kept (flights_after plan bus wide before (A beat) end)
   after_grown before is =
@@ -72,11 +72,11 @@ same_number a b = go (cases_lt a b)
     go (inr above) =
         ap (λ t. is_eq (cond t Less (cond (a == b) Equal Greater))) (le-ltb a b above) ∙ equal_is (a == b)
 
-pub reply_noted : (plan : Plan) (bus wide time : ℕ) (beat : ReplyHead) (old mid : Coverage) (left : Vec Flight Global)
+pub reply_noted : (plan : Plan) (bus wide time : ℕ) (beat : ReplyHead) (old mid : Coverage) (left : Vec CountedFlight Global)
     (times : BTreeMap ℕ ℕ) → mid.answered ≡ old.answered → mid.flights ≡ old.flights
     → ((before : List InFlight) → old.flights.items ≡ map kept before
     → Adds old.counts mid.counts (of_found (find (is_of wide) before) (reply_bins bus before beat)))
-    → left.items ≡ filter (λ (flight : Flight). not (flight.wide == wide)) mid.flights.items
+    → left.items ≡ filter (λ (flight : CountedFlight). not (flight.wide == wide)) mid.flights.items
     → Updates nat_cmp mid.answered times wide (Some time)
     → IsNoted plan bus wide time (D beat) ends.Reply old (record mid { flights = left; answered = times })
 reply_noted plan bus wide time beat old mid left times answered flights counts lefts updates = record {
@@ -84,7 +84,7 @@ reply_noted plan bus wide time beat old mid left times answered flights counts l
       ∙ ap (λ b. cond b (Some time) (get nat_cmp mid.answered other)) (same_number wide other)
       ∙ ap (λ m. cond (wide == other) (Some time) (get nat_cmp m other)) answered;
   flights = λ before is. lefts
-      ∙ ap (filter (λ (flight : Flight). not (flight.wide == wide))) (ap (λ v. v.items) flights ∙ is)
+      ∙ ap (filter (λ (flight : CountedFlight). not (flight.wide == wide))) (ap (λ v. v.items) flights ∙ is)
       ∙ filter_kept (λ flight. not (flight.wide == wide)) before;
   counts = counts;
 }

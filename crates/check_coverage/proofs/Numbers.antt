@@ -11,8 +11,8 @@ use Rattle.check_sides.specs.Plan.{Plan, bus_of}
 use Rattle.check_rows.specs.Row.{SeenRow}
 use Rattle.check_coverage.specs.declared.bin.Bin.{Bin}
 use Rattle.check_coverage.specs.declared.bin.Bin.TheVariants as bin
-use Rattle.check_coverage.specs.Bins.{IsUpTo64, again, ask_bins, begin_bins, bins, bins_by, bins_of, contested_bins, contests, first_bins, is_of_master, is_younger, last_bins, mask_bins, of_found, pair_of, reply_bins, with_one}
-use Rattle.check_coverage.specs.Flights.{InFlight, answered_at, begun, end_of, flights_after, in_flight, is_counted, is_of, is_whole_ask, is_whole_reply, wide_at}
+use Rattle.check_coverage.specs.Bins.{IsUpTo64, again, ask_bins, begin_bins, bins, bins_by, bins_of, contested_bins, contests, first_bins, is_of_master, is_younger, last_bins, mask_bins, of_found, bin_pair, reply_bins, with_one}
+use Rattle.check_coverage.specs.Flights.{InFlight, answered_at, begun, end_of, flights_after, in_flight, is_counted, is_of, ends_an_ask, ends_a_reply, wide_at}
 use Rattle.check_coverage.specs.Shape.{shape_of}
 
 abbrev AllUpTo64 : List Bin → Type 0
@@ -45,7 +45,7 @@ ask_up bus flights beat flight = (
 )
   where
     mask : (b : Bool) → AllUpTo64
-        (if b then bin.Mask (pair_of flight) (shape_of flight.first.size flight.given) ∷ [] else [])
+        (if b then bin.Mask (bin_pair flight) (shape_of flight.first.size flight.given) ∷ [] else [])
     mask true = (tt, tt)
     mask false = tt
 
@@ -58,7 +58,7 @@ reply_up : (bus : ℕ) (flights : List InFlight) (beat : ReplyHead) (flight : In
 reply_up bus flights beat flight =
     (tt, (tt, overtook (is_younger flight (find (is_of_master flight.master) flights))))
   where
-    overtook : (b : Bool) → AllUpTo64 (if b then bin.Overtook (pair_of flight) ∷ [] else [])
+    overtook : (b : Bool) → AllUpTo64 (if b then bin.Overtook (bin_pair flight) ∷ [] else [])
     overtook true = (tt, tt)
     overtook false = tt
 
@@ -72,7 +72,7 @@ module _ (plan : Plan) (bus wide : ℕ) (flights : List InFlight) (time : ℕ) (
   beat_up (A beat) =
       both (first_bins plan wide flights time answered beat)
       (last_bins bus wide (flights_after plan bus wide flights (A beat) end) beat end)
-      (first (list_any (is_of wide) flights)) (last (is_whole_ask end))
+      (first (list_any (is_of wide) flights)) (last (ends_an_ask end))
     where
       first : (b : Bool) → AllUpTo64 (if b then [] else begin_bins flights (begun plan wide beat) time answered)
       first true = tt
@@ -84,7 +84,7 @@ module _ (plan : Plan) (bus wide : ℕ) (flights : List InFlight) (time : ℕ) (
       last true = found_up (find (is_of wide) (flights_after plan bus wide flights (A beat) end)) _
           (ask_up bus (flights_after plan bus wide flights (A beat) end) beat)
       last false = tt
-  beat_up (D beat) = go (is_whole_reply end)
+  beat_up (D beat) = go (ends_a_reply end)
     where
       go : (b : Bool) → AllUpTo64 (if b then of_found (find (is_of wide) flights) (reply_bins bus flights beat) else [])
       go true = found_up (find (is_of wide) flights) _ (reply_up bus flights beat)

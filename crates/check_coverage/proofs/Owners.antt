@@ -3,7 +3,7 @@ use Rattle.std.proofs.Common.{◌≡◌, ◌∙◌, ℕ, zero, suc, ◌+◌, ◌
 use Rattle.std.specs.Prelude.{◌==◌, if◌then◌else◌}
 use Rattle.std.specs.List.{list_any, range_with_len}
 use Rattle.std.proofs.lemmas.Bool.{cases_eq, or_cases, or_left, or_right, true≢false}
-use Rattle.check_map.specs.Owner.{IsOf, IsWide, Widens}
+use Rattle.check_map.specs.Owner.{IsOf, IsWideSource, Widens}
 use Rattle.check_map.specs.Sources.{AreLawfulOwners}
 use Rattle.check_map.specs.declared.sources.Owner.{Owner}
 use Rattle.check_coverage.specs.Flights.{master_of, owns}
@@ -86,13 +86,13 @@ is_master (owner ∷ owners) m wide of = go (owns owner wide) refl m of (λ k ha
     go false is (suc k) has rest = owned_later owner owners wide is (rest k has)
 
 -- no two masters have a wide source in common
-pub master_is : (owners : List Owner) (m source wide : ℕ) → AreLawfulOwners owners → IsWide owners m source wide
+pub master_is : (owners : List Owner) (m source wide : ℕ) → AreLawfulOwners owners → IsWideSource owners m source wide
     → m ≡ master_of owners wide
 master_is owners m source wide lawful is =
     lawful.apart m (master_of owners wide) wide
     (record { of_one = (source, is); of_other = is_master owners m wide (source, is) })
 
-pub master_none : (owners : List Owner) (wide : ℕ) → ((m source : ℕ) → IsWide owners m source wide → ⊥)
+pub master_none : (owners : List Owner) (wide : ℕ) → ((m source : ℕ) → IsWideSource owners m source wide → ⊥)
     → length owners ≡ master_of owners wide
 master_none [] wide none = refl
 master_none (owner ∷ owners) wide none =

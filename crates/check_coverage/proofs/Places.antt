@@ -6,10 +6,10 @@ use Rattle.std.proofs.lemmas.Bool.{or_from}
 use Rattle.std.proofs.lemmas.List.{get_or-map, take_all}
 use Rattle.std.proofs.lemmas.List.Folds.{list_any_at, list_any_more}
 use Rattle.std.proofs.lemmas.Option.{same_Some, slice_get-get_or}
-use Rattle.check_coverage.specs.declared.flight.Flight.{Flight}
+use Rattle.check_coverage.specs.declared.flight.CountedFlight.{CountedFlight}
 use Rattle.check_coverage.specs.Flights.{InFlight, kept}
 
-pub find_kept : (test : Flight → Bool) (flights : List InFlight)
+pub find_kept : (test : CountedFlight → Bool) (flights : List InFlight)
     → find test (map kept flights) ≡ option_map kept (find (λ flight. test (kept flight)) flights)
 find_kept test [] = refl
 find_kept test (x ∷ xs) = go (test (kept x)) (find_kept test xs)
@@ -20,7 +20,7 @@ find_kept test (x ∷ xs) = go (test (kept x)) (find_kept test xs)
     go true rest = refl
     go false rest = rest
 
-pub filter_kept : (test : Flight → Bool) (flights : List InFlight)
+pub filter_kept : (test : CountedFlight → Bool) (flights : List InFlight)
     → filter test (map kept flights) ≡ map kept (filter (λ flight. test (kept flight)) flights)
 filter_kept test [] = refl
 filter_kept test (x ∷ xs) = go (test (kept x)) (filter_kept test xs)
@@ -35,7 +35,7 @@ length_kept : (flights : List InFlight) → length (map kept flights) ≡ length
 length_kept [] = refl
 length_kept (x ∷ xs) = ap suc (length_kept xs)
 
-pub filter_count : (test : Flight → Bool) (flights : List InFlight)
+pub filter_count : (test : CountedFlight → Bool) (flights : List InFlight)
     → length (filter test (map kept flights)) ≡ length (filter (λ flight. test (kept flight)) flights)
 filter_count test flights = ap length (filter_kept test flights) ∙ length_kept (filter (λ flight. test (kept flight)) flights)
 
@@ -62,7 +62,7 @@ upto_none change [] = refl
 upto_none change (x ∷ xs) = refl
 
 -- one place more is changed
-pub upto_more : (change : InFlight → InFlight) (flights : List InFlight) (n : ℕ) (old new : Flight)
+pub upto_more : (change : InFlight → InFlight) (flights : List InFlight) (n : ℕ) (old new : CountedFlight)
     → slice_get (map kept (upto change flights n)) n ≡ Some old
     → ((flight : InFlight) → old ≡ kept flight → new ≡ kept (change flight))
     → slice_set (map kept (upto change flights n)) n new ≡ map kept (upto change flights (n + 1))
@@ -85,7 +85,7 @@ upto_past change (x ∷ xs) (suc n) past = ap (λ l. change x ∷ l) (upto_past 
 
 -- ---- what is kept, place by place
 
-pub grow_first : (change : InFlight → InFlight) (before : List InFlight) (items : List Flight) → items ≡ map kept before
+pub grow_first : (change : InFlight → InFlight) (before : List InFlight) (items : List CountedFlight) → items ≡ map kept before
     → items ≡ map kept (upto change before 0)
 grow_first change before items is = is ∙ ap (map kept) (sym (upto_none change before))
 
@@ -94,7 +94,7 @@ length_upto change [] n = refl
 length_upto change (x ∷ xs) zero = refl
 length_upto change (x ∷ xs) (suc n) = ap suc (length_upto change xs n)
 
-pub grow_more : (change : InFlight → InFlight) (before : List InFlight) (n : ℕ) (old items : List Flight) (new d : Flight)
+pub grow_more : (change : InFlight → InFlight) (before : List InFlight) (n : ℕ) (old items : List CountedFlight) (new d : CountedFlight)
     → old ≡ map kept before → items ≡ map kept (upto change before n) → n < length old
     → ((flight : InFlight) → get_or items n d ≡ kept flight → new ≡ kept (change flight))
     → slice_set items n new ≡ map kept (upto change before (n + 1))
@@ -107,7 +107,7 @@ grow_more change before n old items new d was is within changes =
     (subst (λ l. slice_get l n ≡ Some (get_or items n d)) is
     (slice_get-get_or items n d (omega (arith, long, same, within)))) changes
 
-pub grow_all : (change : InFlight → InFlight) (before : List InFlight) (n : ℕ) (old items : List Flight)
+pub grow_all : (change : InFlight → InFlight) (before : List InFlight) (n : ℕ) (old items : List CountedFlight)
     → old ≡ map kept before → length old ≤ n → items ≡ map kept (upto change before n) → items ≡ map kept (map change before)
 grow_all change before n old items was past is =
     let long : length old ≡ length before = ap length was ∙ length_kept before in
@@ -125,7 +125,7 @@ no_flight = record {
   is_whole = false;
 }
 
-abbrev pub not_kept : Flight
+abbrev pub not_kept : CountedFlight
 not_kept = record {
   wide = 0;
   master = 0;
@@ -137,8 +137,8 @@ not_kept = record {
   is_whole = false;
 }
 
-module _ (test : InFlight → Bool) (before : List InFlight) (flights : List Flight) (is : flights ≡ map kept before)
-    (i : ℕ) (d : Flight) where
+module _ (test : InFlight → Bool) (before : List InFlight) (flights : List CountedFlight) (is : flights ≡ map kept before)
+    (i : ℕ) (d : CountedFlight) where
   within_before : i < length flights → i < length before
   within_before within =
       let long : length flights ≡ length before = ap length is ∙ length_kept before in omega (arith, long, within)

@@ -12,10 +12,10 @@ use Rattle.check_sides.specs.Plan.{Plan, bus_of}
 use Rattle.check_rows.specs.Row.{SeenRow}
 use Rattle.check_coverage.specs.declared.bin.Bin.{Bin}
 use Rattle.check_coverage.specs.declared.bin.Bin.TheVariants as bin
-use Rattle.check_coverage.specs.declared.bin.Channel.TheVariants as channel
+use Rattle.check_coverage.specs.declared.bin.CountedChannel.TheVariants as channel
 use Rattle.check_coverage.specs.declared.bin.Operation.{Operation}
 use Rattle.check_coverage.specs.declared.bin.Pair.{Pair}
-use Rattle.check_coverage.specs.Flights.{InFlight, answered_at, begun, end_of, flights_after, in_flight, is_counted, is_of, is_unaligned, is_whole_ask, is_whole_reply, wide_at}
+use Rattle.check_coverage.specs.Flights.{InFlight, answered_at, begun, end_of, flights_after, in_flight, is_counted, is_of, is_unaligned, ends_an_ask, ends_a_reply, wide_at}
 use Rattle.check_coverage.specs.Shape.{shape_of}
 
 -- ---- a request begins
@@ -48,8 +48,8 @@ begin_bins flights flight time answered =
 
 -- ---- a request is whole
 
-abbrev pub pair_of : InFlight → Pair
-pair_of flight = record { master = flight.master; port = flight.port }
+abbrev pub bin_pair : InFlight → Pair
+bin_pair flight = record { master = flight.master; port = flight.port }
 
 abbrev pub operation_of : InFlight → Operation
 operation_of flight = record { opcode = flight.first.opcode; param = flight.first.param; size = flight.first.size }
@@ -72,7 +72,7 @@ contests flight other =
 -- a partial put gives bytes
 abbrev pub mask_bins : InFlight → List Bin
 mask_bins flight =
-    if flight.first.opcode == 1 then bin.Mask (pair_of flight) (shape_of flight.first.size flight.given) ∷ [] else []
+    if flight.first.opcode == 1 then bin.Mask (bin_pair flight) (shape_of flight.first.size flight.given) ∷ [] else []
 
 abbrev pub contested_bins : List InFlight → InFlight → List Bin
 contested_bins flights flight = if list_any (contests flight) flights then bin.Contested flight.port ∷ [] else []
@@ -80,8 +80,8 @@ contested_bins flights flight = if list_any (contests flight) flights then bin.C
 -- what the last beat of a request adds on a bus of so many bytes, when these are in flight, and it is one of them
 abbrev pub ask_bins : ℕ → List InFlight → AskHead → InFlight → List Bin
 ask_bins bus flights beat flight =
-    bin.Asked (pair_of flight) (operation_of flight) (is_unaligned flight.first)
-    ∷ bin.Beats (pair_of flight) channel.A (ask_beats bus beat)
+    bin.Asked (bin_pair flight) (operation_of flight) (is_unaligned flight.first)
+    ∷ bin.Beats (bin_pair flight) channel.A (ask_beats bus beat)
     ∷ (mask_bins flight ++ contested_bins flights flight)
 
 -- ---- a reply is whole
@@ -93,13 +93,13 @@ is_younger flight (Some oldest) = not (is_of flight.wide oldest)
 
 abbrev pub overtook_bins : List InFlight → InFlight → List Bin
 overtook_bins flights flight =
-    if is_younger flight (find (is_of_master flight.master) flights) then bin.Overtook (pair_of flight) ∷ [] else []
+    if is_younger flight (find (is_of_master flight.master) flights) then bin.Overtook (bin_pair flight) ∷ [] else []
 
 -- what the last beat of a reply adds on a bus of so many bytes, when these are in flight, and it answers this one
 abbrev pub reply_bins : ℕ → List InFlight → ReplyHead → InFlight → List Bin
 reply_bins bus flights beat flight =
-    bin.Answered (pair_of flight) (operation_of flight) beat.denied
-    ∷ bin.Beats (pair_of flight) channel.D (reply_beats bus beat)
+    bin.Answered (bin_pair flight) (operation_of flight) beat.denied
+    ∷ bin.Beats (bin_pair flight) channel.D (reply_beats bus beat)
     ∷ overtook_bins flights flight
 
 -- ---- rows
@@ -117,7 +117,7 @@ first_bins plan wide flights time answered beat =
 -- what it adds as the last one, when these are in flight after it
 abbrev pub last_bins : ℕ → ℕ → List InFlight → AskHead → Ended → List Bin
 last_bins bus wide flights beat end =
-    if is_whole_ask end then of_found (find (is_of wide) flights) (ask_bins bus flights beat) else []
+    if ends_an_ask end then of_found (find (is_of wide) flights) (ask_bins bus flights beat) else []
 
 -- what one beat more adds when these are in flight before it
 abbrev pub bins_by : Plan → ℕ → ℕ → List InFlight → ℕ → Option ℕ → Beat → Ended → List Bin
@@ -125,7 +125,7 @@ bins_by plan bus wide flights time answered (A beat) end =
     first_bins plan wide flights time answered beat
     ++ last_bins bus wide (flights_after plan bus wide flights (A beat) end) beat end
 bins_by plan bus wide flights time answered (D beat) end =
-    if is_whole_reply end then of_found (find (is_of wide) flights) (reply_bins bus flights beat) else []
+    if ends_a_reply end then of_found (find (is_of wide) flights) (reply_bins bus flights beat) else []
 
 -- what a row adds after the rows before it
 abbrev pub bins_of : Plan → List SeenRow → SeenRow → List Bin

@@ -12,7 +12,7 @@ use Rattle.check_watch.specs.declared.beat.Link.TheVariants.{Master, Port}
 use Rattle.check_watch.specs.declared.seen.Ended.{Ended}
 use Rattle.check_watch.specs.declared.seen.Ended.TheVariants as ends
 use Rattle.check_watch.specs.Plan.{Sighting, source_of, wide_of}
-use Rattle.check_watch.specs.Scene.{ended}
+use Rattle.check_watch.specs.Scene.{ended_by}
 use Rattle.check_sides.specs.declared.links.Links.{Links}
 use Rattle.check_sides.specs.declared.links.Links.TheVariants.{Both, Masters, Ports, Each}
 use Rattle.check_sides.specs.Groups.{shared_plan}
@@ -21,7 +21,7 @@ use Rattle.check_sides.specs.Plan.{Plan, bus_of}
 use Rattle.check_rows.specs.Row.{SeenRow}
 use Rattle.check_unanswered.specs.Began.{beats_of}
 use Rattle.check_coverage.specs.Shape.{given_in, marks_of}
-use Rattle.check_coverage.specs.declared.flight.Flight.{Flight}
+use Rattle.check_coverage.specs.declared.flight.CountedFlight.{CountedFlight}
 
 -- messages are counted at the masters' links if these are watched, else at the ports'
 abbrev pub is_counted : Links → Link → Bool
@@ -58,17 +58,17 @@ HasSize (D beat) = beat.size ≤ MAX_SIZE
 
 -- what the beat of a row ends after the rows before it
 abbrev pub end_of : Plan → List SeenRow → SeenRow → Ended
-end_of plan before row = ended (what_is_seen plan (beats_of before) row.sighting)
+end_of plan before row = ended_by (what_is_seen plan (beats_of before) row.sighting)
 
-abbrev pub is_whole_ask : Ended → Bool
-is_whole_ask ends.Part = false
-is_whole_ask ends.Ask = true
-is_whole_ask ends.Reply = false
+abbrev pub ends_an_ask : Ended → Bool
+ends_an_ask ends.Part = false
+ends_an_ask ends.Ask = true
+ends_an_ask ends.Reply = false
 
-abbrev pub is_whole_reply : Ended → Bool
-is_whole_reply ends.Part = false
-is_whole_reply ends.Ask = false
-is_whole_reply ends.Reply = true
+abbrev pub ends_a_reply : Ended → Bool
+ends_a_reply ends.Part = false
+ends_a_reply ends.Ask = false
+ends_a_reply ends.Reply = true
 
 -- ---- requests in flight
 
@@ -113,9 +113,9 @@ with_beat bus wide beat is_whole flight = if is_of wide flight then grown bus be
 -- its reply
 abbrev pub flights_after : Plan → ℕ → ℕ → List InFlight → Beat → Ended → List InFlight
 flights_after plan bus wide flights (A beat) end =
-    map (with_beat bus wide beat (is_whole_ask end)) (with_begun plan wide beat flights)
+    map (with_beat bus wide beat (ends_an_ask end)) (with_begun plan wide beat flights)
 flights_after plan bus wide flights (D beat) end =
-    if is_whole_reply end then filter (λ flight. not (is_of wide flight)) flights else flights
+    if ends_a_reply end then filter (λ flight. not (is_of wide flight)) flights else flights
 
 -- the requests in flight after some rows, the one that began first in front
 abbrev pub in_flight : Plan → List SeenRow → List InFlight
@@ -129,16 +129,16 @@ in_flight plan (row ∷ before) =
 -- ---- replies
 
 -- the beat is one of channel D, and ends a reply
-abbrev pub ends_reply : Beat → Ended → Bool
-ends_reply (A beat) end = false
-ends_reply (D beat) end = is_whole_reply end
+abbrev pub ends_at_reply : Beat → Ended → Bool
+ends_at_reply (A beat) end = false
+ends_at_reply (D beat) end = ends_a_reply end
 
 -- when the last reply to a wide source ended, if one did
 abbrev pub answered_at : Plan → List SeenRow → ℕ → Option ℕ
 answered_at plan [] wide = None
 answered_at plan (row ∷ before) wide =
     if is_counted plan.layout.links row.sighting.link
-    && (ends_reply row.sighting.beat (end_of plan before row) && (wide_at plan row.sighting == wide))
+    && (ends_at_reply row.sighting.beat (end_of plan before row) && (wide_at plan row.sighting == wide))
     then Some row.time
     else answered_at plan before wide
 
@@ -147,7 +147,7 @@ answered_at plan (row ∷ before) wide =
 abbrev pub is_unaligned : AskHead → Bool
 is_unaligned beat = not (beat.address % 2 ^ beat.size == 0)
 
-abbrev pub kept : InFlight → Flight
+abbrev pub kept : InFlight → CountedFlight
 kept flight = record {
   wide = flight.wide;
   master = flight.master;

@@ -36,25 +36,25 @@ abbrev pub is_even : ℕ → Bool
 is_even place = place % 2 == 0
 
 -- a request of this size has so many bytes
-abbrev pub bytes_of : ℕ → List Bool → List Bool
-bytes_of size bytes = take (2 ^ size) bytes
+abbrev pub sized_bytes : ℕ → List Bool → List Bool
+sized_bytes size bytes = take (2 ^ size) bytes
 
 -- the first pattern that the bytes of a request of this size have
 abbrev pub pattern_of : ℕ → List Bool → Shape
 pattern_of size bytes =
-    if fits (is_low size) 0 (bytes_of size bytes) then Low
-    else if fits (λ place. not (is_low size place)) 0 (bytes_of size bytes) then High
-    else if fits is_even 0 (bytes_of size bytes) then Even
-    else if fits (λ place. not (is_even place)) 0 (bytes_of size bytes) then Odd
+    if fits (is_low size) 0 (sized_bytes size bytes) then Low
+    else if fits (λ place. not (is_low size place)) 0 (sized_bytes size bytes) then High
+    else if fits is_even 0 (sized_bytes size bytes) then Even
+    else if fits (λ place. not (is_even place)) 0 (sized_bytes size bytes) then Odd
     else Other
 
 -- the first shape that they have
 abbrev pub shape_of : ℕ → List Bool → Shape
 shape_of size bytes =
-    if count_given (bytes_of size bytes) == 0 then Empty
-    else if count_given (bytes_of size bytes) == 2 ^ size then Full
-    else if count_given (bytes_of size bytes) == 1 then One
-    else if count_given (bytes_of size bytes) + 1 == 2 ^ size then Hole
+    if count_given (sized_bytes size bytes) == 0 then Empty
+    else if count_given (sized_bytes size bytes) == 2 ^ size then Full
+    else if count_given (sized_bytes size bytes) == 1 then One
+    else if count_given (sized_bytes size bytes) + 1 == 2 ^ size then Hole
     else pattern_of size bytes
 
 -- what is kept of bytes of a request of this size
@@ -70,4 +70,4 @@ marks_in size bytes = record {
 
 -- what is kept of the bytes so far
 abbrev pub marks_of : ℕ → List Bool → Marks
-marks_of size bytes = marks_in size (bytes_of size bytes)
+marks_of size bytes = marks_in size (sized_bytes size bytes)

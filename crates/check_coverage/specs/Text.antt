@@ -5,14 +5,14 @@ use Rattle.std.specs.Fmt.{decimal}
 use Rattle.std.specs.BTreeMap.{is_at}
 use Rattle.std.specs.List.Sorted.{IsStrictlySortedBy}
 use Rattle.std.specs.Map.{keys_of, lookup, values_of}
-use Rattle.tl_text.specs.Name.{word_of}
+use Rattle.tl_text.specs.Name.{operation_word}
 use Rattle.check_beats.specs.Message.{op_of}
 use Rattle.check_sides.specs.Plan.{Plan}
 use Rattle.check_rows.specs.Row.{SeenRow}
 use Rattle.check_coverage.specs.declared.bin.Bin.{Bin}
 use Rattle.check_coverage.specs.declared.bin.Bin.TheVariants.{Asked, Answered, Beats, Mask, InFlight, AtPort, Overtook, Again, Contested}
-use Rattle.check_coverage.specs.declared.bin.Channel.{Channel}
-use Rattle.check_coverage.specs.declared.bin.Channel.TheVariants as channel
+use Rattle.check_coverage.specs.declared.bin.CountedChannel.{CountedChannel}
+use Rattle.check_coverage.specs.declared.bin.CountedChannel.TheVariants as channel
 use Rattle.check_coverage.specs.declared.bin.Operation.{Operation}
 use Rattle.check_coverage.specs.declared.bin.Pair.{Pair}
 use Rattle.check_coverage.specs.declared.bin.Shape.{Shape}
@@ -34,7 +34,7 @@ pair_text ports pair = master_text pair.master ++ port_text ports pair.port
 -- an operation by its name, and its size
 abbrev pub operation_text : Operation → List ℕ
 operation_text operation =
-    codes " " ++ word_of (op_of operation.opcode operation.param) ++ codes " " ++ decimal operation.size
+    codes " " ++ operation_word (op_of operation.opcode operation.param) ++ codes " " ++ decimal operation.size
 
 abbrev pub shape_text : Shape → List ℕ
 shape_text Empty = codes " none"
@@ -47,7 +47,7 @@ shape_text Even = codes " even"
 shape_text Odd = codes " odd"
 shape_text Other = codes " other"
 
-abbrev pub channel_text : Channel → List ℕ
+abbrev pub channel_text : CountedChannel → List ℕ
 channel_text channel.A = codes " A "
 channel_text channel.D = codes " D "
 

@@ -8,7 +8,7 @@ use Rattle.check_watch.specs.declared.seen.Ended.{Ended}
 use Rattle.check_sides.specs.Plan.{Plan}
 use Rattle.check_rows.specs.Row.{SeenRow}
 use Rattle.check_coverage.specs.Bins.{bins, bins_by}
-use Rattle.check_coverage.specs.Flights.{InFlight, answered_at, ends_reply, flights_after, in_flight, kept}
+use Rattle.check_coverage.specs.Flights.{InFlight, answered_at, ends_at_reply, flights_after, in_flight, kept}
 use Rattle.check_coverage.specs.contracts.bin.BinOrd.TheImpl as bin_ord
 use Rattle.check_coverage.specs.declared.bin.Bin.{Bin}
 use Rattle.check_coverage.specs.declared.counts.Counts.{Counts}
@@ -40,7 +40,7 @@ Adds old new bins =
 -- one beat more was noted, of a wide source and at a link that is counted: its bus has so many bytes, and it ends this
 pub record IsNoted (plan : Plan) (bus wide time : ℕ) (beat : Beat) (end : Ended) (old new : Coverage) : Type 0 where
   pub answered : (other : ℕ) → get nat_cmp new.answered other
-      ≡ (if ends_reply beat end && (wide == other) then Some time else get nat_cmp old.answered other)
+      ≡ (if ends_at_reply beat end && (wide == other) then Some time else get nat_cmp old.answered other)
   pub flights : (before : List InFlight) → old.flights.items ≡ map kept before
       → new.flights.items ≡ map kept (flights_after plan bus wide before beat end)
   pub counts : (before : List InFlight) → old.flights.items ≡ map kept before

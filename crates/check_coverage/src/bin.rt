@@ -2,7 +2,7 @@
 
 /// A channel of a link.
 #[derive(Clone, Copy, PartialEq, Eq, PartialOrd, Ord)]
-pub enum Channel {
+pub enum CountedChannel {
     A,
     D,
 }
@@ -51,7 +51,7 @@ pub enum Bin {
     /// A reply to a request, and whether it is denied.
     Answered(Pair, Operation, bool),
     /// A message of so many beats.
-    Beats(Pair, Channel, usize),
+    Beats(Pair, CountedChannel, usize),
     /// A partial put that gives these bytes.
     Mask(Pair, Shape),
     /// A request that begins, and how many of its master are in flight with it.

@@ -3,8 +3,8 @@ ghost use Rattle.std.specs.Prelude.{◌≡◌, ◌≤◌, ◌↔◌, [], ◌∷�
 ghost use Rattle.std.specs.Ordering.{nat_cmp};
 ghost use Rattle.std.specs.BTreeMap.{get};
 ghost use Rattle.tl_text.specs.Text.{BeginsWith};
-ghost use Rattle.check_beats.specs.Bus.{beat_count, bus_bytes};
-ghost use Rattle.check_map.specs.Owner.{IsWide};
+ghost use Rattle.check_beats.specs.Bus.{beat_count_on_bus, bus_bytes};
+ghost use Rattle.check_map.specs.Owner.{IsWideSource};
 ghost use Rattle.check_rows.specs.Row.{SeenRow};
 ghost use Rattle.check_sides.specs.Plan.{HasLink, Plan};
 ghost use Rattle.check_sides.specs.View.{Keeps, Suits};
@@ -12,19 +12,19 @@ ghost use Rattle.check_unanswered.specs.Began.{beats_of, row_with};
 ghost use Rattle.check_watch.specs.Plan.{source_of};
 ghost use Rattle.check_watch.specs.declared.beat.Beat.TheVariants.{A, D};
 ghost use Rattle.check_coverage.specs.Bins.{ask_bins, begin_bins, contested_bins, first_bins, last_bins, mask_bins, of_found, reply_bins, step_of, with_one};
-ghost use Rattle.check_coverage.specs.Flights.{HasSize, InFlight, begun, end_of, is_counted, is_of, is_whole_ask, kept, master_of, with_begun};
+ghost use Rattle.check_coverage.specs.Flights.{HasSize, InFlight, begun, end_of, is_counted, is_of, ends_an_ask, kept, master_of, with_begun};
 ghost use Rattle.check_coverage.specs.Text.{TellsCoverage};
 ghost use Rattle.check_coverage.specs.View.{Adds, Covers, IsNoted};
 
-use crate::bin::{Bin, Channel};
+use crate::bin::{Bin, CountedChannel};
 use crate::counts::Counts;
-use crate::flight::Flight;
+use crate::flight::CountedFlight;
 use crate::lists::{
     count_of_master, count_of_port, find_of, grow, is_contested, oldest_of, remove,
 };
 use crate::marks::Marks;
-use check_beats::{AskHead, Bus, ReplyHead};
-use check_map::Sources;
+use check_beats::{AskHead, Bus, ReplyHead, beat_count_on_bus};
+use check_map::SourceOwners;
 use check_rows::Row;
 use check_sides::{Beat, Ended, Link, Links, Watch};
 use std::alloc::{AllocError, Global};
@@ -38,14 +38,14 @@ pub const MOST_IN_FLIGHT: usize = 64;
 #[derive(Drop)]
 pub struct Coverage {
     /// Those that are counted, the one that began first in front.
-    flights: Vec<Flight>,
+    flights: Vec<CountedFlight>,
     /// When the last reply to each wide source ended.
     answered: BTreeMap<u16, u64>,
     counts: Counts,
 }
 
 /// Whether messages are counted at a link: at the masters' if these are watched, else at the ports'.
-fn is_counted(links: Links, link: Link) -> bool
+pub fn is_counted(links: Links, link: Link) -> bool
     ensures { result ≡ is_counted links link }
 {
     match link {
@@ -55,8 +55,8 @@ fn is_counted(links: Links, link: Link) -> bool
 }
 
 /// Whether it is a request.
-fn is_whole_ask(end: Ended) -> bool
-    ensures { result ≡ is_whole_ask end }
+fn ends_an_ask(end: Ended) -> bool
+    ensures { result ≡ ends_an_ask end }
 {
     match end {
         Ended::Ask => true,
@@ -75,7 +75,7 @@ fn source_of(beat: &Beat) -> u16
 }
 
 /// The master that has a wide source.
-fn master_of(sources: &Sources, wide: u16) -> usize
+fn master_of(sources: &SourceOwners, wide: u16) -> usize
     ensures { result ≡ master_of sources.now wide }
 {
     let masters = sources.masters();
@@ -86,9 +86,9 @@ fn master_of(sources: &Sources, wide: u16) -> usize
 }
 
 /// The wide source of a source at a link, if the link has it.
-fn wide_source(sources: &Sources, link: Link, source: u16) -> Option<u16>
+fn wide_source(sources: &SourceOwners, link: Link, source: u16) -> Option<u16>
     ensures master { (number wide : ℕ) → link ≡ Link.Master number
-        → (result ≡ Some wide) ↔ IsWide sources.now number source wide }
+        → (result ≡ Some wide) ↔ IsWideSource sources.now number source wide }
     ensures port { (number : ℕ) → link ≡ Link.Port number → result ≡ Some source }
 {
     match link {
@@ -98,12 +98,12 @@ fn wide_source(sources: &Sources, link: Link, source: u16) -> Option<u16>
 }
 
 /// The request that begins with a beat.
-fn begun(watch: &Watch, wide: u16, beat: &AskHead) -> Flight
+fn begun(watch: &Watch, wide: u16, beat: &AskHead) -> CountedFlight
     requires { beat.now.size ≤ MAX_SIZE }
     ensures { (plan : Plan) → Suits plan watch.now → result ≡ kept (begun plan wide beat.now) }
 {
     let span = width(beat.size) as u64;
-    Flight {
+    CountedFlight {
         wide,
         master: master_of(watch.sources(), wide),
         port: watch.map().route_bytes(beat.address, beat.size),
@@ -112,18 +112,6 @@ fn begun(watch: &Watch, wide: u16, beat: &AskHead) -> Flight
         is_unaligned: beat.address % span != 0,
         marks: Marks::new(),
         is_whole: false,
-    }
-}
-
-/// How many beats a message has.
-fn beat_count(bus: Bus, carries: bool, size: u8) -> usize
-    requires { size ≤ MAX_SIZE }
-    ensures { result ≡ beat_count (bus_bytes bus) carries size }
-{
-    if carries {
-        (width(size) >> bus.log()).max(1)
-    } else {
-        1
     }
 }
 
@@ -149,8 +137,8 @@ fn with_one(count: usize) -> usize
 /// Counts what the first beat of a request adds.
 fn count_begin(
     counts: &mut Counts,
-    flights: &[Flight],
-    flight: &Flight,
+    flights: &[CountedFlight],
+    flight: &CountedFlight,
     time: u64,
     answered: Option<u64>,
 ) -> Result<(), AllocError>
@@ -171,7 +159,7 @@ fn count_begin(
 }
 
 /// Counts the bytes that a partial put gives.
-fn count_mask(counts: &mut Counts, flight: &Flight) -> Result<(), AllocError>
+fn count_mask(counts: &mut Counts, flight: &CountedFlight) -> Result<(), AllocError>
     ensures { (this : InFlight) → flight.now ≡ kept this
         → OnOk result (Adds counts.old counts.new (mask_bins this)) }
 {
@@ -185,8 +173,8 @@ fn count_mask(counts: &mut Counts, flight: &Flight) -> Result<(), AllocError>
 /// Counts a request that meets another one.
 fn count_contested(
     counts: &mut Counts,
-    flights: &[Flight],
-    flight: &Flight,
+    flights: &[CountedFlight],
+    flight: &CountedFlight,
 ) -> Result<(), AllocError>
     ensures { (after : List InFlight) (this : InFlight) → flights.now ≡ map kept after → flight.now ≡ kept this
         → OnOk result (Adds counts.old counts.new (contested_bins after this)) }
@@ -201,8 +189,8 @@ fn count_contested(
 /// Counts what the last beat of a request adds.
 fn count_ask(
     counts: &mut Counts,
-    flights: &[Flight],
-    flight: &Flight,
+    flights: &[CountedFlight],
+    flight: &CountedFlight,
     bus: Bus,
     beat: &AskHead,
 ) -> Result<(), AllocError>
@@ -210,9 +198,9 @@ fn count_ask(
     ensures { (after : List InFlight) (this : InFlight) → flights.now ≡ map kept after → flight.now ≡ kept this
         → OnOk result (Adds counts.old counts.new (ask_bins (bus_bytes bus) after beat.now this)) }
 {
-    let beats = beat_count(bus, beat.opcode < 4, beat.size);
+    let beats = beat_count_on_bus(bus, beat.opcode < 4, beat.size);
     counts.add(Bin::Asked(flight.pair(), flight.operation(), flight.is_unaligned))?;
-    counts.add(Bin::Beats(flight.pair(), Channel::A, beats))?;
+    counts.add(Bin::Beats(flight.pair(), CountedChannel::A, beats))?;
     count_mask(counts, flight)?;
     count_contested(counts, flights, flight)
 }
@@ -220,8 +208,8 @@ fn count_ask(
 /// Counts what the last beat of a reply adds.
 fn count_reply(
     counts: &mut Counts,
-    flights: &[Flight],
-    flight: &Flight,
+    flights: &[CountedFlight],
+    flight: &CountedFlight,
     bus: Bus,
     beat: &ReplyHead,
 ) -> Result<(), AllocError>
@@ -229,9 +217,9 @@ fn count_reply(
     ensures { (before : List InFlight) (this : InFlight) → flights.now ≡ map kept before → flight.now ≡ kept this
         → OnOk result (Adds counts.old counts.new (reply_bins (bus_bytes bus) before beat.now this)) }
 {
-    let beats = beat_count(bus, beat.opcode == 1, beat.size);
+    let beats = beat_count_on_bus(bus, beat.opcode == 1, beat.size);
     counts.add(Bin::Answered(flight.pair(), flight.operation(), beat.denied))?;
-    counts.add(Bin::Beats(flight.pair(), Channel::D, beats))?;
+    counts.add(Bin::Beats(flight.pair(), CountedChannel::D, beats))?;
     match oldest_of(flights, flight.master) {
         Some(oldest) => {
             if oldest.wide == flight.wide {
@@ -293,7 +281,7 @@ impl Coverage {
             → OnOk result (Adds self.old.counts self.new.counts
             (last_bins (bus_bytes bus) wide after beat.now end)) }
     {
-        if !is_whole_ask(end) {
+        if !ends_an_ask(end) {
             return Ok(());
         }
         match find_of(&self.flights, wide) {
@@ -317,7 +305,7 @@ impl Coverage {
             → OnOk result (IsNoted plan (bus_bytes bus) wide time (A beat.now) end self.old self.new) }
     {
         self.begin(watch, wide, time, beat)?;
-        grow(&mut self.flights, wide, bus, beat, is_whole_ask(end));
+        grow(&mut self.flights, wide, bus, beat, ends_an_ask(end));
         self.end(wide, beat, bus, end)
     }
 

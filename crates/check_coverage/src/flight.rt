@@ -1,7 +1,7 @@
 //! A request in flight, as it is kept.
 ghost use Rattle.std.specs.Prelude.{◌≡◌, ◌≤◌, ◌<◌, ◌+◌, ◌&&◌, ◌||◌, ◌==◌, not, nat_lt};
 ghost use Rattle.check_beats.specs.Bus.{bus_bytes};
-ghost use Rattle.check_coverage.specs.Bins.{contests, operation_of, pair_of};
+ghost use Rattle.check_coverage.specs.Bins.{contests, operation_of, bin_pair};
 ghost use Rattle.check_coverage.specs.Flights.{InFlight, kept, with_beat};
 
 use crate::bin::{Operation, Pair};
@@ -12,7 +12,7 @@ use tl_types::MAX_SIZE;
 /// A request in flight: its wide source, its master, its port, its first beat, how many bytes its size stands for, whether
 /// its address is no multiple of that, which of its bytes are given so far, and whether it is whole.
 #[derive(Clone, Copy)]
-pub struct Flight {
+pub struct CountedFlight {
     pub wide: u16,
     pub master: usize,
     pub port: usize,
@@ -23,9 +23,9 @@ pub struct Flight {
     pub is_whole: bool,
 }
 
-impl Flight {
+impl CountedFlight {
     /// The request with one beat more of a wide source, if it is of this.
-    pub fn grown(self, wide: u16, bus: Bus, beat: &AskHead, is_whole: bool) -> Flight
+    pub fn grown(self, wide: u16, bus: Bus, beat: &AskHead, is_whole: bool) -> CountedFlight
         requires { beat.now.size ≤ MAX_SIZE }
         ensures { (flight : InFlight) → self ≡ kept flight
             → result ≡ kept (with_beat (bus_bytes bus) wide beat.now is_whole flight) }
@@ -35,7 +35,7 @@ impl Flight {
         }
         let mut marks = self.marks;
         marks.mark_beat(self.span, bus, beat);
-        Flight {
+        CountedFlight {
             wide: self.wide,
             master: self.master,
             port: self.port,
@@ -48,7 +48,7 @@ impl Flight {
     }
 
     pub fn pair(&self) -> Pair
-        ensures { (flight : InFlight) → self.now ≡ kept flight → result ≡ pair_of flight }
+        ensures { (flight : InFlight) → self.now ≡ kept flight → result ≡ bin_pair flight }
     {
         Pair {
             master: self.master,
@@ -67,7 +67,7 @@ impl Flight {
     }
 
     /// Whether the requests have a byte in common.
-    fn overlaps(&self, other: &Flight) -> bool
+    fn overlaps(&self, other: &CountedFlight) -> bool
         ensures { result ≡ (nat_lt self.now.first.address (other.now.first.address + other.now.span)
             && nat_lt other.now.first.address (self.now.first.address + self.now.span)) }
     {
@@ -77,7 +77,7 @@ impl Flight {
     }
 
     /// Whether they have, and one of them writes.
-    fn meets(&self, other: &Flight) -> bool
+    fn meets(&self, other: &CountedFlight) -> bool
         ensures { result ≡ ((nat_lt self.now.first.address (other.now.first.address + other.now.span)
             && nat_lt other.now.first.address (self.now.first.address + self.now.span))
             && (nat_lt self.now.first.opcode 4 || nat_lt other.now.first.opcode 4)) }
@@ -86,7 +86,7 @@ impl Flight {
     }
 
     /// Whether another request of the same port, which is whole, meets this one.
-    pub fn contests(&self, other: &Flight) -> bool
+    pub fn contests(&self, other: &CountedFlight) -> bool
         ensures { (flight rival : InFlight) → self.now ≡ kept flight → other.now ≡ kept rival
             → result ≡ contests flight rival }
     {

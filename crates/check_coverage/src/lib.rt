@@ -21,6 +21,6 @@ mod lists;
 mod marks;
 mod words;
 
-pub use bin::{Bin, Channel, Operation, Pair, Shape};
+pub use bin::{Bin, CountedChannel, Operation, Pair, Shape};
 pub use counts::Counts;
-pub use coverage::Coverage;
+pub use coverage::{Coverage, is_counted};

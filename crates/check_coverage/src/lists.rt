@@ -5,19 +5,19 @@ ghost use Rattle.check_beats.specs.Bus.{bus_bytes};
 ghost use Rattle.check_coverage.specs.Bins.{contests};
 ghost use Rattle.check_coverage.specs.Flights.{InFlight, is_of, kept, with_beat};
 
-use crate::flight::Flight;
+use crate::flight::CountedFlight;
 use check_beats::{AskHead, Bus};
 use tl_types::MAX_SIZE;
 
 /// The request of a wide source.
-pub fn find_of(flights: &[Flight], wide: u16) -> Option<Flight>
+pub fn find_of(flights: &[CountedFlight], wide: u16) -> Option<CountedFlight>
     ensures { result ≡ find (λ flight. flight.wide == wide) flights.now }
 {
     flights.iter().find(|flight| flight.wide == wide).copied()
 }
 
 /// The oldest request of a master.
-pub fn oldest_of(flights: &[Flight], master: usize) -> Option<Flight>
+pub fn oldest_of(flights: &[CountedFlight], master: usize) -> Option<CountedFlight>
     ensures { result ≡ find (λ flight. flight.master == master) flights.now }
 {
     flights
@@ -27,7 +27,7 @@ pub fn oldest_of(flights: &[Flight], master: usize) -> Option<Flight>
 }
 
 /// How many requests of a master there are.
-pub fn count_of_master(flights: &[Flight], master: usize) -> usize
+pub fn count_of_master(flights: &[CountedFlight], master: usize) -> usize
     ensures { result ≡ length (filter (λ flight. flight.master == master) flights.now) }
 {
     flights
@@ -37,14 +37,14 @@ pub fn count_of_master(flights: &[Flight], master: usize) -> usize
 }
 
 /// How many requests of a port there are.
-pub fn count_of_port(flights: &[Flight], port: usize) -> usize
+pub fn count_of_port(flights: &[CountedFlight], port: usize) -> usize
     ensures { result ≡ length (filter (λ flight. flight.port == port) flights.now) }
 {
     flights.iter().filter(|flight| flight.port == port).count()
 }
 
 /// Whether another request contests this one.
-pub fn is_contested(flights: &[Flight], flight: &Flight) -> bool
+pub fn is_contested(flights: &[CountedFlight], flight: &CountedFlight) -> bool
     ensures { (before : List InFlight) (this : InFlight) → flights.now ≡ map kept before → flight.now ≡ kept this
         → result ≡ list_any (contests this) before }
 {
@@ -57,14 +57,14 @@ pub fn is_contested(flights: &[Flight], flight: &Flight) -> bool
 }
 
 /// Takes the request of a wide source out.
-pub fn remove(flights: &mut Vec<Flight>, wide: u16)
+pub fn remove(flights: &mut Vec<CountedFlight>, wide: u16)
     ensures { flights.new.items ≡ filter (λ flight. not (flight.wide == wide)) flights.old.items }
 {
     flights.retain(|flight| flight.wide != wide);
 }
 
 /// Gives one beat more to the request of a wide source.
-pub fn grow(flights: &mut Vec<Flight>, wide: u16, bus: Bus, beat: &AskHead, is_whole: bool)
+pub fn grow(flights: &mut Vec<CountedFlight>, wide: u16, bus: Bus, beat: &AskHead, is_whole: bool)
     requires { beat.now.size ≤ MAX_SIZE }
     ensures { (before : List InFlight) → flights.old.items ≡ map kept before
         → flights.new.items ≡ map kept (map (with_beat (bus_bytes bus) wide beat.now is_whole) before) }

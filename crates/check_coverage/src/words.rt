@@ -5,7 +5,7 @@ ghost use Rattle.tl_text.specs.Text.{BeginsWith};
 ghost use Rattle.check_beats.specs.Message.{arith_of, logic_of, op_of};
 ghost use Rattle.check_coverage.specs.Text.{bin_line, bin_text, channel_text, master_text, operation_text, pair_text, port_text, shape_text};
 
-use crate::bin::{Bin, Channel, Operation, Pair, Shape};
+use crate::bin::{Bin, CountedChannel, Operation, Pair, Shape};
 use std::alloc::AllocError;
 use tl_text::{push_field, word};
 use tl_types::{Arith, AskOp, Hint, Logic};
@@ -64,12 +64,12 @@ fn shape_words(shape: Shape) -> &'static str
     }
 }
 
-fn channel_words(channel: Channel) -> &'static [u8]
+fn channel_words(channel: CountedChannel) -> &'static [u8]
     ensures { result.now ≡ channel_text channel }
 {
     match channel {
-        Channel::A => b" A ",
-        Channel::D => b" D ",
+        CountedChannel::A => b" A ",
+        CountedChannel::D => b" D ",
     }
 }
 
@@ -146,7 +146,7 @@ fn push_beats(
     text: &mut Vec<u8>,
     ports: usize,
     pair: Pair,
-    channel: Channel,
+    channel: CountedChannel,
     beats: usize,
 ) -> Result<(), AllocError>
     ensures ok { OnOk result (text.new.items

@@ -5,11 +5,11 @@ use Rattle.tl_map.specs.Block.{Block, IsBlock}
 use Rattle.tl_map.proofs.Blocks.{has_size, in_block, in_one_block}
 use Rattle.tl_map.proofs.Placing.{size_low, start_low}
 use Rattle.check_map.specs.Blocks.{AreBlocks, AreFew, IsFew}
-use Rattle.check_map.specs.Sources.{AreLawfulOwners, IsFirstSourceFault, IsLawfulOwner}
-use Rattle.check_map.specs.declared.limits.TheConstants.{MAX_MASTERS}
+use Rattle.check_map.specs.Sources.{AreLawfulOwners, IsFirstSourceOwnerFault, IsLawfulOwner}
+use Rattle.check_map.specs.declared.limits.TheConstants.{MAX_JUDGED_MASTERS}
 use Rattle.check_map.specs.declared.sources.Owner.{Owner}
-use Rattle.check_map.specs.declared.sources.SourceFault.{SourceFault}
-use Rattle.check_map.specs.declared.sources.SourceFault.TheVariants.{TooMany, Shared, Memory as SourceMemory}
+use Rattle.check_map.specs.declared.sources.SourceOwnerFault.{SourceOwnerFault}
+use Rattle.check_map.specs.declared.sources.SourceOwnerFault.TheVariants.{TooMany, Shared, Memory as SourceMemory}
 use Rattle.check_map.proofs.Instance.{to_block}
 use Rattle.check_keys.specs.Reading.{source_fault}
 use Rattle.check_description.specs.Description.{IsOfSources}
@@ -90,8 +90,8 @@ blocks_lawful counts owners few blocks = record {
 }
 
 -- the fault that the sources of lawful owners have is want of memory
-pub no_fault : (P : SourceFault → Type 0) (owners : List Owner) (fault : SourceFault) → AreLawfulOwners owners
-    → (fault ≢ SourceMemory → IsFirstSourceFault owners fault) → source_fault fault ≢ Memory
+pub no_fault : (P : SourceOwnerFault → Type 0) (owners : List Owner) (fault : SourceOwnerFault) → AreLawfulOwners owners
+    → (fault ≢ SourceMemory → IsFirstSourceOwnerFault owners fault) → source_fault fault ≢ Memory
     → IsOfSources P (source_fault fault)
 no_fault P owners SourceMemory lawful first other = absurd (other refl)
 no_fault P owners (Shared one other wide) lawful first more =
@@ -102,7 +102,7 @@ no_fault P owners (Shared one other wide) lawful first more =
     absurd (omega (arith, below, same))
 no_fault P owners TooMany lawful first other =
     let fault = first (λ e. absurd cc) in
-    absurd (⊎_elim (λ (many : MAX_MASTERS < length owners). omega (arith, many, lawful.masters))
+    absurd (⊎_elim (λ (many : MAX_JUDGED_MASTERS < length owners). omega (arith, many, lawful.masters))
     (λ (unlawful : All IsLawfulOwner owners → ⊥). unlawful lawful.each) fault.applies)
 
 -- what holds of a fault holds of the error that is that fault

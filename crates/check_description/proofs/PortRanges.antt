@@ -7,7 +7,7 @@ use Rattle.std.proofs.lemmas.List.Elements.{All-from_recursion}
 use Rattle.std.proofs.lemmas.Option.{get_or_from_slice_get, slice_get_within}
 use Rattle.tl_map.specs.declared.map.Range.{Range}
 use Rattle.check_map.specs.Ranges.{AreRanges, IsLawfulRange}
-use Rattle.check_map.specs.declared.limits.TheConstants.{MAX_PORTS, MAX_RANGES}
+use Rattle.check_map.specs.declared.limits.TheConstants.{MAX_JUDGED_PORTS, MAX_RANGES_OF_PORT}
 use Rattle.check_description.specs.Port.{Port, port_view}
 use Rattle.check_description.specs.Ranges.{AreRangesOfPort}
 use Rattle.check_description.specs.declared.port.Port as code
@@ -33,14 +33,14 @@ each_lawful : (ports : List code.Port) → AllByRecursion AreRangesOfPort (range
 each_lawful [] = tt
 each_lawful (port ∷ ports) = (port.lawful, each_lawful ports)
 
-are_ranges : (ports : List (List Range)) → length ports ≤ MAX_PORTS → AllByRecursion AreRangesOfPort ports
+are_ranges : (ports : List (List Range)) → length ports ≤ MAX_JUDGED_PORTS → AllByRecursion AreRangesOfPort ports
     → AreRanges ports
 are_ranges ports few all = record {
   in_limit = few;
   some = All-from_recursion (λ ranges. 0 < length ranges) ports
       (all_of AreRangesOfPort (λ ranges. 0 < length ranges) ports (λ ranges has. has.some) all);
-  few = All-from_recursion (λ ranges. length ranges ≤ MAX_RANGES) ports
-      (all_of AreRangesOfPort (λ ranges. length ranges ≤ MAX_RANGES) ports (λ ranges has. has.few) all);
+  few = All-from_recursion (λ ranges. length ranges ≤ MAX_RANGES_OF_PORT) ports
+      (all_of AreRangesOfPort (λ ranges. length ranges ≤ MAX_RANGES_OF_PORT) ports (λ ranges has. has.few) all);
   each = λ port place range at.
       let here = step_some (slice_get ports port) (λ ranges. slice_get ranges place) range at in
       let has = holds_at AreRangesOfPort ports port here.0 all here.1 in
@@ -49,7 +49,7 @@ are_ranges ports few all = record {
 }
 
 -- the ranges of ports that were read
-pub ports_have_ranges : (ports : List code.Port) → length ports ≤ MAX_PORTS
+pub ports_have_ranges : (ports : List code.Port) → length ports ≤ MAX_JUDGED_PORTS
     → AreRanges (ranges_of (map port_view ports))
 ports_have_ranges ports few =
     are_ranges (ranges_of (map port_view ports))

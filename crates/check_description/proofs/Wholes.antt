@@ -4,10 +4,10 @@ use Rattle.std.proofs.lemmas.List.{length-append, length-drop, length-take, leng
 use Rattle.tl_ops.specs.declared.kind.Kind.TheVariants.{NoDevice}
 use Rattle.check_memory.specs.Known.{known, replaced}
 use Rattle.check_memory.specs.Place.{tabulate}
-use Rattle.check_memory.specs.Sizes.{row_of}
+use Rattle.tl_ops.specs.Support.{row_of_kind}
 use Rattle.check_description.specs.Laws.{ErrorPortIsWhole, KnownPortIsWhole}
 use Rattle.check_description.specs.Ranges.{first_base}
-use Rattle.check_description.specs.Slave.{blank, memory_at_reset}
+use Rattle.check_description.specs.Slave.{ungiven_memory, memory_at_reset}
 use Rattle.check_description.proofs.Ends.{all_within, first_within}
 use Rattle.check_description.proofs.Stores.{blank_known, known-replaced}
 
@@ -60,7 +60,7 @@ known_port_is_whole kind port image of =
 
 pub error_port_is_whole : ErrorPortIsWhole
 error_port_is_whole order = record {
-  memory = blank NoDevice (row_of NoDevice) [] true;
+  memory = ungiven_memory NoDevice (row_of_kind NoDevice) [] true;
   bytes = zeros (2 ^ 64);
   is = rw (blank_zeros (2 ^ 64)) refl;
   within = λ place d inside. absurd (omega (arith, inside));

@@ -1,7 +1,7 @@
 -- What a port holds before any request. This project's own.
 use Rattle.std.specs.Prelude.{ℕ, Bool, List, [], Option, unwrap_or, Result, Ok}
 use Rattle.toml.specs.Data.{Members}
-use Rattle.check_keys.specs.Reading.{◌>>=◌, if_any}
+use Rattle.tl_text.specs.Reading.{◌>>=◌, if_any}
 use Rattle.check_keys.specs.Value.{bytes_of, flag_at, text_if_any, up_to}
 use Rattle.check_keys.specs.declared.fault.Key.TheVariants.{Reset, Image, Unknown}
 use Rattle.check_keys.specs.declared.fault.SystemFault.{SystemFault}
@@ -22,13 +22,13 @@ reset_at most members =
     text_if_any Reset members >>= if_any (reset_of most) >>= (λ bytes. Ok (unwrap_or bytes []))
 
 -- the name of the file, if it has one
-unfoldable pub image_at : Members → Result (Option (List ℕ)) SystemFault
-image_at members = text_if_any Image members
+unfoldable pub image_name_at : Members → Result (Option (List ℕ)) SystemFault
+image_name_at members = text_if_any Image members
 
 -- what a port of a first range of so many bytes holds
 unfoldable pub contents_at : ℕ → Members → Result Contents SystemFault
 contents_at most members = do
   reset ← reset_at most members
-  image ← image_at members
+  image ← image_name_at members
   unknown ← flag_at Unknown members
   Ok (record { reset = reset; image = image; unknown = unknown })

@@ -1,13 +1,13 @@
 -- Which description the parts of a file make, and the first fault of parts that make none. This project's own.
 use Rattle.std.specs.Prelude.{◌≡◌, ◌≢◌, List, map}
 use Rattle.tl_map.specs.declared.map.Range.{Range}
-use Rattle.check_map.specs.Ranges.{IsFirstMapFault, IsLawfulMap}
+use Rattle.check_map.specs.Ranges.{IsFirstAddressMapFault, IsLawfulAddressMap}
 use Rattle.check_map.specs.Sources.{AreLawfulOwners}
-use Rattle.check_map.specs.declared.map.MapFault.{MapFault}
-use Rattle.check_map.specs.declared.map.MapFault.TheVariants.{Memory as MapMemory}
+use Rattle.check_map.specs.declared.map.AddressMapFault.{AddressMapFault}
+use Rattle.check_map.specs.declared.map.AddressMapFault.TheVariants.{Memory as MapMemory}
 use Rattle.check_map.specs.declared.sources.Owner.{Owner}
-use Rattle.check_map.specs.declared.sources.SourceFault.{SourceFault}
-use Rattle.check_map.specs.declared.sources.SourceFault.TheVariants.{Memory as SourceMemory}
+use Rattle.check_map.specs.declared.sources.SourceOwnerFault.{SourceOwnerFault}
+use Rattle.check_map.specs.declared.sources.SourceOwnerFault.TheVariants.{Memory as SourceMemory}
 use Rattle.check_keys.specs.declared.fault.SystemFault.{SystemFault}
 use Rattle.check_keys.specs.declared.fault.SystemFault.TheVariants.{Map, Sources}
 use Rattle.check_description.specs.Port.{Port, port_view}
@@ -35,25 +35,25 @@ described ports masters owners =
 
 -- the parts make this description: their ranges make a map, and the owners are those of the masters and share nothing
 pub record Makes (parts : Parts) (description : Description) : Type 0 where
-  pub map : IsLawfulMap (ranges_of parts.ports)
+  pub map : IsLawfulAddressMap (ranges_of parts.ports)
   pub owners : HasOwners parts.masters description.owners
   pub sources : AreLawfulOwners description.owners
   pub ports : description.ports ≡ parts.ports
   pub masters : description.masters ≡ parts.masters
 
 -- the fault is one of the map, and not want of memory
-abbrev pub IsOfMap : (MapFault → Type 0) → SystemFault → Type 0
+abbrev pub IsOfMap : (AddressMapFault → Type 0) → SystemFault → Type 0
 IsOfMap P (Map fault) = (fault ≢ MapMemory) × P fault
 IsOfMap P fault = ⊥
 
 -- the fault is one of the sources, and not want of memory
-abbrev pub IsOfSources : (SourceFault → Type 0) → SystemFault → Type 0
+abbrev pub IsOfSources : (SourceOwnerFault → Type 0) → SystemFault → Type 0
 IsOfSources P (Sources fault) = (fault ≢ SourceMemory) × P fault
 IsOfSources P fault = ⊥
 
 -- the first fault of parts that make no description: that of the ranges, or if these make a map, that of the sources
 abbrev pub IsFirstFaultOf : Parts → SystemFault → Type 0
-IsFirstFaultOf parts (Map fault) = (fault ≢ MapMemory) × IsFirstMapFault (ranges_of parts.ports) fault
+IsFirstFaultOf parts (Map fault) = (fault ≢ MapMemory) × IsFirstAddressMapFault (ranges_of parts.ports) fault
 IsFirstFaultOf parts (Sources fault) =
-    IsLawfulMap (ranges_of parts.ports) × (fault ≢ SourceMemory) × IsFirstOwnerFault parts.masters fault
+    IsLawfulAddressMap (ranges_of parts.ports) × (fault ≢ SourceMemory) × IsFirstOwnerFault parts.masters fault
 IsFirstFaultOf parts fault = ⊥

@@ -4,8 +4,8 @@ use Rattle.std.specs.Str.{is_utf8}
 use Rattle.toml.specs.Data.{Members}
 use Rattle.toml.specs.Parse.{parse_document}
 use Rattle.check_beats.specs.declared.bus.Bus.TheVariants.{Eight}
-use Rattle.check_keys.specs.Bus.{bus_at}
-use Rattle.check_keys.specs.Reading.{◌>>=◌}
+use Rattle.check_keys.specs.Bus.{bus_in_table}
+use Rattle.tl_text.specs.Reading.{◌>>=◌}
 use Rattle.check_keys.specs.declared.fault.SystemFault.{SystemFault}
 use Rattle.check_keys.specs.declared.fault.SystemFault.TheVariants.{TooLong, NotToml}
 use Rattle.check_description.specs.Port.{Port, port_view, ports_of}
@@ -30,7 +30,7 @@ document_of bytes =
 -- eight bytes
 unfoldable pub parts_in : Members → Result Parts SystemFault
 parts_in members = do
-  bus ← bus_at Eight members
+  bus ← bus_in_table Eight members
   ports ← ports_of bus members
   masters ← masters_of bus members
   Ok (record { ports = ports; masters = masters })

@@ -20,8 +20,8 @@ abbrev pub put_over : List ℕ → List ℕ → List ℕ
 put_over front bytes = front ++ drop (length front) bytes
 
 -- the store of a port: zeros, the bytes of its image over them, and those of its reset over these
-abbrev pub store_of : Kind → Range → Port → List ℕ → Store
-store_of kind range port image = record {
+abbrev pub store_at_reset : Kind → Range → Port → List ℕ → Store
+store_at_reset kind range port image = record {
   kind = kind;
   base = range.base;
   bytes = put_over port.contents.reset (put_over image (replicate range.length 0));
@@ -46,7 +46,7 @@ abbrev pub KeepsItsStore : Type 0
 KeepsItsStore =
     (kind : Kind) (range : Range) (port : Port) (image : List ℕ) → IsPlainMemory kind range port
     → FitsIn range port.contents.reset image
-    → let store = store_of kind range port image in
+    → let store = store_at_reset kind range port image in
     let beyond = replicate (2 ^ 64 - (range.base + range.length)) 0 in
     kept_at_reset port image
     ≡ kept.Memory (one_range store (known (replicate range.base 0 ++ (store.bytes ++ beyond))))

@@ -3,19 +3,19 @@ use Rattle.std.specs.Prelude.{◌≡◌, ℕ, Bool, true, false, List, [], ◌�
 use Rattle.std.specs.List.{list_any}
 use Rattle.toml.specs.Data.{Members, get_member}
 use Rattle.check_beats.specs.declared.bus.Bus.{Bus}
-use Rattle.check_keys.specs.Bus.{bus_at}
+use Rattle.check_keys.specs.Bus.{bus_in_table}
 use Rattle.check_keys.specs.Key.{key_name}
 use Rattle.check_keys.specs.Name.{name_at}
-use Rattle.check_keys.specs.Reading.{◌>>=◌, each}
+use Rattle.tl_text.specs.Reading.{◌>>=◌, each}
 use Rattle.check_keys.specs.Value.{value_at, number_at, number_if_any, tables_of, one_up_to}
 use Rattle.check_keys.specs.declared.fault.Key.TheVariants.{Master as MasterKey, Sources, First, Stride}
 use Rattle.check_keys.specs.declared.fault.SystemFault.{SystemFault}
 use Rattle.check_map.specs.Blocks.{AreBlocks, AreFew}
-use Rattle.check_map.specs.Sources.{IsFirstSourceFault}
+use Rattle.check_map.specs.Sources.{IsFirstSourceOwnerFault}
 use Rattle.check_map.specs.declared.sources.Owner.{Owner}
-use Rattle.check_map.specs.declared.sources.SourceFault.{SourceFault}
-use Rattle.check_map.specs.declared.sources.SourceFault.TheVariants.{TooMany}
-use Rattle.check_map.specs.declared.limits.TheConstants.{MAX_MASTERS, MAX_SOURCES, MAX_WIDE}
+use Rattle.check_map.specs.declared.sources.SourceOwnerFault.{SourceOwnerFault}
+use Rattle.check_map.specs.declared.sources.SourceOwnerFault.TheVariants.{TooMany}
+use Rattle.check_map.specs.declared.limits.TheConstants.{MAX_JUDGED_MASTERS, MAX_JUDGED_SOURCES, MAX_WIDE}
 use Rattle.check_description.specs.declared.masters.Master as code_master
 
 -- a master: its name, how many sources it has, the wide source of its source 0 where the file says it, how far apart the
@@ -44,10 +44,10 @@ stride_at members = number_if_any Stride 1 MAX_WIDE members >>= (λ stride. Ok (
 unfoldable pub master_of : Bus → Bool → Members → Result Master SystemFault
 master_of bus placed members = do
   name ← name_at members
-  sources ← number_at Sources 1 MAX_SOURCES members
+  sources ← number_at Sources 1 MAX_JUDGED_SOURCES members
   first ← first_at placed members
   stride ← stride_at members
-  own ← bus_at bus members
+  own ← bus_in_table bus members
   Ok (record { name = name; sources = sources; first = first; stride = stride; bus = own })
 
 -- the tables of the masters, of which there is at least one
@@ -55,7 +55,7 @@ unfoldable pub master_tables : Members → Result (List Members) SystemFault
 master_tables members = do
   value ← value_at MasterKey members
   tables ← tables_of MasterKey value
-  one_up_to MasterKey MAX_MASTERS tables
+  one_up_to MasterKey MAX_JUDGED_MASTERS tables
 
 unfoldable pub masters_of : Bus → Members → Result (List Master) SystemFault
 masters_of bus members = master_tables members >>= (λ tables. each (master_of bus (list_any has_first tables)) tables)
@@ -88,13 +88,13 @@ HasOwners masters owners =
     MatchOption (said_owners masters) (IsInBlocks (counts_of masters) owners) (λ said. owners ≡ said)
 
 -- blocks can't be had of so many sources
-abbrev pub IsBlockFault : List ℕ → SourceFault → Type 0
+abbrev pub IsBlockFault : List ℕ → SourceOwnerFault → Type 0
 IsBlockFault counts fault = (fault ≡ TooMany) × (AreFew counts → ⊥)
 
 -- the fault is the first of the masters' wide sources
-abbrev pub IsFirstOwnerFault : List Master → SourceFault → Type 0
+abbrev pub IsFirstOwnerFault : List Master → SourceOwnerFault → Type 0
 IsFirstOwnerFault masters fault =
-    MatchOption (said_owners masters) (IsBlockFault (counts_of masters) fault) (λ said. IsFirstSourceFault said fault)
+    MatchOption (said_owners masters) (IsBlockFault (counts_of masters) fault) (λ said. IsFirstSourceOwnerFault said fault)
 
 -- what contracts see of a master
 abbrev pub master_view : code_master.Master → Master

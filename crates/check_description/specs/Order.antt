@@ -4,7 +4,7 @@ use Rattle.std.specs.Str.{bytes_eq}
 use Rattle.toml.specs.Data.{Members}
 use Rattle.check_flight.specs.declared.order.Order.{Order}
 use Rattle.check_flight.specs.declared.order.Order.TheVariants.{Accept, Reply, Any}
-use Rattle.check_keys.specs.Reading.{◌>>=◌, if_any}
+use Rattle.tl_text.specs.Reading.{◌>>=◌, if_any}
 use Rattle.check_keys.specs.Value.{text_if_any}
 use Rattle.check_keys.specs.declared.fault.Key.TheVariants.{Order as OrderKey}
 use Rattle.check_keys.specs.declared.fault.SystemFault.{SystemFault}

@@ -2,14 +2,14 @@
 use Rattle.std.specs.Prelude.{ℕ, List, [], Option, None, Some, option_map, string_bytes, Result, Ok}
 use Rattle.toml.specs.Data.{Data, Members, get_member}
 use Rattle.tl_map.specs.declared.map.Range.{Range}
-use Rattle.check_map.specs.declared.limits.TheConstants.{MAX_PORTS}
+use Rattle.check_map.specs.declared.limits.TheConstants.{MAX_JUDGED_PORTS}
 use Rattle.check_beats.specs.declared.bus.Bus.{Bus}
-use Rattle.check_memory.specs.declared.sizes.SizeTable.{SizeTable}
+use Rattle.tl_ops.specs.declared.sizes.SizeTable.{SizeTable}
 use Rattle.check_flight.specs.declared.order.Order.{Order}
-use Rattle.check_keys.specs.Bus.{bus_at}
+use Rattle.check_keys.specs.Bus.{bus_in_table}
 use Rattle.check_keys.specs.Key.{key_name}
 use Rattle.check_keys.specs.Name.{name_at}
-use Rattle.check_keys.specs.Reading.{◌>>=◌, each}
+use Rattle.tl_text.specs.Reading.{◌>>=◌, each}
 use Rattle.check_keys.specs.Value.{tables_of, up_to}
 use Rattle.check_keys.specs.declared.fault.Key.TheVariants.{Port as PortKey}
 use Rattle.check_keys.specs.declared.fault.SystemFault.{SystemFault}
@@ -44,7 +44,7 @@ port_of bus members = do
   contents ← contents_at (first_length ranges) members
   sizes ← sizes_at members
   order ← order_at members
-  own ← bus_at bus members
+  own ← bus_in_table bus members
   Ok (record {
     name = name;
     kind = kind;
@@ -58,7 +58,7 @@ port_of bus members = do
 -- the tables in a value, which may not be there
 abbrev pub tables_by : Option Data → Result (List Members) SystemFault
 tables_by None = Ok []
-tables_by (Some value) = tables_of PortKey value >>= up_to PortKey MAX_PORTS
+tables_by (Some value) = tables_of PortKey value >>= up_to PortKey MAX_JUDGED_PORTS
 
 -- the tables of the ports, of which there may be none
 unfoldable pub port_tables : Members → Result (List Members) SystemFault

@@ -3,10 +3,10 @@ use Rattle.std.specs.Prelude.{ℕ, ◌<◌, ◌≤◌, Bool, ◌||◌, ℤ, List
 use Rattle.toml.specs.Data.{Data, Members, get_member}
 use Rattle.tl_map.specs.declared.map.Range.{Range}
 use Rattle.check_map.specs.Ranges.{IsLawfulRange}
-use Rattle.check_map.specs.declared.limits.TheConstants.{MAX_RANGES}
+use Rattle.check_map.specs.declared.limits.TheConstants.{MAX_RANGES_OF_PORT}
 use Rattle.check_keys.specs.Key.{key_name}
-use Rattle.check_keys.specs.Reading.{◌>>=◌, each, unless}
-use Rattle.check_keys.specs.Value.{number_at, number_if_any, in_range, last_integer, array_of, pair_of, one_up_to}
+use Rattle.tl_text.specs.Reading.{◌>>=◌, each, unless}
+use Rattle.check_keys.specs.Value.{number_at, number_if_any, in_range, last_integer, array_of, pair_in_value, one_up_to}
 use Rattle.check_keys.specs.declared.fault.Key.TheVariants.{Base, Length, Ranges}
 use Rattle.check_keys.specs.declared.fault.SystemFault.{SystemFault}
 use Rattle.check_keys.specs.declared.fault.SystemFault.TheVariants.{OutOfRange}
@@ -16,7 +16,7 @@ use Rattle.check_keys.specs.declared.fault.SystemFault.TheVariants.{OutOfRange}
 -- there are some and not too many, and each has a byte, and none past the last address
 pub record AreRangesOfPort (ranges : List Range) : Type 0 where
   pub some : 0 < length ranges
-  pub few : length ranges ≤ MAX_RANGES
+  pub few : length ranges ≤ MAX_RANGES_OF_PORT
   pub each : All IsLawfulRange ranges
 
 -- the address of the first byte of the first range, and how many bytes that has
@@ -38,8 +38,8 @@ plain_ranges members = do
   Ok (record { base = base; length = length } ∷ [])
 
 -- the range of this base and this length
-unfoldable pub range_of : ℤ × ℤ → Result Range SystemFault
-range_of pair = do
+unfoldable pub range_of_pair : ℤ × ℤ → Result Range SystemFault
+range_of_pair pair = do
   base ← in_range Ranges 0 last_integer pair.0
   length ← in_range Ranges 1 last_integer pair.1
   Ok (record { base = base; length = length })
@@ -48,10 +48,10 @@ range_of pair = do
 unfoldable pub ranges_in : Bool → Data → Result (List Range) SystemFault
 ranges_in beside value = do
   values ← array_of Ranges value
-  pairs ← each (pair_of Ranges) values
+  pairs ← each (pair_in_value Ranges) values
   alone ← unless beside (OutOfRange Ranges) pairs
-  some ← one_up_to Ranges MAX_RANGES alone
-  each range_of some
+  some ← one_up_to Ranges MAX_RANGES_OF_PORT alone
+  each range_of_pair some
 
 -- the same, with the base and the length looked at before
 unfoldable pub listed_ranges : Members → Data → Result (List Range) SystemFault

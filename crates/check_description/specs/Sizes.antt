@@ -2,11 +2,11 @@
 use Rattle.std.specs.Prelude.{ℕ, ℤ, List, codes, Option, Result, Ok}
 use Rattle.toml.specs.Data.{Data, Members, get_member}
 use Rattle.tl_types.specs.declared.limits.TheConstants.{MAX_SIZE}
-use Rattle.check_memory.specs.declared.sizes.Span.{Span}
-use Rattle.check_memory.specs.declared.sizes.SizeTable.{SizeTable}
+use Rattle.tl_ops.specs.declared.sizes.SizeSpan.{SizeSpan}
+use Rattle.tl_ops.specs.declared.sizes.SizeTable.{SizeTable}
 use Rattle.check_keys.specs.Key.{key_name}
-use Rattle.check_keys.specs.Reading.{◌>>=◌, if_any}
-use Rattle.check_keys.specs.Value.{in_range, pair_of, table_of as members_of}
+use Rattle.tl_text.specs.Reading.{◌>>=◌, if_any}
+use Rattle.check_keys.specs.Value.{in_range, pair_in_value, table_of as members_of}
 use Rattle.check_keys.specs.declared.fault.Key.TheVariants.{Sizes}
 use Rattle.check_keys.specs.declared.fault.SystemFault.{SystemFault}
 use Rattle.check_description.specs.declared.sizes.Pairs.{Pairs}
@@ -15,7 +15,7 @@ use Rattle.check_description.specs.declared.sizes.Pairs.{Pairs}
 
 -- those at the name of an operation, if it is there
 unfoldable pub pair_at : List ℕ → Members → Result (Option (ℤ × ℤ)) SystemFault
-pair_at name members = if_any (pair_of Sizes) (get_member name members)
+pair_at name members = if_any (pair_in_value Sizes) (get_member name members)
 
 unfoldable pub pairs_in : Members → Result Pairs SystemFault
 pairs_in members = do
@@ -37,15 +37,15 @@ pairs_in members = do
 -- ---- sizes
 
 -- from the first integer to the second, which lie between two sizes and do not fall
-unfoldable pub span_of : ℕ → ℕ → ℤ × ℤ → Result Span SystemFault
+unfoldable pub span_of : ℕ → ℕ → ℤ × ℤ → Result SizeSpan SystemFault
 span_of low high pair = do
   least ← in_range Sizes low high pair.0
   greatest ← in_range Sizes least high pair.1
   Ok (record { least = least; greatest = greatest })
 
 -- the sizes of messages, and of atomics those of four bytes and of eight; an operation that is not there has none
-unfoldable pub table_of : Pairs → Result SizeTable SystemFault
-table_of pairs = do
+unfoldable pub size_table_of : Pairs → Result SizeTable SystemFault
+size_table_of pairs = do
   get ← if_any (span_of 0 MAX_SIZE) pairs.get
   put_full ← if_any (span_of 0 MAX_SIZE) pairs.put_full
   put_partial ← if_any (span_of 0 MAX_SIZE) pairs.put_partial
@@ -65,7 +65,7 @@ unfoldable pub sizes_in : Data → Result SizeTable SystemFault
 sizes_in value = do
   members ← members_of Sizes value
   pairs ← pairs_in members
-  table_of pairs
+  size_table_of pairs
 
 -- the sizes of a port, which may give none
 unfoldable pub sizes_at : Members → Result (Option SizeTable) SystemFault

@@ -1,18 +1,17 @@
 -- The slave that a port is before any request. This project's own.
-use Rattle.std.specs.Prelude.{ℕ, ◌^◌, Bool, true, false, not, nat_lt, List, [], length, map, unwrap_or, Result}
+use Rattle.std.specs.Prelude.{ℕ, ◌^◌, Bool, true, false, not, nat_lt, List, [], length, unwrap_or, Result}
 use Rattle.tl_ops.specs.declared.kind.Kind.{Kind}
 use Rattle.tl_ops.specs.declared.kind.Kind.TheVariants.{NoDevice}
 use Rattle.tl_map.specs.declared.map.Range.{Range}
 use Rattle.check_memory.specs.Partial.{Partial, loaded}
 use Rattle.check_memory.specs.Place.{fill_of, tabulate}
-use Rattle.check_memory.specs.Sizes.{row_of}
-use Rattle.check_memory.specs.declared.range.Range as memory_range
-use Rattle.check_memory.specs.declared.sizes.SizeTable.{SizeTable}
+use Rattle.tl_ops.specs.Support.{row_of_kind}
+use Rattle.tl_ops.specs.declared.sizes.SizeTable.{SizeTable}
 use Rattle.check_memory.specs.declared.slave.Slave.{Slave}
 use Rattle.check_memory.specs.declared.slave.Slave.TheVariants as kept
 use Rattle.check_flight.specs.PortSlave.{PortSlave, fresh_slave}
 use Rattle.check_flight.specs.declared.order.Order.{Order}
-use Rattle.check_keys.specs.Reading.{unless}
+use Rattle.tl_text.specs.Reading.{unless}
 use Rattle.check_keys.specs.declared.fault.SystemFault.{SystemFault}
 use Rattle.check_keys.specs.declared.fault.SystemFault.TheVariants.{ImageTooLong}
 use Rattle.check_description.specs.Port.{Port}
@@ -20,17 +19,13 @@ use Rattle.check_description.specs.Ranges.{first_base, first_length}
 use Rattle.check_description.specs.declared.kind.PortKind.{PortKind}
 use Rattle.check_description.specs.declared.kind.PortKind.TheVariants.{Memory, Device}
 
--- the ranges, as a memory has them
-abbrev pub memory_ranges : List Range → List memory_range.Range
-memory_ranges ranges = map (λ range. record { base = range.base; length = range.length }) ranges
-
 -- the sizes that a memory of a kind supports at a port: the port's own, or else the kind's row
 abbrev pub sizes_of_port : Kind → Port → SizeTable
-sizes_of_port kind port = unwrap_or port.sizes (row_of kind)
+sizes_of_port kind port = unwrap_or port.sizes (row_of_kind kind)
 
 -- a memory of these ranges of which no byte was given: all are zero, or all are unknown
-abbrev pub blank : Kind → SizeTable → List memory_range.Range → Bool → Partial
-blank kind sizes ranges known = record {
+abbrev pub ungiven_memory : Kind → SizeTable → List Range → Bool → Partial
+ungiven_memory kind sizes ranges known = record {
   kind = kind;
   sizes = sizes;
   ranges = ranges;
@@ -39,7 +34,7 @@ blank kind sizes ranges known = record {
 
 abbrev pub blank_memory : Kind → Port → Partial
 blank_memory kind port =
-    blank kind (sizes_of_port kind port) (memory_ranges port.ranges) (not port.contents.unknown)
+    ungiven_memory kind (sizes_of_port kind port) port.ranges (not port.contents.unknown)
 
 -- the memory of a port with the bytes of its image from the base of its first range on, and over them those of its reset
 abbrev pub memory_at_reset : Kind → Port → List ℕ → Partial
@@ -64,4 +59,4 @@ slave_at_reset number port image order =
 
 -- the error port's: it has no range, so each request is denied
 abbrev pub error_slave : Order → PortSlave
-error_slave order = fresh_slave (kept.Memory (blank NoDevice (row_of NoDevice) [] true)) order false
+error_slave order = fresh_slave (kept.Memory (ungiven_memory NoDevice (row_of_kind NoDevice) [] true)) order false

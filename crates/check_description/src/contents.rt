@@ -2,7 +2,7 @@
 ghost use Rattle.std.specs.Prelude.{◌≡◌, ◌≤◌, IfOk, length, option_map, string_bytes};
 ghost use Rattle.toml.specs.View.{table_view};
 ghost use Rattle.check_keys.specs.Reading.{Gives};
-ghost use Rattle.check_description.specs.Contents.{contents_at as contents_of_table, image_at as image_of_table, reset_at as reset_of_table, reset_of as reset_of_text};
+ghost use Rattle.check_description.specs.Contents.{contents_at as contents_of_table, image_name_at as image_of_table, reset_at as reset_of_table, reset_of as reset_of_text};
 ghost use Rattle.check_description.specs.Port.{contents_view};
 
 use crate::port::Contents;
@@ -35,7 +35,7 @@ fn reset_at(alloc: Global, most: u64, table: &Table) -> Result<Vec<u8>, SystemFa
 }
 
 /// The name of a port's file, which may have none.
-#[tactic(auto, unfolding(crate::specs::Contents::image_at))]
+#[tactic(auto, unfolding(crate::specs::Contents::image_name_at))]
 fn image_at(alloc: Global, table: &Table) -> Result<Option<String>, SystemFault>
     ensures { Gives (option_map string_bytes) result (image_of_table (table_view table.now)) }
 {

@@ -1,6 +1,6 @@
 //! Descriptions: the ports and masters of a file, with their addresses and their wide sources.
 ghost use Rattle.std.specs.Prelude.{◌≡◌, ◌≢◌, IfErr, IfOk, OnOk, length, map};
-ghost use Rattle.check_map.specs.Ranges.{AreRanges, IsFirstMapFault, IsLawfulMap};
+ghost use Rattle.check_map.specs.Ranges.{AreRanges, IsFirstAddressMapFault, IsLawfulAddressMap};
 ghost use Rattle.check_keys.specs.declared.fault.SystemFault.TheVariants.{Memory};
 ghost use Rattle.check_description.specs.Port.{port_view};
 ghost use Rattle.check_description.specs.Description.{IsFirstFaultOf, IsOfMap, Makes, described, ranges_of};
@@ -12,7 +12,7 @@ use crate::owners::sources_of;
 use crate::parts::Parts;
 use crate::port::Port;
 use check_keys::SystemFault;
-use check_map::{Map, Sources};
+use check_map::{AddressMap, SourceOwners};
 use std::alloc::Global;
 use std::marker::Model;
 
@@ -21,8 +21,8 @@ use std::marker::Model;
 pub struct Description {
     ports: Vec<Port>,
     masters: Vec<Master>,
-    addresses: Map,
-    sources: Sources,
+    addresses: AddressMap,
+    sources: SourceOwners,
 }
 
 /// The parts of a description, each to be taken on its own.
@@ -30,8 +30,8 @@ pub struct Description {
 pub struct Described {
     pub ports: Vec<Port>,
     pub masters: Vec<Master>,
-    pub addresses: Map,
-    pub sources: Sources,
+    pub addresses: AddressMap,
+    pub sources: SourceOwners,
 }
 
 impl Model for Description {
@@ -49,7 +49,12 @@ impl Model for Description {
 
 impl Description {
     /// The description of these parts, with the sources of each master.
-    fn new(ports: Vec<Port>, masters: Vec<Master>, addresses: Map, sources: Sources) -> Description
+    fn new(
+        ports: Vec<Port>,
+        masters: Vec<Master>,
+        addresses: AddressMap,
+        sources: SourceOwners,
+    ) -> Description
         requires addresses { addresses ≡ ranges_of (map port_view ports.items) }
         requires counted { length sources ≡ length masters.items }
         ensures { result ≡ described ports.items masters.items sources }
@@ -77,14 +82,14 @@ impl Description {
     }
 
     /// Which port has which addresses.
-    pub fn map(&self) -> &Map
+    pub fn map(&self) -> &AddressMap
         ensures { result.now ≡ ranges_of self.now.ports }
     {
         &self.addresses
     }
 
     /// Which wide sources are each master's.
-    pub fn sources(&self) -> &Sources
+    pub fn sources(&self) -> &SourceOwners
         ensures { result.now ≡ self.now.owners }
     {
         &self.sources
@@ -108,18 +113,18 @@ impl Description {
 }
 
 /// The map of the ports' ranges.
-fn map_of(alloc: Global, ports: &[Port]) -> Result<Map, SystemFault>
+fn map_of(alloc: Global, ports: &[Port]) -> Result<AddressMap, SystemFault>
     requires { AreRanges (ranges_of (map port_view ports.now)) }
     ensures made { IfOk result (λ m. m ≡ ranges_of (map port_view ports.now)) }
-    ensures lawful { OnOk result (IsLawfulMap (ranges_of (map port_view ports.now))) }
+    ensures lawful { OnOk result (IsLawfulAddressMap (ranges_of (map port_view ports.now))) }
     ensures fault { IfErr result (λ fault. fault ≢ Memory
-        → IsOfMap (IsFirstMapFault (ranges_of (map port_view ports.now))) fault) }
+        → IsOfMap (IsFirstAddressMapFault (ranges_of (map port_view ports.now))) fault) }
 {
     let mut ranges = Vec::with_capacity(alloc, ports.len())?;
     for port in ports {
         ranges.push(Vec::from_slice(alloc, &port.ranges)?)?;
     }
-    Ok(Map::new(alloc, &ranges)?)
+    Ok(AddressMap::new(alloc, &ranges)?)
 }
 
 /// The description that parts make, or their first fault: of their ranges, or else of their sources. Want of memory may

@@ -2,7 +2,7 @@
 ghost use Rattle.std.specs.Prelude.{◌≡◌};
 ghost use Rattle.toml.specs.View.{table_view};
 ghost use Rattle.check_keys.specs.Reading.{Gives};
-ghost use Rattle.check_description.specs.Kind.{kind_at, kind_of};
+ghost use Rattle.check_description.specs.Kind.{kind_at, port_kind_of};
 
 use check_keys::{Key, SystemFault, text_of, value_at};
 use tl_ops::Kind;
@@ -16,8 +16,8 @@ pub enum PortKind {
 }
 
 /// The kind that a word names.
-fn kind_of(word: &[u8]) -> Option<PortKind>
-    ensures { result ≡ kind_of word.now }
+fn port_kind_of(word: &[u8]) -> Option<PortKind>
+    ensures { result ≡ port_kind_of word.now }
 {
     if word == b"ram".as_slice() {
         Some(PortKind::Memory(Kind::Ram))
@@ -40,7 +40,7 @@ pub fn kind_at(table: &Table) -> Result<PortKind, SystemFault>
     ensures { Gives (λ kind. kind) result (kind_at (table_view table.now)) }
 {
     let word = text_of(value_at(table, Key::Kind)?, Key::Kind)?;
-    match kind_of(word.as_bytes()) {
+    match port_kind_of(word.as_bytes()) {
         Some(kind) => Ok(kind),
         None => Err(SystemFault::OutOfRange(Key::Kind)),
     }

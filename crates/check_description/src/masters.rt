@@ -2,15 +2,16 @@
 ghost use Rattle.std.specs.Prelude.{◌≡◌, map};
 ghost use Rattle.std.specs.List.{list_any};
 ghost use Rattle.toml.specs.View.{table_view};
-ghost use Rattle.check_keys.specs.Reading.{Gives, each};
+ghost use Rattle.tl_text.specs.Reading.{each};
+ghost use Rattle.check_keys.specs.Reading.{Gives};
 ghost use Rattle.check_description.specs.Master.{first_at as first_of_table, has_first as has_first_key, master_of, master_tables, master_view, masters_of, stride_at as stride_of_table};
 
 use check_beats::Bus;
 use check_keys::{
-    Key, SystemFault, array_of, bus_at, find_value, name_at, number_at, number_if_any, tables_of,
-    value_at,
+    Key, SystemFault, array_of, bus_in_table, find_value, name_at, number_at, number_if_any,
+    tables_of, value_at,
 };
-use check_map::{MAX_MASTERS, MAX_SOURCES, MAX_WIDE};
+use check_map::{MAX_JUDGED_MASTERS, MAX_JUDGED_SOURCES, MAX_WIDE};
 use std::alloc::Global;
 use toml::Table;
 
@@ -72,10 +73,10 @@ fn read_master(alloc: Global, bus: Bus, placed: bool, table: &Table) -> Result<M
     ensures { Gives master_view result (master_of bus placed (table_view table.now)) }
 {
     let name = name_at(alloc, table)?;
-    let sources = number_at(table, Key::Sources, 1, u64::from(MAX_SOURCES))?;
+    let sources = number_at(table, Key::Sources, 1, u64::from(MAX_JUDGED_SOURCES))?;
     let first = first_at(placed, table)?;
     let stride = stride_at(table)?;
-    let bus = bus_at(table, bus)?;
+    let bus = bus_in_table(table, bus)?;
     Ok(Master {
         name,
         sources: sources as u32,
@@ -110,7 +111,7 @@ fn tables_of_masters<'a>(alloc: Global, table: &'a Table) -> Result<Vec<&'a Tabl
 {
     let values = array_of(value_at(table, Key::Master)?, Key::Master)?;
     let tables = tables_of(alloc, values, Key::Master)?;
-    if tables.is_empty() || tables.len() > MAX_MASTERS {
+    if tables.is_empty() || tables.len() > MAX_JUDGED_MASTERS {
         return Err(SystemFault::OutOfRange(Key::Master));
     }
     Ok(tables)

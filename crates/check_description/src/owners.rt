@@ -1,13 +1,13 @@
 //! Which wide sources are each master's.
 ghost use Rattle.std.specs.Prelude.{◌≡◌, ◌≢◌, IfErr, IfOk, map, option_map};
-ghost use Rattle.check_map.specs.Sources.{AreLawfulOwners, IsFirstSourceFault};
+ghost use Rattle.check_map.specs.Sources.{AreLawfulOwners, IsFirstSourceOwnerFault};
 ghost use Rattle.check_description.specs.Master.{HasOwners, IsBlockFault, IsFirstOwnerFault, IsInBlocks, counts_of as counts_of_masters, master_view, owner_of as owner_of_master, said_owners};
 ghost use Rattle.check_description.specs.Description.{IsOfSources};
 ghost use Rattle.check_keys.specs.declared.fault.SystemFault.TheVariants.{Memory};
 
 use crate::masters::Master;
 use check_keys::SystemFault;
-use check_map::{Owner, Sources, blocks};
+use check_map::{Owner, SourceOwners, blocks};
 use std::alloc::{AllocError, Global};
 
 /// The wide sources that a master says, if it says where they begin.
@@ -49,28 +49,28 @@ fn counts_of(alloc: Global, masters: &[Master]) -> Result<Vec<u32>, AllocError>
 }
 
 /// The sources of masters in blocks of so many.
-fn sources_in_blocks(alloc: Global, counts: &[u32]) -> Result<Sources, SystemFault>
+fn sources_in_blocks(alloc: Global, counts: &[u32]) -> Result<SourceOwners, SystemFault>
     ensures blocks { IfOk result (IsInBlocks counts.now) }
     ensures lawful { IfOk result AreLawfulOwners }
     ensures fault { IfErr result
         (λ fault. fault ≢ Memory → IsOfSources (IsBlockFault counts.now) fault) }
 {
     let owners = blocks(alloc, counts)?;
-    Ok(Sources::new(alloc, &owners)?)
+    Ok(SourceOwners::new(alloc, &owners)?)
 }
 
 /// The sources of these owners.
-fn sources_said(alloc: Global, owners: &[Owner]) -> Result<Sources, SystemFault>
+fn sources_said(alloc: Global, owners: &[Owner]) -> Result<SourceOwners, SystemFault>
     ensures made { IfOk result (λ sources. sources ≡ owners.now) }
     ensures lawful { IfOk result AreLawfulOwners }
     ensures fault { IfErr result
-        (λ fault. fault ≢ Memory → IsOfSources (IsFirstSourceFault owners.now) fault) }
+        (λ fault. fault ≢ Memory → IsOfSources (IsFirstSourceOwnerFault owners.now) fault) }
 {
-    Ok(Sources::new(alloc, owners)?)
+    Ok(SourceOwners::new(alloc, owners)?)
 }
 
 /// The sources of the masters: those that they say, or else blocks.
-pub fn sources_of(alloc: Global, masters: &[Master]) -> Result<Sources, SystemFault>
+pub fn sources_of(alloc: Global, masters: &[Master]) -> Result<SourceOwners, SystemFault>
     ensures owners { IfOk result (HasOwners (map master_view masters.now)) }
     ensures lawful { IfOk result AreLawfulOwners }
     ensures fault { IfErr result (λ fault. fault ≢ Memory

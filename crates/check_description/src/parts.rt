@@ -1,6 +1,6 @@
 //! What the tables of a system file name.
 ghost use Rattle.std.specs.Prelude.{◌≡◌, ◌≤◌, IfOk, length, map};
-ghost use Rattle.check_map.specs.declared.limits.TheConstants.{MAX_PORTS};
+ghost use Rattle.check_map.specs.declared.limits.TheConstants.{MAX_JUDGED_PORTS};
 
 use crate::masters::Master;
 use crate::port::Port;
@@ -11,7 +11,7 @@ use std::alloc::{AllocError, Global};
 pub struct Parts {
     pub ports: Vec<Port>,
     pub masters: Vec<Master>,
-    ghost few_ports: { length ports.items ≤ MAX_PORTS },
+    ghost few_ports: { length ports.items ≤ MAX_JUDGED_PORTS },
 }
 
 /// The file of a port's image, as the port names it. Ports are counted from 0.

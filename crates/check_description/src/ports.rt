@@ -1,8 +1,9 @@
 //! Reads the ports of a system file.
 ghost use Rattle.std.specs.Prelude.{◌≡◌, ◌≤◌, IfOk, length, map};
 ghost use Rattle.toml.specs.View.{table_view};
-ghost use Rattle.check_keys.specs.Reading.{Gives, each};
-ghost use Rattle.check_map.specs.declared.limits.TheConstants.{MAX_PORTS};
+ghost use Rattle.tl_text.specs.Reading.{each};
+ghost use Rattle.check_keys.specs.Reading.{Gives};
+ghost use Rattle.check_map.specs.declared.limits.TheConstants.{MAX_JUDGED_PORTS};
 ghost use Rattle.check_description.specs.Port.{port_of, port_tables, port_view, ports_of};
 
 use crate::contents::contents_at;
@@ -12,8 +13,8 @@ use crate::port::Port;
 use crate::ranges::{first_length, ranges_at};
 use crate::sizes::sizes_at;
 use check_beats::Bus;
-use check_keys::{Key, SystemFault, array_of, bus_at, find_value, name_at, tables_of};
-use check_map::MAX_PORTS;
+use check_keys::{Key, SystemFault, array_of, bus_in_table, find_value, name_at, tables_of};
+use check_map::MAX_JUDGED_PORTS;
 use std::alloc::Global;
 use toml::Table;
 
@@ -28,7 +29,7 @@ pub fn read_port(alloc: Global, bus: Bus, table: &Table) -> Result<Port, SystemF
     let contents = contents_at(alloc, first_length(&ranges), table)?;
     let sizes = sizes_at(table)?;
     let order = order_at(table)?;
-    let bus = bus_at(table, bus)?;
+    let bus = bus_in_table(table, bus)?;
     Ok(Port {
         name,
         kind,
@@ -58,13 +59,13 @@ fn read_each_port(alloc: Global, bus: Bus, tables: &[&Table]) -> Result<Vec<Port
 fn tables_of_ports<'a>(alloc: Global, table: &'a Table) -> Result<Vec<&'a Table>, SystemFault>
     ensures value { Gives (λ tables. map (λ table. table_view table.now) tables.items) result
         (port_tables (table_view table.now)) }
-    ensures few { IfOk result (λ tables. length tables.items ≤ MAX_PORTS) }
+    ensures few { IfOk result (λ tables. length tables.items ≤ MAX_JUDGED_PORTS) }
 {
     let Some(ports) = find_value(table, Key::Port) else {
         return Ok(Vec::new(alloc));
     };
     let tables = tables_of(alloc, array_of(ports, Key::Port)?, Key::Port)?;
-    if tables.len() > MAX_PORTS {
+    if tables.len() > MAX_JUDGED_PORTS {
         return Err(SystemFault::OutOfRange(Key::Port));
     }
     Ok(tables)
@@ -76,7 +77,7 @@ fn tables_of_ports<'a>(alloc: Global, table: &'a Table) -> Result<Vec<&'a Table>
 pub fn read_ports(alloc: Global, bus: Bus, table: &Table) -> Result<Vec<Port>, SystemFault>
     ensures value { Gives (λ ports. map port_view ports.items) result
         (ports_of bus (table_view table.now)) }
-    ensures few { IfOk result (λ ports. length ports.items ≤ MAX_PORTS) }
+    ensures few { IfOk result (λ ports. length ports.items ≤ MAX_JUDGED_PORTS) }
 {
     let tables = tables_of_ports(alloc, table)?;
     read_each_port(alloc, bus, &tables)

@@ -1,17 +1,18 @@
 //! The ranges of a port: its base and its length, or a list of both.
 ghost use Rattle.std.specs.Prelude.{◌≡◌, ◌<◌, ◌≤◌, All, IfOk, length, map};
 ghost use Rattle.toml.specs.View.{table_view, view};
+ghost use Rattle.tl_text.specs.Reading.{each};
 ghost use Rattle.check_map.specs.Ranges.{IsLawfulRange};
-ghost use Rattle.check_keys.specs.Reading.{Gives, each};
-ghost use Rattle.check_keys.specs.Value.{pair_of as pair_in};
+ghost use Rattle.check_keys.specs.Reading.{Gives};
+ghost use Rattle.check_keys.specs.Value.{pair_in_value as pair_in};
 ghost use Rattle.check_keys.specs.declared.fault.Key.TheVariants.{Ranges};
-ghost use Rattle.check_description.specs.Ranges.{AreRangesOfPort, first_base as base_of_first, first_length as length_of_first, listed_ranges, plain_ranges, range_of as range_of_pair, ranges_at as ranges_of_table, ranges_in as ranges_of_value};
+ghost use Rattle.check_description.specs.Ranges.{AreRangesOfPort, first_base as base_of_first, first_length as length_of_first, listed_ranges, plain_ranges, range_of_pair, ranges_at as ranges_of_table, ranges_in as ranges_of_value};
 
 use check_keys::{
     Key, LAST_INTEGER, SystemFault, array_of, find_value, in_range, number_at, number_if_any,
-    pair_of,
+    pair_in_value,
 };
-use check_map::MAX_RANGES;
+use check_map::MAX_RANGES_OF_PORT;
 use std::alloc::Global;
 use tl_map::Range;
 use toml::{Table, Value};
@@ -42,13 +43,13 @@ fn read_each_pair(alloc: Global, values: &[Value]) -> Result<Vec<(i64, i64)>, Sy
 {
     let mut pairs = Vec::with_capacity(alloc, values.len())?;
     for value in values {
-        pairs.push(pair_of(value, Key::Ranges)?)?;
+        pairs.push(pair_in_value(value, Key::Ranges)?)?;
     }
     Ok(pairs)
 }
 
 /// The range of a base and a length.
-#[tactic(auto, unfolding(crate::specs::Ranges::range_of))]
+#[tactic(auto, unfolding(crate::specs::Ranges::range_of_pair))]
 fn range_of(pair: (i64, i64)) -> Result<Range, SystemFault>
     ensures value { Gives (λ range. range) result (range_of_pair pair) }
     ensures lawful { IfOk result IsLawfulRange }
@@ -78,7 +79,7 @@ fn ranges_in(alloc: Global, beside: bool, value: &Value) -> Result<Vec<Range>, S
     ensures lawful { IfOk result (λ ranges. AreRangesOfPort ranges.items) }
 {
     let pairs = read_each_pair(alloc, array_of(value, Key::Ranges)?)?;
-    if beside || pairs.is_empty() || pairs.len() > MAX_RANGES {
+    if beside || pairs.is_empty() || pairs.len() > MAX_RANGES_OF_PORT {
         return Err(SystemFault::OutOfRange(Key::Ranges));
     }
     make_each_range(alloc, &pairs)

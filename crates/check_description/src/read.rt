@@ -11,7 +11,7 @@ use crate::names::check_names;
 use crate::parts::Parts;
 use crate::ports::read_ports;
 use check_beats::Bus;
-use check_keys::{SystemFault, bus_at};
+use check_keys::{SystemFault, bus_in_table};
 use std::alloc::Global;
 use toml::Table;
 
@@ -41,7 +41,7 @@ fn read_document(alloc: Global, bytes: &[u8]) -> Result<Table, SystemFault>
 fn read_tables(alloc: Global, table: &Table) -> Result<Parts, SystemFault>
     ensures { Gives parts_view result (parts_in (table_view table.now)) }
 {
-    let bus = bus_at(table, Bus::Eight)?;
+    let bus = bus_in_table(table, Bus::Eight)?;
     let ports = read_ports(alloc, bus, table)?;
     let masters = read_masters(alloc, bus, table)?;
     Ok(Parts { ports, masters })

@@ -1,12 +1,14 @@
 //! The sizes that a port supports, for each operation.
 ghost use Rattle.std.specs.Prelude.{◌≡◌, ◌≤◌, IfOk, IfSome};
 ghost use Rattle.toml.specs.View.{table_view, view};
+ghost use Rattle.tl_text.specs.Reading.{if_any};
 ghost use Rattle.check_memory.specs.Sizes.{IsBetween, IsLawfulTable};
-ghost use Rattle.check_keys.specs.Reading.{Gives, if_any};
-ghost use Rattle.check_description.specs.Sizes.{pair_at as pair_of_member, pairs_in, sizes_at as sizes_of_table, sizes_in as sizes_of_value, span_of as span_of_pair, table_of};
+ghost use Rattle.check_keys.specs.Reading.{Gives};
+ghost use Rattle.check_description.specs.Sizes.{pair_at as pair_of_member, pairs_in, sizes_at as sizes_of_table, sizes_in as sizes_of_value, span_of as span_of_pair, size_table_of};
 
-use check_keys::{Key, SystemFault, find_member, find_value, in_range, pair_of, table_of};
-use check_memory::{SizeTable, Sizes, Span};
+use check_keys::{Key, SystemFault, find_member, find_value, in_range, pair_in_value, table_of};
+use check_memory::Sizes;
+use tl_ops::{SizeSpan, SizeTable};
 use tl_types::MAX_SIZE;
 use toml::{Table, Value};
 
@@ -27,7 +29,7 @@ fn pair_at(table: &Table, name: &str) -> Result<Option<(i64, i64)>, SystemFault>
     ensures { Gives (λ pair. pair) result (pair_of_member name.now (table_view table.now)) }
 {
     match find_member(table, name) {
-        Some(value) => Ok(Some(pair_of(value, Key::Sizes)?)),
+        Some(value) => Ok(Some(pair_in_value(value, Key::Sizes)?)),
         None => Ok(None),
     }
 }
@@ -55,20 +57,20 @@ fn read_pairs(table: &Table) -> Result<Pairs, SystemFault>
 
 /// The sizes from the first integer to the second, which lie between two sizes.
 #[tactic(auto, unfolding(crate::specs::Sizes::span_of))]
-fn span_of(pair: (i64, i64), low: u8, high: u8) -> Result<Span, SystemFault>
+fn span_of(pair: (i64, i64), low: u8, high: u8) -> Result<SizeSpan, SystemFault>
     ensures value { Gives (λ span. span) result (span_of_pair low high pair) }
     ensures between { IfOk result (IsBetween low high) }
 {
     let least = in_range(pair.0, Key::Sizes, u64::from(low), u64::from(high))?;
     let greatest = in_range(pair.1, Key::Sizes, least, u64::from(high))?;
-    Ok(Span {
+    Ok(SizeSpan {
         least: least as u8,
         greatest: greatest as u8,
     })
 }
 
 /// The sizes of an operation, if it has any.
-fn span_if_any(pair: Option<(i64, i64)>, low: u8, high: u8) -> Result<Option<Span>, SystemFault>
+fn span_if_any(pair: Option<(i64, i64)>, low: u8, high: u8) -> Result<Option<SizeSpan>, SystemFault>
     ensures value { Gives (λ span. span) result (if_any (span_of_pair low high) pair) }
     ensures between { IfOk result (λ span. IfSome span (IsBetween low high)) }
 {
@@ -79,9 +81,9 @@ fn span_if_any(pair: Option<(i64, i64)>, low: u8, high: u8) -> Result<Option<Spa
 }
 
 /// The sizes of each operation: those of messages, and of atomics those of four bytes and of eight.
-#[tactic(auto, unfolding(crate::specs::Sizes::table_of))]
+#[tactic(auto, unfolding(crate::specs::Sizes::size_table_of))]
 fn table_of_pairs(pairs: Pairs) -> Result<SizeTable, SystemFault>
-    ensures value { Gives (λ table. table) result (table_of pairs) }
+    ensures value { Gives (λ table. table) result (size_table_of pairs) }
     ensures lawful { IfOk result IsLawfulTable }
 {
     let get = span_if_any(pairs.get, 0, MAX_SIZE)?;

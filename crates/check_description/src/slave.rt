@@ -1,33 +1,18 @@
 //! The slave that a port is before any request.
-ghost use Rattle.std.specs.Prelude.{◌≡◌, ◌≤◌, IfOk, length, map};
+ghost use Rattle.std.specs.Prelude.{◌≡◌, ◌≤◌, IfOk, length};
 ghost use Rattle.check_keys.specs.Reading.{Gives};
 ghost use Rattle.check_description.specs.Port.{port_view};
 ghost use Rattle.check_description.specs.Ranges.{first_length as length_of_first};
-ghost use Rattle.check_description.specs.Slave.{blank_memory, error_slave as slave_of_error, kept_at_reset, memory_at_reset, memory_ranges, sizes_of_port, slave_at_reset};
+ghost use Rattle.check_description.specs.Slave.{blank_memory, error_slave as slave_of_error, kept_at_reset, memory_at_reset, sizes_of_port, slave_at_reset};
 
 use crate::kind::PortKind;
 use crate::port::Port;
 use crate::ranges::{first_base, first_length};
 use check_flight::{Order, PortSlave};
 use check_keys::SystemFault;
-use check_memory::{Memory, Range as MemoryRange, Sizes, Slave};
+use check_memory::{PartialMemory, Sizes, Slave};
 use std::alloc::{AllocError, Global};
-use tl_map::Range;
 use tl_ops::Kind;
-
-/// The ranges, as a memory has them.
-fn memory_ranges_of(alloc: Global, ranges: &[Range]) -> Result<Vec<MemoryRange>, AllocError>
-    ensures { IfOk result (λ made. made.items ≡ memory_ranges ranges.now) }
-{
-    let mut made = Vec::with_capacity(alloc, ranges.len())?;
-    for range in ranges {
-        made.push(MemoryRange {
-            base: range.base,
-            length: range.length,
-        })?;
-    }
-    Ok(made)
-}
 
 /// The sizes that a memory of a kind supports at a port: the port's own, or else the kind's row.
 fn sizes_of(kind: Kind, port: &Port) -> Sizes
@@ -43,16 +28,21 @@ fn sizes_of(kind: Kind, port: &Port) -> Sizes
 }
 
 /// The memory of a port in which nothing was put yet.
-fn blank_of(alloc: Global, kind: Kind, port: &Port) -> Result<Memory, AllocError>
+fn blank_of(alloc: Global, kind: Kind, port: &Port) -> Result<PartialMemory, AllocError>
     ensures { IfOk result (λ memory. memory ≡ blank_memory kind (port_view port.now)) }
 {
-    let ranges = memory_ranges_of(alloc, &port.ranges)?;
+    let ranges = Vec::from_slice(alloc, &port.ranges)?;
     let sizes = sizes_of(kind, port);
-    Ok(Memory::new(alloc, kind, sizes, ranges, !port.contents.unknown))
+    Ok(PartialMemory::new(alloc, kind, sizes, ranges, !port.contents.unknown))
 }
 
 /// The memory of a port before any request, with these bytes of its image.
-fn memory_of(alloc: Global, kind: Kind, port: &Port, image: &[u8]) -> Result<Memory, AllocError>
+fn memory_of(
+    alloc: Global,
+    kind: Kind,
+    port: &Port,
+    image: &[u8],
+) -> Result<PartialMemory, AllocError>
     requires { length image.now ≤ length_of_first (port_view port.now).ranges }
     ensures { IfOk result (λ memory. memory ≡ memory_at_reset kind (port_view port.now) image.now) }
 {
@@ -99,7 +89,7 @@ pub fn error_slave(alloc: Global, order: Order) -> PortSlave
     ensures { result ≡ slave_of_error order }
 {
     let nowhere = Vec::new(alloc);
-    let memory = Memory::new(
+    let memory = PartialMemory::new(
         alloc,
         Kind::NoDevice,
         Sizes::of(Kind::NoDevice),

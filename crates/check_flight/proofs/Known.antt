@@ -4,7 +4,7 @@ use Rattle.tl_types.specs.Request.{Request}
 use Rattle.tl_types.specs.Response.{Response}
 use Rattle.check_cells.specs.Known.{known, all_known}
 use Rattle.check_cells.specs.Pattern.{seen_as}
-use Rattle.check_memory.specs.Laws.{IsLawful}
+use Rattle.check_memory.specs.Laws.{IsLawfulAsk}
 use Rattle.check_memory.specs.Partial.{Partial, AreWithin}
 use Rattle.check_memory.specs.Slave.{slave_after, expected_of}
 use Rattle.check_memory.specs.Whole.{true_after, true_reply}
@@ -70,7 +70,7 @@ whole_pattern response = record {
   bytes = all_known-known response.bytes;
 }
 
-pub stays_whole : (slave : PortSlave) (ask : Request) → IsLawful ask → IsWholeMemory slave.kept → StaysWhole slave ask
+pub stays_whole : (slave : PortSlave) (ask : Request) → IsLawfulAsk ask → IsWholeMemory slave.kept → StaysWhole slave ask
 stays_whole slave ask lawful whole =
     let law = whole_stays_whole whole.memory whole.bytes ask whole.within lawful in
     record {

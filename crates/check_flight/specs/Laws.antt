@@ -6,7 +6,7 @@ use Rattle.check_beats.specs.declared.beat.AskHead.{AskHead}
 use Rattle.check_beats.specs.declared.beat.ReplyHead.{ReplyHead}
 use Rattle.check_cells.specs.Known.{all_known}
 use Rattle.check_cells.specs.Pattern.{Pattern}
-use Rattle.check_memory.specs.Laws.{IsLawful}
+use Rattle.check_memory.specs.Laws.{IsLawfulAsk}
 use Rattle.check_memory.specs.Partial.{Partial, AreWithin}
 use Rattle.check_memory.specs.Slave.{expected_of}
 use Rattle.check_memory.specs.Whole.{whole}
@@ -65,4 +65,4 @@ pub record StaysWhole (slave : PortSlave) (ask : Request) : Type 0 where
 -- a memory that is wholly known has no use for unknown lanes
 abbrev pub WholeSlaveStaysWhole : Type 0
 WholeSlaveStaysWhole =
-    (slave : PortSlave) (ask : Request) → IsLawful ask → IsWholeMemory slave.kept → StaysWhole slave ask
+    (slave : PortSlave) (ask : Request) → IsLawfulAsk ask → IsWholeMemory slave.kept → StaysWhole slave ask

@@ -10,7 +10,7 @@ ghost use Rattle.check_flight.specs.Flight.Turn.{Idle, Asking, Asked};
 ghost use Rattle.check_flight.specs.Flight.{asked, flight_due, idle, IsInFlight};
 
 use crate::answer::Answer;
-use crate::place::Place;
+use crate::place::FlightPlace;
 use crate::slave::PortSlave;
 use check_beats::{AskHead, UnderWay};
 use std::alloc::{AllocError, Global};
@@ -120,7 +120,7 @@ impl Flight {
     pub fn accept(
         &mut self,
         alloc: Global,
-        place: Place,
+        place: FlightPlace,
         under: &UnderWay,
         beat: &AskHead,
         lanes: &[u8],
@@ -153,7 +153,7 @@ impl Flight {
     fn accept_apart(
         &mut self,
         alloc: Global,
-        place: Place,
+        place: FlightPlace,
         under: &UnderWay,
         beat: &AskHead,
         lanes: &[u8],
@@ -185,7 +185,7 @@ impl Flight {
     pub fn answer(
         &mut self,
         alloc: Global,
-        place: Place,
+        place: FlightPlace,
         slave: &mut PortSlave,
     ) -> Result<(), AllocError>
         ensures flight { OnOk result (self.new

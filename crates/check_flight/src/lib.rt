@@ -25,6 +25,6 @@ pub use answer::Answer;
 pub use crossing::Crossing;
 pub use flight::Flight;
 pub use order::Order;
-pub use place::Place;
+pub use place::FlightPlace;
 pub use side::Side;
 pub use slave::PortSlave;

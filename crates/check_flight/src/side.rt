@@ -8,7 +8,7 @@ ghost use Rattle.check_flight.specs.Flight.{asked, idle};
 ghost use Rattle.check_flight.specs.Side.{ask_crossed, ask_ended, bus_at, flight_at, reply_crossed, reply_ended, side_due, side_under, side_with, under_at};
 
 use crate::flight::Flight;
-use crate::place::Place;
+use crate::place::FlightPlace;
 use crate::slave::PortSlave;
 use check_beats::{AskHead, Bus, ReplyHead, UnderWay};
 use std::alloc::{AllocError, Global};
@@ -102,7 +102,7 @@ impl Side {
     }
 
     /// A beat crosses that does not end its request.
-    pub fn begin_ask(&mut self, place: Place, beat: &AskHead, lanes: &[u8])
+    pub fn begin_ask(&mut self, place: FlightPlace, beat: &AskHead, lanes: &[u8])
         requires link { place.link < length self.old.links }
         requires wide { place.wide < length self.old.flights }
         requires fits { let under = under_at self.old.links place.link in
@@ -119,7 +119,7 @@ impl Side {
     }
 
     /// A beat crosses that ends its request, which no slave accepts there.
-    pub fn end_ask(&mut self, place: Place, beat: &AskHead, lanes: &[u8])
+    pub fn end_ask(&mut self, place: FlightPlace, beat: &AskHead, lanes: &[u8])
         requires link { place.link < length self.old.links }
         requires wide { place.wide < length self.old.flights }
         requires fits { let under = under_at self.old.links place.link in
@@ -142,7 +142,7 @@ impl Side {
     pub fn accept(
         &mut self,
         alloc: Global,
-        place: Place,
+        place: FlightPlace,
         beat: &AskHead,
         lanes: &[u8],
         slave: &mut PortSlave,
@@ -180,7 +180,7 @@ impl Side {
     pub fn answer(
         &mut self,
         alloc: Global,
-        place: Place,
+        place: FlightPlace,
         slave: &mut PortSlave,
     ) -> Result<(), AllocError>
         requires { place.wide < length self.old.flights }
@@ -212,7 +212,7 @@ impl Side {
     }
 
     /// The last beat crosses of the reply to the request in flight of a wide source: nothing is in flight of it any more.
-    pub fn end_reply(&mut self, place: Place)
+    pub fn end_reply(&mut self, place: FlightPlace)
         requires link { place.link < length self.old.links }
         requires wide { place.wide < length self.old.flights }
         ensures { self.new

@@ -6,7 +6,7 @@ ghost use Rattle.check_flight.specs.PortSlave.{accepting, answer_of, answer_of_k
 
 use crate::answer::Answer;
 use crate::order::Order;
-use crate::place::Place;
+use crate::place::FlightPlace;
 use check_contests::{Accepted, Contests};
 use check_memory::Slave;
 use std::alloc::{AllocError, Global};
@@ -129,7 +129,7 @@ impl PortSlave {
     pub fn accept(
         &mut self,
         alloc: Global,
-        place: Place,
+        place: FlightPlace,
         ask: &Ask,
         answer: &mut Answer,
     ) -> Result<bool, AllocError>
@@ -158,7 +158,7 @@ impl PortSlave {
     pub fn answer(
         &mut self,
         alloc: Global,
-        place: Place,
+        place: FlightPlace,
         ask: &Ask,
         answer: &mut Answer,
     ) -> Result<bool, AllocError>

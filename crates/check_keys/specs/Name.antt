@@ -3,7 +3,7 @@ use Rattle.std.specs.Prelude.{ℕ, Bool, false, ◌&&◌, ◌||◌, not, ◌==�
 use Rattle.std.specs.Char.{is_ascii_alphanumeric, is_ascii_digit}
 use Rattle.std.specs.List.{list_all}
 use Rattle.toml.specs.Data.{Members}
-use Rattle.check_keys.specs.Reading.{◌>>=◌, if_any, unless}
+use Rattle.tl_text.specs.Reading.{◌>>=◌, if_any, unless}
 use Rattle.check_keys.specs.Value.{text_if_any}
 use Rattle.check_keys.specs.declared.fault.Key.TheVariants.{Name}
 use Rattle.check_keys.specs.declared.fault.SystemFault.{SystemFault}
@@ -28,9 +28,9 @@ is_name text =
     && not (is_number_of_link text)
 
 -- the name that a text is
-abbrev pub name_of : List ℕ → Result (List ℕ) SystemFault
-name_of text = unless (not (is_name text)) (OutOfRange Name) text
+abbrev pub name_of_text : List ℕ → Result (List ℕ) SystemFault
+name_of_text text = unless (not (is_name text)) (OutOfRange Name) text
 
 -- the name of a port or master, which may have none
 unfoldable pub name_at : Members → Result (Option (List ℕ)) SystemFault
-name_at members = text_if_any Name members >>= if_any name_of
+name_at members = text_if_any Name members >>= if_any name_of_text

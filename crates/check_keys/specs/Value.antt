@@ -4,7 +4,7 @@ use Rattle.toml.specs.Data.{Data, Members, get_member, as_integer, as_bool, as_s
 use Rattle.tl_script.specs.Port.{pairs_of}
 use Rattle.tl_script.specs.Value.{list_of}
 use Rattle.check_keys.specs.Key.{key_name}
-use Rattle.check_keys.specs.Reading.{◌>>=◌, each, if_any, unless}
+use Rattle.tl_text.specs.Reading.{◌>>=◌, each, if_any, unless}
 use Rattle.check_keys.specs.declared.fault.Key.{Key}
 use Rattle.check_keys.specs.declared.fault.SystemFault.{SystemFault}
 use Rattle.check_keys.specs.declared.fault.SystemFault.TheVariants.{Missing, WrongType, OutOfRange}
@@ -29,15 +29,15 @@ in_range key low high (pos n) = if nat_le low n && nat_le n high then Ok n else 
 in_range key low high (negsuc n) = Err (OutOfRange key)
 
 -- the number that a value is, from low to high
-unfoldable pub number_of : Key → ℕ → ℕ → Data → Result ℕ SystemFault
-number_of key low high value = integer_of key value >>= in_range key low high
+unfoldable pub number_in_value : Key → ℕ → ℕ → Data → Result ℕ SystemFault
+number_in_value key low high value = integer_of key value >>= in_range key low high
 
 -- the number at a key that has to be there, and at a key that may be absent
 unfoldable pub number_at : Key → ℕ → ℕ → Members → Result ℕ SystemFault
-number_at key low high members = value_at key members >>= number_of key low high
+number_at key low high members = value_at key members >>= number_in_value key low high
 
 unfoldable pub number_if_any : Key → ℕ → ℕ → Members → Result (Option ℕ) SystemFault
-number_if_any key low high members = if_any (number_of key low high) (get_member (key_name key) members)
+number_if_any key low high members = if_any (number_in_value key low high) (get_member (key_name key) members)
 
 -- the boolean that a value is
 abbrev pub flag_of : Key → Data → Result Bool SystemFault
@@ -76,8 +76,8 @@ two_of key (first ∷ second ∷ []) = do
 two_of key _ = Err (WrongType key)
 
 -- the two integers of which a value is an array
-unfoldable pub pair_of : Key → Data → Result (ℤ × ℤ) SystemFault
-pair_of key value = array_of key value >>= two_of key
+unfoldable pub pair_in_value : Key → Data → Result (ℤ × ℤ) SystemFault
+pair_in_value key value = array_of key value >>= two_of key
 
 -- the members of a value that is a table
 abbrev pub table_of : Key → Data → Result Members SystemFault

@@ -2,7 +2,7 @@
 ghost use Rattle.std.specs.Prelude.{◌≡◌, IfSome};
 ghost use Rattle.toml.specs.View.{table_view};
 ghost use Rattle.check_beats.specs.Bus.{bus_bytes};
-ghost use Rattle.check_keys.specs.Bus.{bus_at as bus_of_table, bus_of as bus_of_bytes};
+ghost use Rattle.check_keys.specs.Bus.{bus_in_table as bus_of_table, bus_of_bytes};
 ghost use Rattle.check_keys.specs.Reading.{Gives};
 
 use crate::fault::{Key, SystemFault};
@@ -35,8 +35,8 @@ fn bus_of(bytes: u64) -> Option<Bus>
 }
 
 /// The bus that a table says, or else the one that is handed in.
-#[tactic(auto, unfolding(crate::specs::Bus::bus_at))]
-pub fn bus_at(table: &Table, absent: Bus) -> Result<Bus, SystemFault>
+#[tactic(auto, unfolding(crate::specs::Bus::bus_in_table))]
+pub fn bus_in_table(table: &Table, absent: Bus) -> Result<Bus, SystemFault>
     ensures { Gives (λ bus. bus) result (bus_of_table absent (table_view table.now)) }
 {
     let Some(bytes) = number_if_any(table, Key::Bus, 1, MAX_LANES as u64)? else {

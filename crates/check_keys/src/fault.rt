@@ -4,7 +4,7 @@ ghost use Rattle.check_keys.specs.Key.{key_name};
 ghost use Rattle.check_keys.specs.Reading.{map_fault, source_fault};
 ghost use Rattle.check_keys.specs.declared.fault.SystemFault.TheVariants.{Memory};
 
-use check_map::{MapFault, SourceFault};
+use check_map::{AddressMapFault, SourceOwnerFault};
 use std::alloc::{AllocError, AllocFailed};
 use std::fmt;
 use thiserror::Error;
@@ -86,9 +86,9 @@ pub enum SystemFault {
     #[error("system: port {0}: image is longer than its range")]
     ImageTooLong(usize),
     #[error("system: {0}")]
-    Map(MapFault),
+    Map(AddressMapFault),
     #[error("system: {0}")]
-    Sources(SourceFault),
+    Sources(SourceOwnerFault),
     #[error("memory refused")]
     Memory,
 }
@@ -109,23 +109,23 @@ impl<T: Drop> From<AllocFailed<T>> for SystemFault {
     }
 }
 
-impl From<MapFault> for SystemFault {
+impl From<AddressMapFault> for SystemFault {
     ghost from_gives = { λ from fault. fault ≡ map_fault from };
 
-    fn from(fault: MapFault) -> SystemFault {
+    fn from(fault: AddressMapFault) -> SystemFault {
         match fault {
-            MapFault::Memory => SystemFault::Memory,
+            AddressMapFault::Memory => SystemFault::Memory,
             _ => SystemFault::Map(fault),
         }
     }
 }
 
-impl From<SourceFault> for SystemFault {
+impl From<SourceOwnerFault> for SystemFault {
     ghost from_gives = { λ from fault. fault ≡ source_fault from };
 
-    fn from(fault: SourceFault) -> SystemFault {
+    fn from(fault: SourceOwnerFault) -> SystemFault {
         match fault {
-            SourceFault::Memory => SystemFault::Memory,
+            SourceOwnerFault::Memory => SystemFault::Memory,
             _ => SystemFault::Sources(fault),
         }
     }

@@ -2,7 +2,7 @@
 ghost use Rattle.std.specs.Prelude.{◌≡◌, ◌-◌, ◌^◌, ℕ, Some, None, map, ◌∷◌, []};
 ghost use Rattle.check_beats.specs.Bus.{bus_bytes};
 ghost use Rattle.check_beats.specs.declared.bus.Bus.{Bus};
-ghost use Rattle.check_keys.specs.Bus.{bus_of};
+ghost use Rattle.check_keys.specs.Bus.{bus_of_bytes};
 ghost use Rattle.check_keys.specs.Value.{last_integer};
 ghost use Rattle.check_keys.specs.declared.name.TheConstants.{MAX_NAME};
 ghost use Rattle.check_keys.specs.declared.value.TheConstants.{LAST_INTEGER};
@@ -15,5 +15,5 @@ pub fn limits_in_numbers()
 
 /// Each bus is the one of as many bytes as it has.
 pub fn each_bus_has_its_bytes()
-    ensures { (bus : Bus) → bus_of (bus_bytes bus) ≡ Some bus }
+    ensures { (bus : Bus) → bus_of_bytes (bus_bytes bus) ≡ Some bus }
 {}

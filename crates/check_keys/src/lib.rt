@@ -14,10 +14,11 @@ pub mod laws;
 mod name;
 mod value;
 
-pub use bus::bus_at;
+pub use bus::bus_in_table;
 pub use fault::{Key, SystemFault};
 pub use name::{MAX_NAME, name_at};
 pub use value::{
     LAST_INTEGER, array_of, bytes_of, find_member, find_value, flag_at, in_range, number_at,
-    number_if_any, number_of, pair_of, table_of, tables_of, text_if_any, text_of, value_at,
+    number_if_any, number_in_value, pair_in_value, table_of, tables_of, text_if_any, text_of,
+    value_at,
 };

@@ -3,7 +3,7 @@ ghost use Rattle.std.specs.Prelude.{◌≡◌, option_map, string_bytes};
 ghost use Rattle.std.specs.List.{list_all};
 ghost use Rattle.toml.specs.View.{table_view};
 ghost use Rattle.std.specs.Char.{is_ascii_digit};
-ghost use Rattle.check_keys.specs.Name.{is_name as is_name_text, is_name_byte as is_byte_of_name, is_number_of_link as is_numbered, name_at as name_of_table, name_of as name_of_text};
+ghost use Rattle.check_keys.specs.Name.{is_name as is_name_text, is_name_byte as is_byte_of_name, is_number_of_link as is_numbered, name_at as name_of_table, name_of_text};
 ghost use Rattle.check_keys.specs.Reading.{Gives};
 
 use crate::fault::{Key, SystemFault};

@@ -2,9 +2,10 @@
 ghost use Rattle.std.specs.Prelude.{◌≡◌, ◌≤◌, IfOk, IfSome, OnOk, length, map, option_map};
 ghost use Rattle.toml.specs.Data.{get_member};
 ghost use Rattle.toml.specs.View.{view, table_view};
+ghost use Rattle.tl_text.specs.Reading.{each};
 ghost use Rattle.check_keys.specs.Key.{key_name};
-ghost use Rattle.check_keys.specs.Reading.{Gives, each};
-ghost use Rattle.check_keys.specs.Value.{array_of as array_of_value, bytes_of as bytes_of_text, flag_at as flag_of_key, in_range as range_of_key, integer_of as integer_of_value, number_at as number_of_key, number_if_any as any_number_of_key, number_of as number_of_value, pair_of as pair_of_value, table_of as table_of_value, text_if_any as any_text_of_key, text_of as text_of_value, two_of as two_of_values, value_at as value_of_key};
+ghost use Rattle.check_keys.specs.Reading.{Gives};
+ghost use Rattle.check_keys.specs.Value.{array_of as array_of_value, bytes_of as bytes_of_text, flag_at as flag_of_key, in_range as range_of_key, integer_of as integer_of_value, number_at as number_of_key, number_if_any as any_number_of_key, number_in_value as number_of_value, pair_in_value as pair_of_value, table_of as table_of_value, text_if_any as any_text_of_key, text_of as text_of_value, two_of as two_of_values, value_at as value_of_key};
 
 use crate::fault::{Key, SystemFault};
 use std::alloc::Global;
@@ -63,8 +64,8 @@ pub fn in_range(number: i64, key: Key, low: u64, high: u64) -> Result<u64, Syste
 }
 
 /// The number that a value is, from `low` to `high`.
-#[tactic(auto, unfolding(crate::specs::Value::number_of))]
-pub fn number_of(value: &Value, key: Key, low: u64, high: u64) -> Result<u64, SystemFault>
+#[tactic(auto, unfolding(crate::specs::Value::number_in_value))]
+pub fn number_in_value(value: &Value, key: Key, low: u64, high: u64) -> Result<u64, SystemFault>
     ensures value { Gives (λ n. n) result (number_of_value key low high (view value.now)) }
     ensures range { IfOk result (λ n. (low ≤ n) × (n ≤ high)) }
 {
@@ -77,7 +78,7 @@ pub fn number_at(table: &Table, key: Key, low: u64, high: u64) -> Result<u64, Sy
     ensures value { Gives (λ n. n) result (number_of_key key low high (table_view table.now)) }
     ensures range { IfOk result (λ n. (low ≤ n) × (n ≤ high)) }
 {
-    number_of(value_at(table, key)?, key, low, high)
+    number_in_value(value_at(table, key)?, key, low, high)
 }
 
 /// The number at a key that may be absent, from `low` to `high`.
@@ -92,7 +93,7 @@ pub fn number_if_any(
     ensures range { IfOk result (λ n. IfSome n (λ n. (low ≤ n) × (n ≤ high))) }
 {
     match find_value(table, key) {
-        Some(value) => Ok(Some(number_of(value, key, low, high)?)),
+        Some(value) => Ok(Some(number_in_value(value, key, low, high)?)),
         None => Ok(None),
     }
 }
@@ -177,8 +178,8 @@ fn two_of(values: &[Value], key: Key) -> Result<(i64, i64), SystemFault>
 }
 
 /// The two integers of which a value is an array.
-#[tactic(auto, unfolding(crate::specs::Value::pair_of))]
-pub fn pair_of(value: &Value, key: Key) -> Result<(i64, i64), SystemFault>
+#[tactic(auto, unfolding(crate::specs::Value::pair_in_value))]
+pub fn pair_in_value(value: &Value, key: Key) -> Result<(i64, i64), SystemFault>
     ensures { Gives (λ pair. pair) result (pair_of_value key (view value.now)) }
 {
     two_of(array_of(value, key)?, key)

@@ -6,10 +6,10 @@ use Rattle.tl_types.specs.declared.operation.Logic.TheVariants.{Xor, Or, And, Sw
 use Rattle.tl_types.specs.declared.operation.Hint.TheVariants.{PrefetchRead, PrefetchWrite}
 use Rattle.tl_types.specs.declared.operation.AskOp.{AskOp}
 use Rattle.tl_types.specs.declared.operation.AskOp.TheVariants.{PutFull, PutPartial, Arithmetic, Logical, Get, Intent}
-use Rattle.tl_text.specs.Name.{all_operations, word_of}
+use Rattle.tl_text.specs.Name.{all_operations, operation_word}
 use Rattle.check_lines.specs.Target.{has_codes, name_text}
 
-own_name : (op : AskOp) → word_of op ≡ name_text (opcode_of op) (param_of op)
+own_name : (op : AskOp) → operation_word op ≡ name_text (opcode_of op) (param_of op)
 unfolding name_text
 own_name Get = refl
 own_name PutFull = refl
@@ -26,9 +26,9 @@ own_name (Logical Swap) = refl
 own_name (Intent PrefetchRead) = refl
 own_name (Intent PrefetchWrite) = refl
 
-pub named : (op : AskOp) (opcode param : ℕ) → IsCodeOf op opcode param → word_of op ≡ name_text opcode param
+pub named : (op : AskOp) (opcode param : ℕ) → IsCodeOf op opcode param → operation_word op ≡ name_text opcode param
 named op opcode param codes =
-    let P : ℕ → ℕ → Type 0 = λ o p. word_of op ≡ name_text o p in
+    let P : ℕ → ℕ → Type 0 = λ o p. operation_word op ≡ name_text o p in
     subst (λ p. P opcode p) codes.param_is (subst (λ o. P o (param_of op)) codes.opcode_is (own_name op))
 
 both : (a b : Bool) → (a && b) ≡ true → (a ≡ true) × (b ≡ true)
@@ -57,5 +57,5 @@ none_of opcode param (op ∷ ops) never = filtered opcode param op ops (never op
 pub unnamed : (opcode param : ℕ) → ((op : AskOp) → IsCodeOf op opcode param → ⊥) → [] ≡ name_text opcode param
 unfolding name_text
 unnamed opcode param never =
-    let P : List AskOp → Type 0 = λ ops. [] ≡ flat_map word_of ops in
+    let P : List AskOp → Type 0 = λ ops. [] ≡ flat_map operation_word ops in
     subst P (sym (none_of opcode param all_operations never)) refl

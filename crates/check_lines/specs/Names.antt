@@ -22,6 +22,6 @@ abbrev pub name_at : List (Option (List ℕ)) → ℕ → Option (List ℕ)
 name_at names number = unwrap_or (slice_get names number) None
 
 -- the name of a link's master or port, if it has one
-abbrev pub name_of : NamesView → Link → Option (List ℕ)
-name_of names (Master number) = name_at names.masters number
-name_of names (Port number) = name_at names.ports number
+abbrev pub name_of_link : NamesView → Link → Option (List ℕ)
+name_of_link names (Master number) = name_at names.masters number
+name_of_link names (Port number) = name_at names.ports number

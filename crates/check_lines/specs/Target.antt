@@ -4,7 +4,7 @@ use Rattle.std.specs.Prelude.{ℕ, Bool, false, ◌==◌, ◌&&◌, List, ◌++�
 use Rattle.std.specs.Fmt.{decimal, digits}
 use Rattle.tl_types.specs.Wire.{opcode_of, param_of}
 use Rattle.tl_types.specs.declared.operation.AskOp.{AskOp}
-use Rattle.tl_text.specs.Name.{all_operations, word_of}
+use Rattle.tl_text.specs.Name.{all_operations, operation_word}
 
 -- a word, an address and a size
 abbrev pub target_text : List ℕ → ℕ → ℕ → List ℕ
@@ -16,4 +16,4 @@ has_codes opcode param op = (opcode_of op == opcode) && (param_of op == param)
 
 -- the word of the operation that an opcode and a parameter stand for; no word if they stand for none
 unfoldable pub name_text : ℕ → ℕ → List ℕ
-name_text opcode param = flat_map word_of (filter (has_codes opcode param) all_operations)
+name_text opcode param = flat_map operation_word (filter (has_codes opcode param) all_operations)

@@ -2,12 +2,12 @@
 -- tlx spell an entry, and `xx` for an unknown byte of the reply. This project's own.
 use Rattle.std.specs.Prelude.{◌≡◌, ◌⊎◌, ℕ, List, [], ◌∷◌, ◌++◌, codes}
 use Rattle.std.specs.Fmt.{decimal}
-use Rattle.check_map.specs.Owner.{IsWide}
+use Rattle.check_map.specs.Owner.{IsWideSource}
 use Rattle.check_map.specs.declared.sources.Owner.{Owner}
 use Rattle.tl_script.specs.Trace.{ask_text}
 use Rattle.check_watch.specs.declared.beat.Link.{Link}
 use Rattle.check_watch.specs.declared.beat.Link.TheVariants.{Master, Port}
-use Rattle.check_watch.specs.declared.seen.Entry.{Entry}
+use Rattle.check_watch.specs.declared.seen.SeenEntry.{SeenEntry}
 use Rattle.check_lines.specs.Reply.{pattern_text}
 
 -- a master and a source of its own
@@ -15,7 +15,7 @@ abbrev pub origin_text : ℕ → ℕ → List ℕ
 origin_text master source = codes "m" ++ decimal master ++ codes " s" ++ decimal source ++ codes " "
 
 -- a request and the reply that was captured
-abbrev pub exchange_text : Entry → List ℕ
+abbrev pub exchange_text : SeenEntry → List ℕ
 exchange_text entry = ask_text entry.ask ++ codes " -> " ++ pattern_text entry.reply
 
 -- the port that served a request, and its place in the port's list
@@ -23,24 +23,24 @@ abbrev pub place_text : ℕ → ℕ → List ℕ
 place_text port index = codes " p" ++ decimal port ++ codes " #" ++ decimal index
 
 -- the line of a request of a master from this source of its own, with the reply that was captured
-unfoldable pub entry_line : ℕ → ℕ → Entry → List ℕ
+unfoldable pub entry_line : ℕ → ℕ → SeenEntry → List ℕ
 entry_line master source entry =
     origin_text master source ++ exchange_text entry ++ place_text entry.port entry.index ++ 10 ∷ []
 
 -- the line of an entry whose reply was seen at a link, to this source of the link. At a port's link that is a wide
 -- source, and the line has the master that owns it and the master's own source
-abbrev pub IsLine : List Owner → Link → ℕ → Entry → List ℕ → Type 0
+abbrev pub IsLine : List Owner → Link → ℕ → SeenEntry → List ℕ → Type 0
 IsLine owners (Master m) source entry line = line ≡ entry_line m source entry
 IsLine owners (Port p) source entry line =
-    (master : ℕ) × (own : ℕ) × IsWide owners master own source × (line ≡ entry_line master own entry)
+    (master : ℕ) × (own : ℕ) × IsWideSource owners master own source × (line ≡ entry_line master own entry)
 
 -- the source of a link is somebody's: at a port's link it is a wide source that some master has
 abbrev pub HasOwner : List Owner → Link → ℕ → Type 0
 HasOwner owners (Master m) source = Unit {0}
-HasOwner owners (Port p) source = (master : ℕ) × (own : ℕ) × IsWide owners master own source
+HasOwner owners (Port p) source = (master : ℕ) × (own : ℕ) × IsWideSource owners master own source
 
 -- a text grew by the line of an entry, or by nothing if its source is nobody's
-abbrev pub AppendsLine : List Owner → Link → ℕ → Entry → List ℕ → List ℕ → Type 0
+abbrev pub AppendsLine : List Owner → Link → ℕ → SeenEntry → List ℕ → List ℕ → Type 0
 AppendsLine owners link source entry old new =
     ((line : List ℕ) × (new ≡ old ++ line) × IsLine owners link source entry line)
     ⊎ ((new ≡ old) × (HasOwner owners link source → ⊥))

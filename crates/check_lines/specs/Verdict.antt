@@ -12,10 +12,10 @@ use Rattle.check_watch.specs.declared.beat.Link.{Link}
 use Rattle.check_watch.specs.declared.beat.Link.TheVariants.{Master, Port}
 use Rattle.check_watch.specs.declared.fault.Fault.{Fault}
 use Rattle.check_watch.specs.declared.fault.Fault.TheVariants.{Form, NoSuchSource, SourceBusy, WrongPort, NoRequest, EarlyReply, WrongSize, WrongOpcode, UnknownData, NotSent, NotGiven, WrongReply}
-use Rattle.check_lines.specs.Names.{NamesView, name_of}
+use Rattle.check_lines.specs.Names.{NamesView, name_of_link}
 use Rattle.check_lines.specs.Reply.{pattern_text}
 use Rattle.check_lines.specs.Target.{name_text, target_text}
-use Rattle.check_lines.specs.declared.verdict.Counts.{Counts}
+use Rattle.check_lines.specs.declared.verdict.VerdictCounts.{VerdictCounts}
 use Rattle.check_rows.specs.declared.row.Row.{Row}
 use Rattle.check_unanswered.specs.declared.request.Began.{Began}
 use Rattle.check_unanswered.specs.declared.request.Left.{Left}
@@ -28,7 +28,7 @@ number_text (Port number) = codes "p" ++ decimal number
 
 -- a link by the name of its master or port, if there is one, else by the letter and the number
 abbrev pub link_text : NamesView → Link → List ℕ
-link_text names link = unwrap_or (name_of names link) (number_text link)
+link_text names link = unwrap_or (name_of_link names link) (number_text link)
 
 unfoldable pub channel_text : Beat → List ℕ
 channel_text (A beat) = codes " A: "
@@ -61,7 +61,7 @@ fault_text NotSent = codes "no master sent this request"
 fault_text NotGiven = codes "the port gave no such reply"
 fault_text (WrongReply expected captured) = wrong_text expected captured
 
-unfoldable pub lawful_line : Counts → List ℕ
+unfoldable pub lawful_line : VerdictCounts → List ℕ
 lawful_line counts =
     codes "lawful: " ++ decimal counts.rows ++ codes " rows, " ++ decimal counts.requests ++ codes " requests, "
     ++ decimal counts.answered ++ codes " answered"

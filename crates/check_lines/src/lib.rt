@@ -22,4 +22,4 @@ pub use left::push_incomplete;
 pub use names::Names;
 pub use reply::push_pattern;
 pub use trace::push_answer;
-pub use verdict::{Counts, push_lawful, push_unlawful};
+pub use verdict::{VerdictCounts, push_lawful, push_unlawful};

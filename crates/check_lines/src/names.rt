@@ -1,6 +1,6 @@
 //! The names of the links of a system.
 ghost use Rattle.std.specs.Prelude.{◌≡◌, option_map};
-ghost use Rattle.check_lines.specs.Names.{name_at, name_of, no_names, texts_of};
+ghost use Rattle.check_lines.specs.Names.{name_at, name_of_link, no_names, texts_of};
 
 use check_watch::Link;
 use std::alloc::Global;
@@ -51,7 +51,7 @@ impl Names {
 
     /// The name of a link's master or port, if it has one.
     pub fn name(&self, link: Link) -> Option<&str>
-        ensures { option_map (λ name. name.now) result ≡ name_of self.now link }
+        ensures { option_map (λ name. name.now) result ≡ name_of_link self.now link }
     {
         match link {
             Link::Master(number) => name_at(&self.masters, number),

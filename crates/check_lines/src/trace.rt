@@ -1,60 +1,18 @@
 //! The line of a reply that was seen at a link.
 ghost use Rattle.std.specs.Prelude.{◌≡◌, ◌++◌, OnErr, OnOk};
-ghost use Rattle.tl_script.specs.Data.{byte_text};
-ghost use Rattle.tl_script.specs.Trace.{ask_text, bytes_part};
 ghost use Rattle.tl_text.specs.Text.{BeginsWith};
 ghost use Rattle.check_lines.specs.Trace.{AppendsLine, entry_line, exchange_text, origin_text, place_text};
 
 use crate::reply::push_pattern;
-use crate::target::push_target;
-use check_map::Sources;
-use check_watch::{Entry, Link};
+use check_map::SourceOwners;
+use check_watch::{Link, SeenEntry};
 use std::alloc::AllocError;
-use tl_text::{hex_digit, push_field, word};
-use tl_types::{Ask, Bytes};
-
-/// Appends a byte of a request as two hexadecimal digits, or an unset one as dashes.
-#[tactic(auto, using(tl_text::proofs::TextLemmas::begins))]
-fn push_byte(text: &mut Vec<u8>, byte: Option<u8>) -> Result<(), AllocError>
-    ensures ok { OnOk result (text.new.items ≡ text.old.items ++ byte_text byte) }
-    ensures err { OnErr result (BeginsWith text.old.items text.new.items) }
-{
-    let digits = match byte {
-        Some(byte) => [hex_digit(byte / 16), hex_digit(byte % 16)],
-        None => [b'-', b'-'],
-    };
-    text.extend_from_slice(&digits)
-}
-
-/// Appends a space and the bytes of a request, if it carries any.
-#[tactic(auto, using(tl_text::proofs::TextLemmas::begins))]
-fn push_bytes(text: &mut Vec<u8>, bytes: &Bytes) -> Result<(), AllocError>
-    ensures ok { OnOk result (text.new.items ≡ text.old.items ++ bytes_part bytes.now) }
-    ensures err { OnErr result (BeginsWith text.old.items text.new.items) }
-{
-    if bytes.is_empty() {
-        return Ok(());
-    }
-    text.push(b' ')?;
-    for place in 0..bytes.len() {
-        push_byte(text, bytes.get(place))?;
-    }
-    Ok(())
-}
-
-/// Appends a request.
-#[tactic(auto, using(tl_text::proofs::TextLemmas::begins))]
-fn push_ask(text: &mut Vec<u8>, ask: &Ask) -> Result<(), AllocError>
-    ensures ok { OnOk result (text.new.items ≡ text.old.items ++ ask_text ask.now) }
-    ensures err { OnErr result (BeginsWith text.old.items text.new.items) }
-{
-    push_target(text, word(ask.op()), ask.address(), ask.size())?;
-    push_bytes(text, ask.bytes())
-}
+use tl_script::push_ask;
+use tl_text::push_field;
 
 /// Appends a request and the reply that was captured.
 #[tactic(auto, using(tl_text::proofs::TextLemmas::begins))]
-fn push_exchange(text: &mut Vec<u8>, entry: &Entry) -> Result<(), AllocError>
+fn push_exchange(text: &mut Vec<u8>, entry: &SeenEntry) -> Result<(), AllocError>
     ensures ok { OnOk result (text.new.items ≡ text.old.items ++ exchange_text entry.now) }
     ensures err { OnErr result (BeginsWith text.old.items text.new.items) }
 {
@@ -90,7 +48,7 @@ fn push_entry(
     text: &mut Vec<u8>,
     master: usize,
     source: u16,
-    entry: &Entry,
+    entry: &SeenEntry,
 ) -> Result<(), AllocError>
     ensures ok { OnOk result (text.new.items ≡ text.old.items ++ entry_line master source entry.now) }
     ensures err { OnErr result (BeginsWith text.old.items text.new.items) }
@@ -107,10 +65,10 @@ fn push_entry(
 /// source, there is none.
 pub fn push_answer(
     text: &mut Vec<u8>,
-    sources: &Sources,
+    sources: &SourceOwners,
     link: Link,
     source: u16,
-    entry: &Entry,
+    entry: &SeenEntry,
 ) -> Result<(), AllocError>
     ensures ok { OnOk result (AppendsLine sources.now link source entry.now text.old.items text.new.items) }
     ensures err { OnErr result (BeginsWith text.old.items text.new.items) }

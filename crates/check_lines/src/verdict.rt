@@ -15,7 +15,7 @@ use tl_text::push_field;
 
 /// How many rows there are, and how many whole requests and replies were seen, each modulo 2^64.
 #[derive(Debug, Clone, Copy, PartialEq, Eq)]
-pub struct Counts {
+pub struct VerdictCounts {
     pub rows: u64,
     pub requests: u64,
     pub answered: u64,
@@ -142,7 +142,7 @@ fn channel_words(beat: &Beat) -> &'static str
 
 /// Appends the line of a lawful capture.
 #[tactic(auto, using(tl_text::proofs::TextLemmas::begins), unfolding(crate::specs::Verdict::lawful_line))]
-pub fn push_lawful(text: &mut Vec<u8>, counts: &Counts) -> Result<(), AllocError>
+pub fn push_lawful(text: &mut Vec<u8>, counts: &VerdictCounts) -> Result<(), AllocError>
     ensures ok { OnOk result (text.new.items ≡ text.old.items ++ lawful_line counts.now) }
     ensures err { OnErr result (BeginsWith text.old.items text.new.items) }
 {

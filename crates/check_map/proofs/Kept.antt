@@ -4,7 +4,7 @@ use Rattle.std.proofs.Math.Nat.{mul-div_cancel_left, mul-le-mul_left}
 use Rattle.std.specs.Prelude.{IsTrue, is_some}
 use Rattle.std.proofs.lemmas.Bool.{cases_lt}
 use Rattle.std.proofs.lemmas.Option.{slice_get_within, slice_get-get_or, get_or_from_slice_get}
-use Rattle.check_map.specs.Owner.{IsOf, IsOwned, IsWide, Widens}
+use Rattle.check_map.specs.Owner.{IsOf, IsOwned, IsWideSource, Widens}
 use Rattle.check_map.specs.Sources.{AreApartBelow, AreLawfulOwners, IsLawfulOwner, IsShared}
 use Rattle.check_map.specs.Marks.{AreKept, AreMarked, HasRoomFor, IsBefore, IsMarkedUpTo}
 use Rattle.check_map.specs.declared.sources.Owner.{Owner}
@@ -38,7 +38,7 @@ wide_low owner source wide lawful widens =
     omega (arith, scaled, is)
 
 -- a master's wide source is owned
-pub owned_at : (owners : List Owner) (master source wide : ℕ) → IsWide owners master source wide → IsOwned owners wide
+pub owned_at : (owners : List Owner) (master source wide : ℕ) → IsWideSource owners master source wide → IsOwned owners wide
 owned_at owners master source wide is = (master, (source, is))
 
 -- when all masters are marked
@@ -69,7 +69,7 @@ apart_all owners apart one other wide shared = ⊎_elim
 
 -- this many masters have no wide source at or above the bound, and one has the last below it
 pub record IsBoundUpTo (owners : List Owner) (masters bound : ℕ) : Type 0 where
-  pub above : (master source wide : ℕ) → master < masters → IsWide owners master source wide → wide < bound
+  pub above : (master source wide : ℕ) → master < masters → IsWideSource owners master source wide → wide < bound
   pub least : (other : ℕ) → ((wide : ℕ) → IsOwned owners wide → wide < other) → bound ≤ other
   pub low : bound ≤ 65536
 
@@ -127,10 +127,10 @@ marked_is owners marks kept wide master found = (kept.marked wide master).0 foun
 
 -- of a wide source there is one master and one source
 pub one_owner : (owners : List Owner) → AreLawfulOwners owners → (master source other own wide : ℕ)
-    → IsWide owners master source wide → IsWide owners other own wide → (master ≡ other) × (source ≡ own)
+    → IsWideSource owners master source wide → IsWideSource owners other own wide → (master ≡ other) × (source ≡ own)
 one_owner owners lawful master source other own wide first second =
     let same : master ≡ other = lawful.apart master other wide (record { of_one = (source, first); of_other = (own, second) }) in
-    let here : IsWide owners other source wide = rw (← same) first in
+    let here : IsWideSource owners other source wide = rw (← same) first in
     (same, go (slice_get owners other) refl here second) where
       go : (found : Option Owner) → slice_get owners other ≡ found → IsSomeAnd found (λ owner. Widens owner source wide)
           → IsSomeAnd found (λ owner. Widens owner own wide) → source ≡ own
@@ -139,7 +139,7 @@ one_owner owners lawful master source other own wide first second =
           one_source owner source own wide (lawful_at owners other owner lawful.each at).apart one two
 
 -- the owner that is there
-pub owner_there : (owners : List Owner) (master source wide : ℕ) (owner : Owner) → IsWide owners master source wide
+pub owner_there : (owners : List Owner) (master source wide : ℕ) (owner : Owner) → IsWideSource owners master source wide
     → owner ≡ get_or owners master owner → slice_get owners master ≡ Some owner
 owner_there owners master source wide owner is at =
     slice_get-get_or owners master owner (there owners master source wide is) ∙ ap (λ o. Some o) (sym at)

@@ -5,22 +5,22 @@ use Rattle.std.proofs.lemmas.Bool.{cases_lt}
 use Rattle.std.proofs.lemmas.Bool.Decides.{eqb_tells}
 use Rattle.std.proofs.lemmas.Option.{slice_get_within, slice_get-get_or}
 use Rattle.tl_types.proofs.Lists.{slice_get-set_same, slice_get-set_other}
-use Rattle.check_map.specs.Owner.{IsOf, IsWide, Widens}
+use Rattle.check_map.specs.Owner.{IsOf, IsWideSource, Widens}
 use Rattle.check_map.specs.Sources.{AreApartBelow, IsLawfulOwner, IsShared, IsSharedBy, SharesNone}
 use Rattle.check_map.specs.Marks.{IsBefore, IsMarkedUpTo}
 use Rattle.check_map.specs.declared.sources.Owner.{Owner}
 
 -- what holds of an owner that is there, and back
 pub of_owner : (owners : List Owner) (master source wide : ℕ) (owner : Owner) → slice_get owners master ≡ Some owner
-    → Widens owner source wide → IsWide owners master source wide
+    → Widens owner source wide → IsWideSource owners master source wide
 of_owner owners master source wide owner at widens = rw at widens
 
 pub to_owner : (owners : List Owner) (master source wide : ℕ) (owner : Owner) → slice_get owners master ≡ Some owner
-    → IsWide owners master source wide → Widens owner source wide
+    → IsWideSource owners master source wide → Widens owner source wide
 to_owner owners master source wide owner at is = rw at at is
 
 -- a master that has a wide source is there
-pub there : (owners : List Owner) (master source wide : ℕ) → IsWide owners master source wide → master < length owners
+pub there : (owners : List Owner) (master source wide : ℕ) → IsWideSource owners master source wide → master < length owners
 there owners master source wide is = go (slice_get owners master) refl is where
   go : (found : Option Owner) → slice_get owners master ≡ found
       → IsSomeAnd found (λ owner. Widens owner source wide) → master < length owners
@@ -43,7 +43,7 @@ module _ (owners : List Owner) (master : ℕ) (owner : Owner) (at : slice_get ow
     -- a mark that stands there is an earlier master's
     pub is_earlier : (other : ℕ) → slice_get marks wide ≡ Some (Some other) → (other < master) × IsOf owners other wide
     is_earlier other found = ⊎_elim (λ earlier. earlier) own ((marked.each wide other).0 found) where
-      own : (other ≡ master) × ((own : ℕ) × (own < source) × IsWide owners master own wide)
+      own : (other ≡ master) × ((own : ℕ) × (own < source) × IsWideSource owners master own wide)
           → (other < master) × IsOf owners other wide
       own (same, (less, before, is)) =
           let one : less ≡ source = one_source owner less source wide lawful.apart
@@ -150,7 +150,7 @@ module _ (owners : List Owner) (master : ℕ) (owner : Owner) (at : slice_get ow
         (λ (earlier : other < master). inl (earlier, (own, is)))
         (λ (last : master ≤ other).
         let same : other ≡ master = omega (arith, before, last) in
-        let mine : IsWide owners master own wide = rw same at is in
+        let mine : IsWideSource owners master own wide = rw same at is in
         inr (same, (own, (to_owner owners master own wide owner at mine).has, mine)))
         (cases_lt other master)
     down wide other (inr (same, (own, less, is))) = absurd (omega (arith, less))

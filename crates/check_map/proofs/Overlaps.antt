@@ -7,9 +7,9 @@ use Rattle.std.proofs.lemmas.List.{length-map, length-take-le, get_or-take}
 use Rattle.std.proofs.lemmas.Option.{slice_get-map, slice_get_within, slice_get_read, slice_get-get_or, get_or_from_slice_get, same_Some}
 use Rattle.tl_map.specs.declared.map.Range.{Range}
 use Rattle.tl_map.specs.Range.{Overlaps}
-use Rattle.check_map.specs.declared.map.MapFault.{MapFault}
-use Rattle.check_map.specs.declared.map.MapFault.TheVariants.{Overlap, Memory}
-use Rattle.check_map.specs.Ranges.{AreApartBefore, HasMapFault, IsEarlier, IsFirstMapFault, IsLawfulMap, MeetsEarlier, MeetsFirst, lists_in, map_fault_rank, range_at}
+use Rattle.check_map.specs.declared.map.AddressMapFault.{AddressMapFault}
+use Rattle.check_map.specs.declared.map.AddressMapFault.TheVariants.{Overlap, Memory}
+use Rattle.check_map.specs.Ranges.{AreApartBefore, HasMapFault, IsEarlier, IsFirstAddressMapFault, IsLawfulAddressMap, MeetsEarlier, MeetsFirst, lists_in, map_fault_rank, range_at}
 
 -- a range at a place of a port is at that place of the port's ranges
 pub row_of : (ports : List (List Range)) (port place : ℕ) (range : Range) → range_at ports port place ≡ Some range
@@ -89,21 +89,21 @@ none_before ports other_port other (inr at) earlier meets = let none = at.1 in a
 -- ---- faults
 
 pub first_here : (ports : List (List Range)) (other port place : ℕ) → AreApartBefore ports port place
-    → MeetsFirst ports other port place → IsFirstMapFault ports (Overlap other port)
+    → MeetsFirst ports other port place → IsFirstAddressMapFault ports (Overlap other port)
 first_here ports other port place before meets = record {
   applies = record { place = place; meets = meets; first = before };
   first = none;
 }
   where
-    none : (fault : MapFault) → map_fault_rank fault < 1 → HasMapFault ports fault → ⊥
+    none : (fault : AddressMapFault) → map_fault_rank fault < 1 → HasMapFault ports fault → ⊥
     none (Overlap a b) below has = omega (arith, below)
     none Memory below has = omega (arith, below)
 
 pub only_memory : (ports : List (List Range)) → ((other port place : ℕ) → MeetsEarlier ports other port place → ⊥)
-    → IsFirstMapFault ports Memory
+    → IsFirstAddressMapFault ports Memory
 only_memory ports apart = record { applies = tt; first = none }
   where
-    none : (fault : MapFault) → map_fault_rank fault < 2 → HasMapFault ports fault → ⊥
+    none : (fault : AddressMapFault) → map_fault_rank fault < 2 → HasMapFault ports fault → ⊥
     none (Overlap a b) below has = apart a b has.place has.meets.meets
     none Memory below has = omega (arith, below)
 
@@ -220,7 +220,7 @@ module _ (vectors : List (Vec Range Global)) (port place : ℕ)
           (place_within (lists_in vectors) port place vector.items found.0 its_list found.1)
 
 -- ranges of a map with a byte in common are the same range
-pub one_place : (ports : List (List Range)) → IsLawfulMap ports → (port place other_port other : ℕ) (a b : Range)
+pub one_place : (ports : List (List Range)) → IsLawfulAddressMap ports → (port place other_port other : ℕ) (a b : Range)
     → range_at ports port place ≡ Some a → range_at ports other_port other ≡ Some b → Overlaps a b
     → (port ≡ other_port) × (place ≡ other)
 one_place ports lawful port place other_port other a b here there overlap = ⊎_elim

@@ -5,7 +5,7 @@ use Rattle.std.proofs.lemmas.List.Elements.{All-contains}
 use Rattle.tl_map.specs.declared.map.Range.{Range}
 use Rattle.tl_map.specs.Range.{HasByte, HoldsBytes}
 use Rattle.check_map.specs.declared.map.Placed.{Placed}
-use Rattle.check_map.specs.Ranges.{IsLawfulMap, PortHolds, RoutesBytes}
+use Rattle.check_map.specs.Ranges.{IsLawfulAddressMap, PortHolds, RoutesBytesByRanges}
 use Rattle.check_map.specs.Placed.{IsKeptMap, IsLastFrom, IsPlaced, placed_at}
 use Rattle.check_map.proofs.Overlaps.{one_place, port_within, same_range}
 
@@ -61,7 +61,7 @@ module _ (ports : List (List Range)) (placed : List Placed) (kept : IsKeptMap po
 
       -- bytes that it holds go to its port alone
       pub routed_to : HoldsBytes last.range address size → (port : ℕ)
-          → (last.port ≡ port) ↔ RoutesBytes ports address size port
+          → (last.port ≡ port) ↔ RoutesBytesByRanges ports address size port
       routed_to holds port = (
         λ same. inl (rw same at here),
         λ routes. ⊎_elim (λ at. (by_last port at).1) (λ none. absurd (none.1 last.port here)) routes,
@@ -75,15 +75,15 @@ module _ (ports : List (List Range)) (placed : List Placed) (kept : IsKeptMap po
 -- bytes that no port holds go to the error port alone
 pub routed_nowhere : (ports : List (List Range)) (address size : ℕ)
     → ((port : ℕ) → PortHolds ports address size port → ⊥) → (port : ℕ)
-    → (length ports ≡ port) ↔ RoutesBytes ports address size port
+    → (length ports ≡ port) ↔ RoutesBytesByRanges ports address size port
 routed_nowhere ports address size none port = (
   λ same. inr (sym same, none),
   λ routes. ⊎_elim (λ at. absurd (none port at)) (λ error. sym error.0) routes,
 )
 
 -- bytes that pass the last address are held by no range of a map
-pub none_past_end : (ports : List (List Range)) → IsLawfulMap ports → (address size : ℕ) → 2 ^ 64 < address + 2 ^ size
-    → (port : ℕ) → RoutesBytes ports address size port → port ≡ length ports
+pub none_past_end : (ports : List (List Range)) → IsLawfulAddressMap ports → (address size : ℕ) → 2 ^ 64 < address + 2 ^ size
+    → (port : ℕ) → RoutesBytesByRanges ports address size port → port ≡ length ports
 none_past_end ports lawful address size past port routes = ⊎_elim held (λ error. error.0) routes where
   held : PortHolds ports address size port → port ≡ length ports
   held at =
@@ -92,8 +92,8 @@ none_past_end ports lawful address size past port routes = ⊎_elim held (λ err
       absurd (omega (arith, past, low, space))
 
 -- bytes go to one port of a map
-pub one_port : (ports : List (List Range)) → IsLawfulMap ports → (address size a b : ℕ)
-    → RoutesBytes ports address size a → RoutesBytes ports address size b → a ≡ b
+pub one_port : (ports : List (List Range)) → IsLawfulAddressMap ports → (address size a b : ℕ)
+    → RoutesBytesByRanges ports address size a → RoutesBytesByRanges ports address size b → a ≡ b
 one_port ports lawful address size a b (inl one) (inl two) =
     let mine = first_byte one.range address size one.holds in
     let its = first_byte two.range address size two.holds in

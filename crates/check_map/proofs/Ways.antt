@@ -9,7 +9,7 @@ use Rattle.std.specs.Cmp.Derive.{both_true}
 use Rattle.tl_map.specs.declared.map.Range.{Range}
 use Rattle.tl_map.specs.Range.{HoldsBytes}
 use Rattle.tl_map.specs.Map.{RoutesBytes as RoutesPlainBytes}
-use Rattle.check_map.specs.Ranges.{HasRoutes, PortHolds, RoutesBytes, range_at}
+use Rattle.check_map.specs.Ranges.{HasRoutes, PortHolds, RoutesBytesByRanges, range_at}
 
 -- ---- ports
 
@@ -71,14 +71,14 @@ abbrev route_in : List (List Range) → ℕ → ℕ → ℕ
 route_in [] start size = 0
 route_in (ranges ∷ ports) start size = if any_holds ranges start size then 0 else suc (route_in ports start size)
 
-route_is : (ports : List (List Range)) (start size : ℕ) → RoutesBytes ports start size (route_in ports start size)
+route_is : (ports : List (List Range)) (start size : ℕ) → RoutesBytesByRanges ports start size (route_in ports start size)
 route_is [] start size = inr (refl, none) where
   none : (other : ℕ) → PortHolds [] start size other → ⊥
   none other held = let at = held.at in absurd (cc)
 route_is (ranges ∷ ports) start size = go (any_holds ranges start size) refl (route_is ports start size)
   where
-    go : (here : Bool) → any_holds ranges start size ≡ here → RoutesBytes ports start size (route_in ports start size)
-        → RoutesBytes (ranges ∷ ports) start size (if here then 0 else suc (route_in ports start size))
+    go : (here : Bool) → any_holds ranges start size ≡ here → RoutesBytesByRanges ports start size (route_in ports start size)
+        → RoutesBytesByRanges (ranges ∷ ports) start size (if here then 0 else suc (route_in ports start size))
     go true is rest = let held = any_place ranges start size is in
         inl (record { place = held.place; range = held.range; at = held.at; holds = held.holds_it })
     go false is (inl there) =
@@ -119,7 +119,7 @@ of_all : (P : Range → Type 0) (xs : List Range) (i : ℕ) (x : Range) → slic
 of_all P xs i x here all = rw (sym (get_or_from_slice_get xs i x x here)) (all i x (slice_get_within xs i x here))
 
 module _ (ranges : List Range) (address size port : ℕ) where
-  to_plain : RoutesBytes (alone ranges) address size port → RoutesPlainBytes ranges address size port
+  to_plain : RoutesBytesByRanges (alone ranges) address size port → RoutesPlainBytes ranges address size port
   to_plain (inl held) = inl (rw (only ranges port held.place held.range held.at) held.holds)
   to_plain (inr none) = inr (none.0 ∙ length-map ranges (λ (range : Range). range ∷ []), others) where
     others : All (λ range. HoldsBytes range address size → ⊥) ranges
@@ -130,7 +130,7 @@ module _ (ranges : List Range) (address size port : ℕ) where
       holds = holding;
     })
 
-  of_plain : RoutesPlainBytes ranges address size port → RoutesBytes (alone ranges) address size port
+  of_plain : RoutesPlainBytes ranges address size port → RoutesBytesByRanges (alone ranges) address size port
   of_plain (inl there) =
       let found = some_that (λ range. HoldsBytes range address size) (slice_get ranges port) there in
       inl (record { place = 0; range = found.0; at = of_only ranges port found.0 found.1; holds = found.2 })
@@ -139,5 +139,5 @@ module _ (ranges : List Range) (address size port : ℕ) where
     others other held = of_all (λ (range : Range). HoldsBytes range address size → ⊥) ranges other held.range
         (only ranges other held.place held.range held.at) none.1 held.holds
 
-  pub plain : RoutesBytes (alone ranges) address size port ↔ RoutesPlainBytes ranges address size port
+  pub plain : RoutesBytesByRanges (alone ranges) address size port ↔ RoutesPlainBytes ranges address size port
   plain = (to_plain, of_plain)

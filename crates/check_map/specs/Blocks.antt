@@ -1,7 +1,7 @@
 -- The owners of masters that say only how many sources they have: tlx's blocks. This project's own.
 use Rattle.std.specs.Prelude.{◌≡◌, ◌<◌, ◌≤◌, ℕ, List, length, All, Some, slice_get}
 use Rattle.tl_map.specs.Block.{IsBlock}
-use Rattle.check_map.specs.declared.limits.TheConstants.{MAX_BLOCK, MAX_MASTERS}
+use Rattle.check_map.specs.declared.limits.TheConstants.{MAX_BLOCK, MAX_JUDGED_MASTERS}
 use Rattle.check_map.specs.declared.sources.Owner.{Owner}
 
 -- a master has a source, and not more than a block may have
@@ -11,7 +11,7 @@ pub record IsFew (count : ℕ) : Type 0 where
 
 -- few enough masters, each with a source and not too many
 pub record AreFew (counts : List ℕ) : Type 0 where
-  pub masters : length counts ≤ MAX_MASTERS
+  pub masters : length counts ≤ MAX_JUDGED_MASTERS
   pub each : All IsFew counts
 
 -- the owner has the first sources of the master's block, one after the other

@@ -1,6 +1,6 @@
 -- What a judge keeps of the sources: for each wide source up to the largest the master that has it. This project's own.
 use Rattle.std.specs.Prelude.{◌≡◌, ◌<◌, ◌≤◌, ◌+◌, ◌↔◌, ◌⊎◌, ℕ, List, length, Option, Some, slice_get}
-use Rattle.check_map.specs.Owner.{IsOf, IsOwned, IsWide}
+use Rattle.check_map.specs.Owner.{IsOf, IsOwned, IsWideSource}
 use Rattle.check_map.specs.Sources.{AreLawfulOwners}
 use Rattle.check_map.specs.declared.limits.TheConstants.{MAX_WIDE}
 use Rattle.check_map.specs.declared.sources.Owner.{Owner}
@@ -9,7 +9,7 @@ use Rattle.check_map.specs.declared.sources.Owner.{Owner}
 abbrev pub IsBefore : List Owner → ℕ → ℕ → ℕ → ℕ → Type 0
 IsBefore owners masters source master wide =
     ((master < masters) × IsOf owners master wide)
-    ⊎ ((master ≡ masters) × ((own : ℕ) × (own < source) × IsWide owners masters own wide))
+    ⊎ ((master ≡ masters) × ((own : ℕ) × (own < source) × IsWideSource owners masters own wide))
 
 -- each wide source that stands before has the mark of its master, and no other has a mark
 pub record IsMarkedUpTo (owners : List Owner) (masters source : ℕ) (marks : List (Option ℕ)) : Type 0 where

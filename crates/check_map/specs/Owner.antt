@@ -8,12 +8,12 @@ pub record Widens (owner : Owner) (source wide : ℕ) : Type 0 where
   pub at : wide ≡ owner.first + owner.stride * source
 
 -- the wide source is that of the master's source; the master's number is its place in the list
-abbrev pub IsWide : List Owner → ℕ → ℕ → ℕ → Type 0
-IsWide owners master source wide = IsSomeAnd (slice_get owners master) (λ owner. Widens owner source wide)
+abbrev pub IsWideSource : List Owner → ℕ → ℕ → ℕ → Type 0
+IsWideSource owners master source wide = IsSomeAnd (slice_get owners master) (λ owner. Widens owner source wide)
 
 -- the wide source is one of the master
 abbrev pub IsOf : List Owner → ℕ → ℕ → Type 0
-IsOf owners master wide = (source : ℕ) × IsWide owners master source wide
+IsOf owners master wide = (source : ℕ) × IsWideSource owners master source wide
 
 -- the wide source is somebody's
 abbrev pub IsOwned : List Owner → ℕ → Type 0

@@ -3,7 +3,7 @@ use Rattle.std.specs.Prelude.{◌≡◌, ℕ, ◌<◌, ◌≤◌, List, Some, Al
 use Rattle.std.specs.List.Sorted.{IsNonDecreasingBy}
 use Rattle.tl_map.specs.declared.map.Range.{Range}
 use Rattle.check_map.specs.declared.map.Placed.{Placed}
-use Rattle.check_map.specs.Ranges.{IsLawfulMap, range_at}
+use Rattle.check_map.specs.Ranges.{IsLawfulAddressMap, range_at}
 
 -- the range with this port
 abbrev pub placed_at : ℕ → Range → Placed
@@ -32,7 +32,7 @@ pub record ArePlaced (ports : List (List Range)) (placed : List Placed) : Type 0
 
 -- what is kept
 pub record IsKeptMap (ports : List (List Range)) (kept : List Placed) : Type 0 where
-  pub lawful : IsLawfulMap ports
+  pub lawful : IsLawfulAddressMap ports
   pub placed : ArePlaced ports kept
 
 -- of the ranges that begin at the address or below, this is one with the largest base

@@ -6,9 +6,9 @@ use Rattle.tl_types.specs.Fault.{IsFirstOf}
 use Rattle.tl_types.specs.Request.{Request}
 use Rattle.tl_map.specs.declared.map.Range.{Range}
 use Rattle.tl_map.specs.Range.{HoldsBytes, Overlaps}
-use Rattle.check_map.specs.declared.map.MapFault.{MapFault}
-use Rattle.check_map.specs.declared.map.MapFault.TheVariants.{Overlap, Memory}
-use Rattle.check_map.specs.declared.limits.TheConstants.{MAX_PORTS, MAX_RANGES}
+use Rattle.check_map.specs.declared.map.AddressMapFault.{AddressMapFault}
+use Rattle.check_map.specs.declared.map.AddressMapFault.TheVariants.{Overlap, Memory}
+use Rattle.check_map.specs.declared.limits.TheConstants.{MAX_JUDGED_PORTS, MAX_RANGES_OF_PORT}
 
 -- the lists in vectors
 abbrev pub lists_in : List (Vec Range Global) → List (List Range)
@@ -29,18 +29,18 @@ pub record PortHolds (ports : List (List Range)) (address size port : ℕ) : Typ
 
 -- 2 ^ size bytes from an address on go to this port: to the one that holds them, or to the error port, whose number is
 -- the count of ports, if no port does
-abbrev pub RoutesBytes : List (List Range) → ℕ → ℕ → ℕ → Type 0
-RoutesBytes ports address size port =
+abbrev pub RoutesBytesByRanges : List (List Range) → ℕ → ℕ → ℕ → Type 0
+RoutesBytesByRanges ports address size port =
     PortHolds ports address size port
     ⊎ ((port ≡ length ports) × ((other : ℕ) → PortHolds ports address size other → ⊥))
 
 -- the request goes to this port, as its bytes do
-abbrev pub Routes : List (List Range) → Request → ℕ → Type 0
-Routes ports ask = RoutesBytes ports ask.address ask.size
+abbrev pub RoutesByRanges : List (List Range) → Request → ℕ → Type 0
+RoutesByRanges ports ask = RoutesBytesByRanges ports ask.address ask.size
 
 -- the ports of bytes are a function of the address and the size
 abbrev pub HasRoutes : List (List Range) → Type 0
-HasRoutes ports = (route : ℕ → ℕ → ℕ) × ((address size : ℕ) → RoutesBytes ports address size (route address size))
+HasRoutes ports = (route : ℕ → ℕ → ℕ) × ((address size : ℕ) → RoutesBytesByRanges ports address size (route address size))
 
 -- ---- which ranges make a map
 
@@ -51,9 +51,9 @@ pub record IsLawfulRange (range : Range) : Type 0 where
 
 -- few enough ports, each with a range or more and not too many, and each of these lawful
 pub record AreRanges (ports : List (List Range)) : Type 0 where
-  pub in_limit : length ports ≤ MAX_PORTS
+  pub in_limit : length ports ≤ MAX_JUDGED_PORTS
   pub some : All (λ ranges. 0 < length ranges) ports
-  pub few : All (λ ranges. length ranges ≤ MAX_RANGES) ports
+  pub few : All (λ ranges. length ranges ≤ MAX_RANGES_OF_PORT) ports
   pub each : (port place : ℕ) (range : Range) → range_at ports port place ≡ Some range → IsLawfulRange range
 
 -- a range stands before another: in an earlier port, or at an earlier place of the same port
@@ -71,7 +71,7 @@ pub record MeetsEarlier (ports : List (List Range)) (other_port port place : ℕ
   pub overlap : Overlaps one two
 
 -- lawful ranges, of which no two have a byte in common
-pub record IsLawfulMap (ports : List (List Range)) : Type 0 where
+pub record IsLawfulAddressMap (ports : List (List Range)) : Type 0 where
   pub ranges : AreRanges ports
   pub apart : (other port place : ℕ) → MeetsEarlier ports other port place → ⊥
 
@@ -96,15 +96,15 @@ pub record IsFirstOverlap (ports : List (List Range)) (earlier later : ℕ) : Ty
   pub first : AreApartBefore ports later place
 
 -- the fault is one of these ranges; memory can be refused to any
-abbrev pub HasMapFault : List (List Range) → MapFault → Type 0
+abbrev pub HasMapFault : List (List Range) → AddressMapFault → Type 0
 HasMapFault ports (Overlap earlier later) = IsFirstOverlap ports earlier later
 HasMapFault ports Memory = ⊤
 
 -- the place of a fault in the order in which faults are tried
-abbrev pub map_fault_rank : MapFault → ℕ
+abbrev pub map_fault_rank : AddressMapFault → ℕ
 map_fault_rank (Overlap earlier later) = 1
 map_fault_rank Memory = 2
 
 -- the fault is the first one, in that order, of these ranges
-abbrev pub IsFirstMapFault : List (List Range) → MapFault → Type 0
-IsFirstMapFault ports = IsFirstOf (HasMapFault ports) map_fault_rank
+abbrev pub IsFirstAddressMapFault : List (List Range) → AddressMapFault → Type 0
+IsFirstAddressMapFault ports = IsFirstOf (HasMapFault ports) map_fault_rank

@@ -3,8 +3,8 @@ ghost use Rattle.std.specs.Prelude.{◌≡◌, ◌≢◌, ◌+◌, ◌^◌, ◌<
 ghost use Rattle.tl_map.specs.Block.{IsBlockSize, IsBlockStart};
 ghost use Rattle.check_map.specs.Blocks.{AreBlocks, AreFew, IsFew};
 
-use crate::limits::{MAX_BLOCK, MAX_MASTERS};
-use crate::sources::{Owner, SourceFault};
+use crate::limits::{MAX_BLOCK, MAX_JUDGED_MASTERS};
+use crate::sources::{Owner, SourceOwnerFault};
 use std::alloc::{AllocError, Global};
 
 /// Whether a master has a source, and not more than a block may have.
@@ -18,7 +18,7 @@ fn is_few(count: u32) -> bool
 fn are_few(counts: &[u32]) -> bool
     ensures { IsTrue result ↔ AreFew counts.now }
 {
-    counts.len() <= MAX_MASTERS && counts.iter().all(|count| is_few(*count))
+    counts.len() <= MAX_JUDGED_MASTERS && counts.iter().all(|count| is_few(*count))
 }
 
 /// The size of the block of a master with this many sources.
@@ -63,14 +63,14 @@ fn place_blocks(alloc: Global, counts: &[u32]) -> Result<Vec<Owner>, AllocError>
 /// The owners of masters that say only how many sources they have. Each master has a block of the least power of two
 /// that is at least its count, at the first multiple of that size that is not below the end of the block before. More
 /// than 64 masters, no source, or more than 256 sources of one master are `TooMany`.
-pub fn blocks(alloc: Global, counts: &[u32]) -> Result<Vec<Owner>, SourceFault>
+pub fn blocks(alloc: Global, counts: &[u32]) -> Result<Vec<Owner>, SourceOwnerFault>
     ensures few { OnOk result (AreFew counts.now) }
     ensures made { IfOk result (λ owners. AreBlocks counts.now owners.items) }
-    ensures fault { IfErr result (λ fault. fault ≢ SourceFault.Memory
-        → (fault ≡ SourceFault.TooMany) × (AreFew counts.now → ⊥)) }
+    ensures fault { IfErr result (λ fault. fault ≢ SourceOwnerFault.Memory
+        → (fault ≡ SourceOwnerFault.TooMany) × (AreFew counts.now → ⊥)) }
 {
     if !are_few(counts) {
-        return Err(SourceFault::TooMany);
+        return Err(SourceOwnerFault::TooMany);
     }
     Ok(place_blocks(alloc, counts)?)
 }

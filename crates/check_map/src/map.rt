@@ -3,10 +3,10 @@ ghost use Rattle.std.specs.Prelude.{◌≡◌, ◌+◌, ◌^◌, ◌<◌, ◌≤
 ghost use Rattle.std.specs.List.Sorted.{IsPermutation};
 ghost use Rattle.tl_map.specs.declared.map.Range.{Range};
 ghost use Rattle.tl_map.specs.Range.{HoldsBytes, Overlaps};
-ghost use Rattle.check_map.specs.Ranges.{AreApartBefore, AreRanges, HasRoutes, IsFirstMapFault, IsLawfulMap, MeetsEarlier, MeetsFirst, Routes, RoutesBytes, lists_in, range_at};
+ghost use Rattle.check_map.specs.Ranges.{AreApartBefore, AreRanges, HasRoutes, IsFirstAddressMapFault, IsLawfulAddressMap, MeetsEarlier, MeetsFirst, RoutesByRanges, RoutesBytesByRanges, lists_in, range_at};
 ghost use Rattle.check_map.specs.Placed.{AreListed, ArePlaced, DoRise, IsKeptMap, IsLastFrom, placed_at};
 
-use crate::limits::MAX_PORTS;
+use crate::limits::MAX_JUDGED_PORTS;
 use std::alloc::{AllocError, Global};
 use std::marker::Model;
 use thiserror::Error;
@@ -16,7 +16,7 @@ use tl_types::{Ask, MAX_SIZE, width};
 /// Why ranges make no map: two have a byte in common, whose ports are named, the earlier one first; or memory is
 /// refused.
 #[derive(Debug, Clone, Copy, PartialEq, Eq, Error)]
-pub enum MapFault {
+pub enum AddressMapFault {
     #[error("ports {0} and {1} overlap")]
     Overlap(usize, usize),
     #[error("memory refused")]
@@ -32,13 +32,13 @@ struct Placed {
 
 /// The ranges of ports, no two with a byte in common, and after them the error port, which has none.
 #[derive(Debug, Drop)]
-pub struct Map {
+pub struct AddressMap {
     ports: Vec<Vec<Range>>,
     /// The ranges of all ports by rising bases, so that a port is found by halving.
     placed: Vec<Placed>,
 }
 
-impl Model for Map {
+impl Model for AddressMap {
     ghost use Rattle.std.specs.Prelude.{List};
     ghost use Rattle.tl_map.specs.declared.map.Range.{Range};
     ghost use Rattle.check_map.specs.Ranges.{lists_in};
@@ -51,33 +51,33 @@ impl Model for Map {
     ghost invariant = { λ m. IsKeptMap (lists_in m.ports.items) m.placed.items };
 }
 
-impl Map {
+impl AddressMap {
     /// The map of ports with these ranges, or the first fault that they have.
-    pub fn new(alloc: Global, ports: &[Vec<Range>]) -> Result<Map, MapFault>
+    pub fn new(alloc: Global, ports: &[Vec<Range>]) -> Result<AddressMap, AddressMapFault>
         requires { AreRanges (lists_in ports.now) }
         ensures made { IfOk result (λ map. map ≡ lists_in ports.now) }
-        ensures lawful { OnOk result (IsLawfulMap (lists_in ports.now)) }
-        ensures fault { IfErr result (IsFirstMapFault (lists_in ports.now)) }
+        ensures lawful { OnOk result (IsLawfulAddressMap (lists_in ports.now)) }
+        ensures fault { IfErr result (IsFirstAddressMapFault (lists_in ports.now)) }
     {
         if let Some(fault) = first_fault(ports) {
             return Err(fault);
         }
-        Map::keep(alloc, ports).map_err(|_| MapFault::Memory)
+        AddressMap::keep(alloc, ports).map_err(|_| AddressMapFault::Memory)
     }
 
     /// The map of ports with ranges that have no fault.
-    fn keep(alloc: Global, ports: &[Vec<Range>]) -> Result<Map, AllocError>
-        requires { IsLawfulMap (lists_in ports.now) }
+    fn keep(alloc: Global, ports: &[Vec<Range>]) -> Result<AddressMap, AllocError>
+        requires { IsLawfulAddressMap (lists_in ports.now) }
         ensures { IfOk result (λ map. map ≡ lists_in ports.now) }
     {
         let placed = place_all(alloc, ports)?;
         let ports = copy_all(alloc, ports)?;
-        Ok(Map { ports, placed })
+        Ok(AddressMap { ports, placed })
     }
 
     /// The port of a request: the one that has a range with all its bytes, or the error port.
     pub fn route(&self, ask: &Ask) -> usize
-        ensures port { (port : ℕ) → (result ≡ port) ↔ Routes self.now ask.now port }
+        ensures port { (port : ℕ) → (result ≡ port) ↔ RoutesByRanges self.now ask.now port }
         ensures in_ports { result ≤ length self.now }
         ensures past_end { 2 ^ 64 < ask.now.address + 2 ^ ask.now.size → result ≡ length self.now }
     {
@@ -87,7 +87,7 @@ impl Map {
     /// The port of any request of this address and size.
     pub fn route_bytes(&self, address: u64, size: u8) -> usize
         requires { size ≤ MAX_SIZE }
-        ensures port { (port : ℕ) → (result ≡ port) ↔ RoutesBytes self.now address size port }
+        ensures port { (port : ℕ) → (result ≡ port) ↔ RoutesBytesByRanges self.now address size port }
         ensures in_ports { result ≤ length self.now }
         ensures past_end { 2 ^ 64 < address + 2 ^ size → result ≡ length self.now }
     {
@@ -97,8 +97,8 @@ impl Map {
     /// How many ports there are, the error port among them.
     pub fn ports(&self) -> usize
         ensures value { result ≡ length self.now + 1 }
-        ensures in_limit { result ≤ MAX_PORTS + 1 }
-        ensures lawful { IsLawfulMap self.now }
+        ensures in_limit { result ≤ MAX_JUDGED_PORTS + 1 }
+        ensures lawful { IsLawfulAddressMap self.now }
         ensures routes { HasRoutes self.now }
     {
         self.ports.len() + 1
@@ -128,7 +128,7 @@ fn holds(range: Range, address: u64, size: u8) -> bool
 fn port_of(ports: &[Vec<Range>], placed: &[Placed], address: u64, size: u8) -> usize
     requires kept { IsKeptMap (lists_in ports.now) placed.now }
     requires in_limit { size ≤ MAX_SIZE }
-    ensures port { (port : ℕ) → (result ≡ port) ↔ RoutesBytes (lists_in ports.now) address size port }
+    ensures port { (port : ℕ) → (result ≡ port) ↔ RoutesBytesByRanges (lists_in ports.now) address size port }
     ensures in_ports { result ≤ length (lists_in ports.now) }
 {
     let Some(last) = last_from(placed, address) else {
@@ -261,26 +261,26 @@ fn overlapped(ports: &[Vec<Range>], port: usize, place: usize) -> Option<usize>
 }
 
 /// The first fault of the ranges of a port, if those of earlier ports have none.
-fn port_fault(ports: &[Vec<Range>], port: usize) -> Option<MapFault>
+fn port_fault(ports: &[Vec<Range>], port: usize) -> Option<AddressMapFault>
     requires within { port < length ports.now }
     requires before { AreApartBefore (lists_in ports.now) port 0 }
-    ensures fault { IfSome result (IsFirstMapFault (lists_in ports.now)) }
+    ensures fault { IfSome result (IsFirstAddressMapFault (lists_in ports.now)) }
     ensures none { IfNone result (AreApartBefore (lists_in ports.now) (port + 1) 0) }
 {
     for place in 0..ports[port].len() {
         if let Some(other) = overlapped(ports, port, place) {
-            return Some(MapFault::Overlap(other, port));
+            return Some(AddressMapFault::Overlap(other, port));
         }
     }
     None
 }
 
 /// The first fault of these ranges, want of memory aside.
-fn first_fault(ports: &[Vec<Range>]) -> Option<MapFault>
-    ensures fault { IfSome result (IsFirstMapFault (lists_in ports.now)) }
+fn first_fault(ports: &[Vec<Range>]) -> Option<AddressMapFault>
+    ensures fault { IfSome result (IsFirstAddressMapFault (lists_in ports.now)) }
     ensures none { IfNone result
         ((other port place : ℕ) → MeetsEarlier (lists_in ports.now) other port place → ⊥) }
-    ensures memory { IfNone result (IsFirstMapFault (lists_in ports.now) MapFault.Memory) }
+    ensures memory { IfNone result (IsFirstAddressMapFault (lists_in ports.now) AddressMapFault.Memory) }
 {
     for port in 0..ports.len() {
         if let Some(fault) = port_fault(ports, port) {

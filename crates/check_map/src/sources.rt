@@ -1,17 +1,17 @@
 //! The wide sources of masters.
 ghost use Rattle.std.specs.Prelude.{◌≡◌, ◌≢◌, ◌+◌, ◌-◌, ◌*◌, ◌<◌, ◌≤◌, ℕ, ◌↔◌, Err, Some, length, IsTrue, IfSome, IfNone, IfOk, OnOk, IfErr, slice_get, All};
-ghost use Rattle.check_map.specs.Owner.{IsOf, IsOwned, IsWide, Widens};
-ghost use Rattle.check_map.specs.Sources.{AreApartBelow, AreLawfulOwners, IsFirstSourceFault, IsLawfulOwner, IsSharedBy};
+ghost use Rattle.check_map.specs.Owner.{IsOf, IsOwned, IsWideSource, Widens};
+ghost use Rattle.check_map.specs.Sources.{AreApartBelow, AreLawfulOwners, IsFirstSourceOwnerFault, IsLawfulOwner, IsSharedBy};
 ghost use Rattle.check_map.specs.Marks.{AreMarked, HasRoomFor, IsMarkedUpTo};
 
-use crate::limits::{MAX_MASTERS, MAX_SOURCES, MAX_WIDE};
+use crate::limits::{MAX_JUDGED_MASTERS, MAX_JUDGED_SOURCES, MAX_WIDE};
 use std::alloc::{AllocError, Global};
 use std::marker::Model;
 use thiserror::Error;
 
 /// Why owners make no sources. Masters are named by their numbers, of two that share a source the earlier is first.
 #[derive(Debug, Clone, Copy, PartialEq, Eq, Error)]
-pub enum SourceFault {
+pub enum SourceOwnerFault {
     #[error("too many masters or sources")]
     TooMany,
     #[error("masters {0} and {1} share source {2}")]
@@ -20,13 +20,13 @@ pub enum SourceFault {
     Memory,
 }
 
-impl From<AllocError> for SourceFault {
-    ghost use Rattle.check_map.specs.declared.sources.SourceFault.TheVariants.{Memory};
+impl From<AllocError> for SourceOwnerFault {
+    ghost use Rattle.check_map.specs.declared.sources.SourceOwnerFault.TheVariants.{Memory};
 
     ghost from_gives = { λ _ fault. fault ≡ Memory };
 
-    fn from(_: AllocError) -> SourceFault {
-        SourceFault::Memory
+    fn from(_: AllocError) -> SourceOwnerFault {
+        SourceOwnerFault::Memory
     }
 }
 
@@ -44,7 +44,7 @@ impl Owner {
         ensures { IsTrue result ↔ IsLawfulOwner self }
     {
         0 < self.count
-            && self.count <= MAX_SOURCES
+            && self.count <= MAX_JUDGED_SOURCES
             && 0 < self.stride
             && u64::from(self.first) + u64::from(self.stride) * u64::from(self.count - 1)
                 <= u64::from(MAX_WIDE)
@@ -81,13 +81,13 @@ impl Owner {
 
 /// The wide sources of some masters, which contracts see as the masters' owners.
 #[derive(Debug, Drop)]
-pub struct Sources {
+pub struct SourceOwners {
     owners: Vec<Owner>,
     /// The master of each wide source up to the largest, if it is one's.
     marks: Vec<Option<u8>>,
 }
 
-impl Model for Sources {
+impl Model for SourceOwners {
     ghost use Rattle.std.specs.Prelude.{List};
     ghost use Rattle.check_map.specs.declared.sources.Owner.{Owner};
     ghost use Rattle.check_map.specs.Marks.{AreKept};
@@ -99,30 +99,30 @@ impl Model for Sources {
     ghost invariant = { λ s. AreKept s.owners.items s.marks.items };
 }
 
-impl Sources {
+impl SourceOwners {
     /// The sources of these owners, or the first fault that they have. Want of memory is answered only if there are not too
     /// many, and then before the sources of two masters are compared, or after.
-    pub fn new(alloc: Global, owners: &[Owner]) -> Result<Sources, SourceFault>
+    pub fn new(alloc: Global, owners: &[Owner]) -> Result<SourceOwners, SourceOwnerFault>
         ensures made { IfOk result (λ sources. sources ≡ owners.now) }
         ensures lawful { OnOk result (AreLawfulOwners owners.now) }
-        ensures fault { IfErr result (λ fault. fault ≢ SourceFault.Memory → IsFirstSourceFault owners.now fault) }
-        ensures memory { result ≡ Err SourceFault.Memory
-            → (length owners.now ≤ MAX_MASTERS) × All IsLawfulOwner owners.now }
+        ensures fault { IfErr result (λ fault. fault ≢ SourceOwnerFault.Memory → IsFirstSourceOwnerFault owners.now fault) }
+        ensures memory { result ≡ Err SourceOwnerFault.Memory
+            → (length owners.now ≤ MAX_JUDGED_MASTERS) × All IsLawfulOwner owners.now }
     {
-        if owners.len() > MAX_MASTERS || !are_lawful(owners) {
-            return Err(SourceFault::TooMany);
+        if owners.len() > MAX_JUDGED_MASTERS || !are_lawful(owners) {
+            return Err(SourceOwnerFault::TooMany);
         }
         let mut marks = no_marks(alloc, owners)?;
         if let Some(fault) = mark_all(&mut marks, owners) {
             return Err(fault);
         }
         let owners = Vec::from_slice(alloc, owners)?;
-        Ok(Sources { owners, marks })
+        Ok(SourceOwners { owners, marks })
     }
 
     /// The wide source of a master's source, if the master has that source.
     pub fn widen(&self, master: usize, source: u16) -> Option<u16>
-        ensures { (wide : ℕ) → (result ≡ Some wide) ↔ IsWide self.now master source wide }
+        ensures { (wide : ℕ) → (result ≡ Some wide) ↔ IsWideSource self.now master source wide }
     {
         let owner = owner_at(&self.owners, master)?;
         owner.wide_of(source)
@@ -131,7 +131,7 @@ impl Sources {
     /// The master that has a wide source, and its own source.
     pub fn owner(&self, wide: u16) -> Option<(usize, u16)>
         ensures { (master source : ℕ)
-            → (result ≡ Some (master, source)) ↔ IsWide self.now master source wide }
+            → (result ≡ Some (master, source)) ↔ IsWideSource self.now master source wide }
     {
         let master = master_at(&self.marks, wide)?;
         let source = self.owners[master].source_of(wide);
@@ -148,7 +148,7 @@ impl Sources {
     /// How many masters there are.
     pub fn masters(&self) -> usize
         ensures value { result ≡ length self.now }
-        ensures in_limit { result ≤ MAX_MASTERS }
+        ensures in_limit { result ≤ MAX_JUDGED_MASTERS }
         ensures lawful { AreLawfulOwners self.now }
     {
         self.owners.len()
@@ -207,7 +207,7 @@ fn no_marks(alloc: Global, owners: &[Owner]) -> Result<Vec<Option<u8>>, AllocErr
 /// wide source.
 fn mark_master(marks: &mut [Option<u8>], owners: &[Owner], master: usize) -> Option<(usize, u16)>
     requires within { master < length owners.now }
-    requires few { length owners.now ≤ MAX_MASTERS }
+    requires few { length owners.now ≤ MAX_JUDGED_MASTERS }
     requires lawful { All IsLawfulOwner owners.now }
     requires room { HasRoomFor owners.now (length marks.old) }
     requires marked { IsMarkedUpTo owners.now master 0 marks.old }
@@ -228,19 +228,19 @@ fn mark_master(marks: &mut [Option<u8>], owners: &[Owner], master: usize) -> Opt
 }
 
 /// Marks the wide sources of all masters, up to the first that an earlier master has.
-fn mark_all(marks: &mut [Option<u8>], owners: &[Owner]) -> Option<SourceFault>
-    requires few { length owners.now ≤ MAX_MASTERS }
+fn mark_all(marks: &mut [Option<u8>], owners: &[Owner]) -> Option<SourceOwnerFault>
+    requires few { length owners.now ≤ MAX_JUDGED_MASTERS }
     requires lawful { All IsLawfulOwner owners.now }
     requires room { HasRoomFor owners.now (length marks.old) }
     requires none { IsMarkedUpTo owners.now 0 0 marks.old }
     ensures counted { length marks.new ≡ length marks.old }
     ensures marked { IfNone result (AreMarked owners.now marks.new) }
     ensures lawful { IfNone result (AreLawfulOwners owners.now) }
-    ensures fault { IfSome result (IsFirstSourceFault owners.now) }
+    ensures fault { IfSome result (IsFirstSourceOwnerFault owners.now) }
 {
     for master in 0..owners.len() {
         if let Some((other, wide)) = mark_master(marks, owners, master) {
-            return Some(SourceFault::Shared(other, master, wide));
+            return Some(SourceOwnerFault::Shared(other, master, wide));
         }
     }
     None

@@ -13,45 +13,9 @@ use Rattle.tl_ops.specs.Store.{Store, legal, contains_window, window, with_windo
 use Rattle.tl_ops.specs.Window.{new_window}
 use Rattle.tl_ops.proofs.Kept.{StandsIn-from_legal, length-new_window}
 use Rattle.tl_ops.proofs.LaneLists.{middle, middle_replaced}
-use Rattle.check_memory.specs.Sizes.{allows, row_of}
 use Rattle.check_memory.specs.Partial.{Partial, permits}
 use Rattle.check_memory.specs.Whole.{true_window, true_after, true_reply}
-use Rattle.check_memory.specs.Laws.{IsLawful, IsStore, one_range}
-
-any : (size : ℕ) → (nat_le 0 size && nat_le size 8) ≡ nat_le size 8
-any size = let least : nat_le 0 size ≡ true = search rules in rw least refl
-
-row_is : (kind : Kind) (op : AskOp) (size : ℕ) → allows (row_of kind) op size ≡ supports kind op size
-row_is Ram PutFull size = any size
-row_is Ram PutPartial size = any size
-row_is Ram (Arithmetic _) size = refl
-row_is Ram (Logical _) size = refl
-row_is Ram Get size = any size
-row_is Ram (Intent _) size = any size
-row_is Rom PutFull size = refl
-row_is Rom PutPartial size = refl
-row_is Rom (Arithmetic _) size = refl
-row_is Rom (Logical _) size = refl
-row_is Rom Get size = any size
-row_is Rom (Intent _) size = any size
-row_is Regs PutFull size = refl
-row_is Regs PutPartial size = refl
-row_is Regs (Arithmetic _) size = refl
-row_is Regs (Logical _) size = refl
-row_is Regs Get size = refl
-row_is Regs (Intent _) size = refl
-row_is ClearRegs PutFull size = refl
-row_is ClearRegs PutPartial size = refl
-row_is ClearRegs (Arithmetic _) size = refl
-row_is ClearRegs (Logical _) size = refl
-row_is ClearRegs Get size = refl
-row_is ClearRegs (Intent _) size = refl
-row_is NoDevice PutFull size = refl
-row_is NoDevice PutPartial size = refl
-row_is NoDevice (Arithmetic _) size = refl
-row_is NoDevice (Logical _) size = refl
-row_is NoDevice Get size = refl
-row_is NoDevice (Intent _) size = refl
+use Rattle.check_memory.specs.Laws.{IsLawfulAsk, IsStore, one_range}
 
 or-false : (b : Bool) → (b || false) ≡ b
 or-false true = refl
@@ -60,9 +24,8 @@ or-false false = refl
 legal_same : (store : Store) (cells : List (Option ℕ)) (ask : Request)
     → permits (one_range store cells) ask ≡ legal store ask
 legal_same store cells ask =
-    ap (λ b. allows (row_of store.kind) ask.op ask.size && (ask.address % 2 ^ ask.size == 0) && b)
+    ap (λ b. supports store.kind ask.op ask.size && (ask.address % 2 ^ ask.size == 0) && b)
     (or-false (contains_window store ask))
-    ∙ ap (λ b. b && (ask.address % 2 ^ ask.size == 0) && contains_window store ask) (row_is store.kind ask.op ask.size)
 
 -- ---- a list in five parts
 
@@ -146,7 +109,7 @@ reply_same store before beyond memory ask false is same at = rw (same, is) refl
 
 after_same : (store : Store) (before beyond : List ℕ) (memory : Partial) (ask : Request) (p : Bool)
     → legal store ask ≡ p → permits memory ask ≡ legal store ask → memory.kind ≡ store.kind → length before ≡ store.base
-    → IsLawful ask
+    → IsLawfulAsk ask
     → true_after memory (before ++ (store.bytes ++ beyond)) ask ≡ before ++ ((after store ask).bytes ++ beyond)
 after_same store before beyond memory ask true is same kind at lawful =
     let stands = StandsIn-from_legal store ask is in
@@ -167,7 +130,7 @@ after_same store before beyond memory ask true is same kind at lawful =
 after_same store before beyond memory ask false is same kind at lawful = rw (same, is) refl
 
 pub store_is_instance : (store : Store) (before beyond : List ℕ) (cells : List (Option ℕ)) (ask : Request)
-    → length before ≡ store.base → IsLawful ask → IsStore store before beyond (one_range store cells) ask
+    → length before ≡ store.base → IsLawfulAsk ask → IsStore store before beyond (one_range store cells) ask
 store_is_instance store before beyond cells ask at lawful =
     let same = legal_same store cells ask in
     record {

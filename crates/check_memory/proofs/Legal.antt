@@ -11,9 +11,10 @@ use Rattle.tl_types.specs.declared.operation.AskOp.TheVariants.{PutFull, PutPart
 use Rattle.tl_ops.specs.declared.kind.Kind.{Kind}
 use Rattle.tl_ops.specs.Cell.{FitsWords}
 use Rattle.tl_ops.proofs.Kept.{FitsWords-from_aligned}
-use Rattle.check_memory.specs.declared.sizes.Span.{Span}
-use Rattle.check_memory.specs.declared.sizes.SizeTable.{SizeTable}
-use Rattle.check_memory.specs.Sizes.{spans, allows, IsBetween, IsLawfulTable}
+use Rattle.tl_ops.specs.declared.sizes.SizeSpan.{SizeSpan}
+use Rattle.tl_ops.specs.declared.sizes.SizeTable.{SizeTable}
+use Rattle.tl_ops.specs.Support.{spans, allows}
+use Rattle.check_memory.specs.Sizes.{IsBetween, IsLawfulTable}
 use Rattle.check_memory.specs.Known.{replaced}
 use Rattle.check_memory.specs.Cells.{new_cells, is_atomic}
 use Rattle.check_memory.specs.Partial.{Partial, permits, takes_bytes, window_of, after_partial, after_forgetting}
@@ -52,7 +53,7 @@ in_page address (suc (suc (suc (suc (suc (suc (suc (suc (suc size))))))))) small
 
 -- ---- sizes of a table within the rules
 
-in_span : (low high : ℕ) (span : Option Span) (size : ℕ) → IfSome span (IsBetween low high) → spans span size ≡ true
+in_span : (low high : ℕ) (span : Option SizeSpan) (size : ℕ) → IfSome span (IsBetween low high) → spans span size ≡ true
     → size ≤ high
 in_span low high None size lawful is = cc
 in_span low high (Some span) size lawful is =

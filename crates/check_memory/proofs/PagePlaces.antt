@@ -12,7 +12,7 @@ use Rattle.check_memory.specs.Paged.{Slot, blank_slot}
 use Rattle.check_memory.specs.Known.{replaced}
 use Rattle.check_memory.specs.Cells.{new_cells}
 use Rattle.check_memory.specs.Place.{tabulate, fill_of}
-use Rattle.check_memory.specs.Paged.{content, IsAt, AreDistinct, AreIndexed}
+use Rattle.check_memory.specs.Paged.{content, IsAt, AreDistinctPages, AreIndexed}
 use Rattle.check_memory.proofs.Told.{Told, told-length}
 use Rattle.check_memory.proofs.Soundness.{told-new}
 use Rattle.check_memory.proofs.Space.{window_seen, replaced_seen, get_or-replaced_in, get_or-replaced_out, content_here, content_there, content_absent, content_push, same_tabulate}
@@ -66,7 +66,7 @@ set_here (s ∷ slots) (suc at) slot new is = set_here slots at slot new is
 -- ---- a page read
 
 pub page_shown : (slots : List Slot) (at number : ℕ) (slot : Slot) (known : Bool)
-    (n address width : ℕ) → AreDistinct slots → slice_get slots at ≡ Some slot → slot.number ≡ number
+    (n address width : ℕ) → AreDistinctPages slots → slice_get slots at ≡ Some slot → slot.number ≡ number
     → number ≡ address / 256
     → address % 256 + width ≤ 256 → address + width ≤ n
     → take width (drop address (tabulate (content slots known) n)) ≡ take width (drop (address % 256) slot.page)
@@ -98,7 +98,7 @@ fill_shown slots number known n address width none here inside within =
 -- ---- a page changed
 
 pub page_changed : (slots : List Slot) (at number : ℕ) (slot new : Slot) (known : Bool)
-    (n address : ℕ) (cells : List (Option ℕ)) → AreDistinct slots → slice_get slots at ≡ Some slot
+    (n address : ℕ) (cells : List (Option ℕ)) → AreDistinctPages slots → slice_get slots at ≡ Some slot
     → slot.number ≡ number → new.number ≡ slot.number → number ≡ address / 256
     → address % 256 + length cells ≤ 256 → address + length cells ≤ n
     → new.page ≡ replaced slot.page (address % 256) cells
@@ -192,8 +192,8 @@ at_either (s ∷ slots) slot number zero is = inl is
 at_either (s ∷ slots) slot number (suc at) is =
     ⊎_elim (λ old. inl old) (λ new. inr (ap suc new.0, new.1)) (at_either slots slot number at is)
 
-distinct_more : (slots : List Slot) (slot : Slot) → AreDistinct slots → ((i : ℕ) → IsAt slots slot.number i → ⊥)
-    → length slot.page ≡ 256 → AreDistinct (slots ++ slot ∷ [])
+distinct_more : (slots : List Slot) (slot : Slot) → AreDistinctPages slots → ((i : ℕ) → IsAt slots slot.number i → ⊥)
+    → length slot.page ≡ 256 → AreDistinctPages (slots ++ slot ∷ [])
 distinct_more slots slot distinct none whole = record {
   paged = All-push (λ (s : Slot). length s.page ≡ 256) slots slot distinct.paged whole;
   alone = λ number i at here there. ⊎_elim

@@ -18,13 +18,13 @@ use Rattle.tl_ops.specs.declared.kind.Kind.TheVariants.{Ram, Rom, Regs, ClearReg
 use Rattle.tl_ops.specs.Store.{shown}
 use Rattle.tl_ops.specs.Window.{new_window, put_window, merged, cleared, operand_of, combine_arith, combine_logic, not_byte}
 use Rattle.tl_ops.proofs.Kept.{length-new_window}
-use Rattle.check_memory.specs.declared.range.Range.{Range}
+use Rattle.tl_map.specs.declared.map.Range.{Range}
 use Rattle.check_memory.specs.Known.{IsBelow, known, all_known}
 use Rattle.check_memory.specs.Cells.{put_cell, clear_cell, put_cells, combined, combined_logic, new_cells}
 use Rattle.check_memory.specs.Partial.{Partial, holds, permits, window_of, after_partial, AreWithin}
 use Rattle.check_memory.specs.Pattern.{shown_cells}
 use Rattle.check_memory.specs.Whole.{true_window, true_after}
-use Rattle.check_memory.specs.Laws.{IsLawful, IsSound}
+use Rattle.check_memory.specs.Laws.{IsLawfulAsk, IsSound}
 use Rattle.check_memory.proofs.Told.{IsTold, Told, told-length, told-take, told-drop, told-known, told-none, told-replaced, below_from_told, told_from_below}
 
 -- ---- puts
@@ -159,7 +159,7 @@ window_long memory bytes ask within is =
     length-take-le (2 ^ ask.size) (drop ask.address bytes) (omega (arith, length-drop ask.address bytes, inside))
 
 pub given_long : (memory : Partial) (bytes : List ℕ) (ask : Request) → AreWithin memory.ranges (length bytes)
-    → IsLawful ask → permits memory ask ≡ true → carries_bytes ask.op ≡ true
+    → IsLawfulAsk ask → permits memory ask ≡ true → carries_bytes ask.op ≡ true
     → length ask.bytes ≡ length (true_window bytes ask)
 given_long memory bytes ask within lawful is carries =
     counted_if ask.op ask.size (length ask.bytes) lawful.counted carries ∙ sym (window_long memory bytes ask within is)
@@ -178,7 +178,7 @@ told-chosen true cells bytes zeros told = told
 told-chosen false cells bytes zeros told = told-known zeros
 
 below-after : (memory : Partial) (bytes : List ℕ) (ask : Request) (p : Bool) → permits memory ask ≡ p
-    → AreWithin memory.ranges (length bytes) → IsLawful ask → Told memory.cells bytes
+    → AreWithin memory.ranges (length bytes) → IsLawfulAsk ask → Told memory.cells bytes
     → IsBelow (after_partial memory ask).cells (known (true_after memory bytes ask))
 below-after memory bytes ask true is within lawful told =
     let told_window : Told (window_of memory ask) (true_window bytes ask) =
@@ -192,7 +192,7 @@ below-after memory bytes ask true is within lawful told =
 below-after memory bytes ask false is within lawful told = rw is (below_from_told memory.cells bytes told)
 
 pub partial_is_sound : (memory : Partial) (bytes : List ℕ) (ask : Request) → AreWithin memory.ranges (length bytes)
-    → IsLawful ask → IsBelow memory.cells (known bytes) → IsSound memory bytes ask
+    → IsLawfulAsk ask → IsBelow memory.cells (known bytes) → IsSound memory bytes ask
 partial_is_sound memory bytes ask within lawful below =
     let told : Told memory.cells bytes = told_from_below memory.cells bytes below in
     let told_window : Told (window_of memory ask) (true_window bytes ask) =

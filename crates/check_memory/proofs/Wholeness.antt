@@ -22,7 +22,7 @@ use Rattle.check_memory.specs.Cells.{put_cell, clear_cell, put_cells, combined, 
 use Rattle.check_memory.specs.Partial.{Partial, permits, after_partial, AreWithin}
 use Rattle.check_memory.specs.Pattern.{Pattern, pattern, shown_cells, seen_as}
 use Rattle.check_memory.specs.Whole.{whole, true_window, true_after, true_reply}
-use Rattle.check_memory.specs.Laws.{IsLawful, IsWhole}
+use Rattle.check_memory.specs.Laws.{IsLawfulAsk, IsWhole}
 use Rattle.check_memory.proofs.Soundness.{swapped, within_if_held, held_if_permitted, window_long, given_long}
 
 -- ---- what a window becomes
@@ -127,7 +127,7 @@ whole_answers memory bytes ask =
     ∙ known-shown op (if permits memory ask then true_window bytes ask else zeros))
 
 whole_leaves : (memory : Partial) (bytes : List ℕ) (ask : Request) (p : Bool) → permits memory ask ≡ p
-    → AreWithin memory.ranges (length bytes) → IsLawful ask
+    → AreWithin memory.ranges (length bytes) → IsLawfulAsk ask
     → after_partial (whole memory bytes) ask ≡ whole memory (true_after memory bytes ask)
 whole_leaves memory bytes ask true is within lawful =
     let new = new_window memory.kind ask.op (true_window bytes ask) ask.bytes in
@@ -156,7 +156,7 @@ new_long memory bytes ask Get long = refl
 new_long memory bytes ask (Intent _) long = refl
 
 whole_counted : (memory : Partial) (bytes : List ℕ) (ask : Request) (p : Bool) → permits memory ask ≡ p
-    → AreWithin memory.ranges (length bytes) → IsLawful ask
+    → AreWithin memory.ranges (length bytes) → IsLawfulAsk ask
     → length (true_after memory bytes ask) ≡ length bytes
 whole_counted memory bytes ask true is within lawful =
     let inside : ask.address + 2 ^ ask.size ≤ length bytes =
@@ -169,7 +169,7 @@ whole_counted memory bytes ask true is within lawful =
 whole_counted memory bytes ask false is within lawful = rw is refl
 
 pub whole_stays_whole : (memory : Partial) (bytes : List ℕ) (ask : Request) → AreWithin memory.ranges (length bytes)
-    → IsLawful ask → IsWhole memory bytes ask
+    → IsLawfulAsk ask → IsWhole memory bytes ask
 whole_stays_whole memory bytes ask within lawful = record {
   answers = whole_answers memory bytes ask;
   leaves = whole_leaves memory bytes ask (permits memory ask) refl within lawful;

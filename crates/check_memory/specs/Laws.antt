@@ -2,17 +2,17 @@
 use Rattle.std.specs.Prelude.{◌≡◌, ◌↔◌, ℕ, ◌++◌, ◌∷◌, [], List, length, Option}
 use Rattle.tl_types.specs.Request.{Request, IsLawfulRequest}
 use Rattle.tl_ops.specs.Store.{Store, legal, reply, after}
-use Rattle.check_memory.specs.Sizes.{row_of}
+use Rattle.tl_ops.specs.Support.{row_of_kind}
 use Rattle.check_memory.specs.Known.{IsBelow, known}
 use Rattle.check_memory.specs.Partial.{Partial, permits, after_partial, AreWithin}
-use Rattle.check_memory.specs.Pattern.{Pattern, pattern, Fits, seen_as}
+use Rattle.check_memory.specs.Pattern.{Pattern, pattern, FitsPattern, seen_as}
 use Rattle.check_memory.specs.declared.slave.Slave.{Slave}
 use Rattle.check_memory.specs.Slave.{expected_of, MayReply}
 use Rattle.check_memory.specs.Whole.{whole, true_after, true_reply}
 
 -- a request as messages carry it
-abbrev pub IsLawful : Request → Type 0
-IsLawful ask = IsLawfulRequest ask.op ask.size ask.bytes
+abbrev pub IsLawfulAsk : Request → Type 0
+IsLawfulAsk ask = IsLawfulRequest ask.op ask.size ask.bytes
 
 -- a memory that is wholly known answers and changes as the definitions of tl_ops say, and stays wholly known
 pub record IsWhole (memory : Partial) (bytes : List ℕ) (ask : Request) : Type 0 where
@@ -22,18 +22,18 @@ pub record IsWhole (memory : Partial) (bytes : List ℕ) (ask : Request) : Type 
 
 abbrev pub WholeStaysWhole : Type 0
 WholeStaysWhole =
-    (memory : Partial) (bytes : List ℕ) (ask : Request) → AreWithin memory.ranges (length bytes) → IsLawful ask
+    (memory : Partial) (bytes : List ℕ) (ask : Request) → AreWithin memory.ranges (length bytes) → IsLawfulAsk ask
     → IsWhole memory bytes ask
 
 -- whatever the unknown bytes are, the true reply fits the pattern, and the true bytes afterwards are those that are
 -- known
 pub record IsSound (memory : Partial) (bytes : List ℕ) (ask : Request) : Type 0 where
-  pub reply_fits : Fits (pattern memory ask) (seen_as (true_reply memory bytes ask))
+  pub reply_fits : FitsPattern (pattern memory ask) (seen_as (true_reply memory bytes ask))
   pub stays_below : IsBelow (after_partial memory ask).cells (known (true_after memory bytes ask))
 
 abbrev pub PartialIsSound : Type 0
 PartialIsSound =
-    (memory : Partial) (bytes : List ℕ) (ask : Request) → AreWithin memory.ranges (length bytes) → IsLawful ask
+    (memory : Partial) (bytes : List ℕ) (ask : Request) → AreWithin memory.ranges (length bytes) → IsLawfulAsk ask
     → IsBelow memory.cells (known bytes) → IsSound memory bytes ask
 
 -- a memory in one range, whose sizes are its kind's row, is the store of tl_ops between the bytes before it and beyond
@@ -46,7 +46,7 @@ pub record IsStore (store : Store) (before beyond : List ℕ) (memory : Partial)
 abbrev pub one_range : Store → List (Option ℕ) → Partial
 one_range store cells = record {
   kind = store.kind;
-  sizes = row_of store.kind;
+  sizes = row_of_kind store.kind;
   ranges = record { base = store.base; length = length store.bytes } ∷ [];
   cells = cells;
 }
@@ -54,11 +54,11 @@ one_range store cells = record {
 abbrev pub StoreIsInstance : Type 0
 StoreIsInstance =
     (store : Store) (before beyond : List ℕ) (cells : List (Option ℕ)) (ask : Request) → length before ≡ store.base
-    → IsLawful ask → IsStore store before beyond (one_range store cells) ask
+    → IsLawfulAsk ask → IsStore store before beyond (one_range store cells) ask
 
 -- what fits the answer that is expected of a slave is what the slave may reply; of a device that is any reply of the
 -- right form
 abbrev pub FitsIfItMayReply : Type 0
 FitsIfItMayReply =
     (slave : Slave) (ask : Request) (captured : Pattern)
-    → Fits (expected_of slave ask) captured ↔ MayReply slave ask captured
+    → FitsPattern (expected_of slave ask) captured ↔ MayReply slave ask captured

@@ -5,7 +5,7 @@ use Rattle.tl_types.specs.Operation.{reply_op_of, reply_byte_count}
 use Rattle.tl_types.specs.Request.{Request}
 use Rattle.check_memory.specs.Known.{known}
 use Rattle.check_memory.specs.Partial.{Partial, permits, window_of}
-pub use Rattle.check_cells.specs.Pattern.{Pattern, Fits, shown_cells, device_pattern, captured_bytes, captured_as, seen_as}
+pub use Rattle.check_cells.specs.Pattern.{Pattern, FitsPattern, shown_cells, device_pattern, captured_bytes, captured_as, seen_as}
 
 -- a device's reply fits whatever its denied flag and its bytes are, unknown ones too
 pub record FitsDevice (ask : Request) (captured : Pattern) : Type 0 where

@@ -8,29 +8,30 @@ ghost use Rattle.check_memory.specs.Pattern.{pattern, shown_cells};
 ghost use Rattle.check_memory.specs.Place.{fill_of, tabulate};
 
 use crate::pages::Pages;
-use crate::range::Range;
+use crate::range::range_holds;
 use crate::sheet::PAGE_BYTES;
-use crate::sizes::{SizeTable, Sizes};
+use crate::sizes::Sizes;
 use check_cells::{Cells, Pattern};
 use std::alloc::{AllocError, Global};
 use std::marker::Model;
-use tl_ops::Kind;
+use tl_map::Range;
+use tl_ops::{Kind, SizeTable};
 use tl_types::{Ask, MAX_BYTES};
 
 /// A port's memory: which of its bytes are known, and what they are.
 #[derive(Drop)]
-pub struct Memory {
+pub struct PartialMemory {
     kind: Kind,
     sizes: SizeTable,
     ranges: Vec<Range>,
     pages: Pages,
 }
 
-impl Model for Memory {
+impl Model for PartialMemory {
     ghost use Rattle.std.specs.Prelude.{◌^◌};
     ghost use Rattle.check_memory.specs.Partial.{Partial, AreWithin};
     ghost use Rattle.check_memory.specs.Sizes.{IsLawfulTable};
-    ghost use Rattle.check_memory.specs.Paged.{seen};
+    ghost use Rattle.check_memory.specs.Paged.{paged_cells};
 
     ghost Value = { Partial };
 
@@ -38,15 +39,21 @@ impl Model for Memory {
       kind = m.kind;
       sizes = m.sizes;
       ranges = m.ranges.items;
-      cells = seen m.pages;
+      cells = paged_cells m.pages;
     } };
 
     ghost invariant = { λ m. AreWithin m.ranges.items (2 ^ 64) × IsLawfulTable m.sizes };
 }
 
-impl Memory {
+impl PartialMemory {
     /// A memory that nothing has written: its bytes are zero, or unknown.
-    pub fn new(alloc: Global, kind: Kind, sizes: Sizes, ranges: Vec<Range>, known: bool) -> Memory
+    pub fn new(
+        alloc: Global,
+        kind: Kind,
+        sizes: Sizes,
+        ranges: Vec<Range>,
+        known: bool,
+    ) -> PartialMemory
         requires { AreWithin ranges.items (2 ^ 64) }
         ensures { result ≡ record {
           kind = kind;
@@ -55,7 +62,7 @@ impl Memory {
           cells = tabulate (λ _. fill_of known) (2 ^ 64);
         } }
     {
-        Memory {
+        PartialMemory {
             kind,
             sizes: sizes.table(),
             ranges,
@@ -226,7 +233,7 @@ fn holds(ranges: &[Range], address: u64, width: u64) -> bool
     ensures { result ≡ holds ranges.now address width }
 {
     for range in ranges {
-        if range.holds(address, width) {
+        if range_holds(range, address, width) {
             return true;
         }
     }

@@ -5,7 +5,7 @@ ghost use Rattle.tl_ops.specs.Cell.{FitsWords};
 ghost use Rattle.check_memory.specs.Known.{known, replaced};
 ghost use Rattle.check_memory.specs.Cells.{new_cells, is_atomic, forgotten};
 ghost use Rattle.check_memory.specs.Pattern.{shown_cells};
-ghost use Rattle.check_memory.specs.Paged.{seen, IsAt};
+ghost use Rattle.check_memory.specs.Paged.{paged_cells, IsAt};
 
 use crate::sheet::PAGE_BYTES;
 use crate::slots::Slots;
@@ -73,7 +73,7 @@ impl Pages {
 
     /// The place of a page, which is made if there is none.
     pub fn page_for(&mut self, alloc: Global, number: u64) -> Result<usize, AllocError>
-        ensures same { seen self.new ≡ seen self.old }
+        ensures same { paged_cells self.new ≡ paged_cells self.old }
         ensures at { IfOk result (λ at. IsAt self.new.slots number at) }
     {
         if let Some(at) = self.find(number) {
@@ -86,7 +86,7 @@ impl Pages {
     #[inline(never)]
     fn add_page(&mut self, alloc: Global, number: u64) -> Result<usize, AllocError>
         requires { (at : ℕ) → IsAt self.old.slots number at → ⊥ }
-        ensures same { seen self.new ≡ seen self.old }
+        ensures same { paged_cells self.new ≡ paged_cells self.old }
         ensures at { IfOk result (λ at. IsAt self.new.slots number at) }
     {
         let at = self.slots.len();
@@ -114,7 +114,7 @@ impl Pages {
         requires limit { width ≤ MAX_BYTES }
         requires fits { FitsWords (address % PAGE_BYTES) width }
         requires inside { address % PAGE_BYTES + width ≤ PAGE_BYTES }
-        ensures { cells.new ≡ take width (drop address (seen self.now)) }
+        ensures { cells.new ≡ take width (drop address (paged_cells self.now)) }
     {
         match self.find(address / PAGE_BYTES as u64) {
             Some(at) => {
@@ -133,9 +133,9 @@ impl Pages {
         requires word { is_atomic ask.now.op ≡ true → 2 ^ ask.now.size ≤ WORD_BYTES }
         requires fits { FitsWords (ask.now.address % PAGE_BYTES) (2 ^ ask.now.size) }
         requires inside { ask.now.address % PAGE_BYTES + 2 ^ ask.now.size ≤ PAGE_BYTES }
-        ensures after { let old = take (2 ^ ask.now.size) (drop ask.now.address (seen self.old)) in
-            seen self.new ≡ replaced (seen self.old) ask.now.address (new_cells kind ask.now.op old ask.now.bytes) }
-        ensures shown { let old = take (2 ^ ask.now.size) (drop ask.now.address (seen self.old)) in
+        ensures after { let old = take (2 ^ ask.now.size) (drop ask.now.address (paged_cells self.old)) in
+            paged_cells self.new ≡ replaced (paged_cells self.old) ask.now.address (new_cells kind ask.now.op old ask.now.bytes) }
+        ensures shown { let old = take (2 ^ ask.now.size) (drop ask.now.address (paged_cells self.old)) in
             cells.new ≡ shown_cells (reply_op_of ask.now.op) old }
         ensures at { IsAt self.new.slots (ask.now.address / PAGE_BYTES) at }
     {
@@ -147,7 +147,7 @@ impl Pages {
     pub fn forget(&mut self, at: usize, address: u64, flags: &[bool])
         requires at { IsAt self.old.slots (address / PAGE_BYTES) at }
         requires inside { address % PAGE_BYTES + length flags.now ≤ PAGE_BYTES }
-        ensures { seen self.new ≡ forgotten flags.now address (seen self.old) }
+        ensures { paged_cells self.new ≡ forgotten flags.now address (paged_cells self.old) }
     {
         let start = (address % PAGE_BYTES as u64) as usize;
         self.slots.forget(at, start, flags);
@@ -157,7 +157,7 @@ impl Pages {
     pub fn load(&mut self, at: usize, address: u64, bytes: &[u8])
         requires at { IsAt self.old.slots (address / PAGE_BYTES) at }
         requires inside { address % PAGE_BYTES + length bytes.now ≤ PAGE_BYTES }
-        ensures { seen self.new ≡ replaced (seen self.old) address (known bytes.now) }
+        ensures { paged_cells self.new ≡ replaced (paged_cells self.old) address (known bytes.now) }
     {
         let start = (address % PAGE_BYTES as u64) as usize;
         self.slots.load(at, start, bytes);

@@ -2,33 +2,26 @@
 ghost use Rattle.std.specs.Prelude.{◌≡◌, ◌↔◌, ◌≤◌, ◌+◌, ◌^◌, ◌&&◌, IsTrue, All, nat_le};
 ghost use Rattle.check_memory.specs.Partial.{AreWithin};
 
-/// Bytes from an address on.
-#[derive(Debug, Clone, Copy, PartialEq, Eq)]
-pub struct Range {
-    pub base: u64,
-    pub length: u64,
+use tl_map::Range;
+
+/// Whether it ends at or below the end of the address space.
+fn is_within(range: Range) -> bool
+    ensures { IsTrue result ↔ (range.base + range.length ≤ 2 ^ 64) }
+{
+    range.length == 0 || range.length - 1 <= u64::MAX - range.base
 }
 
-impl Range {
-    /// Whether it ends at or below the end of the address space.
-    fn ends(self) -> bool
-        ensures { IsTrue result ↔ (self.base + self.length ≤ 2 ^ 64) }
-    {
-        self.length == 0 || self.length - 1 <= u64::MAX - self.base
-    }
-
-    /// Whether it holds so many bytes from an address on.
-    pub fn holds(&self, address: u64, width: u64) -> bool
-        ensures { result ≡ (nat_le self.now.base address
-            && nat_le (address + width) (self.now.base + self.now.length)) }
-    {
-        self.base <= address && width <= self.length && address - self.base <= self.length - width
-    }
+/// Whether it holds so many bytes from an address on.
+pub fn range_holds(range: &Range, address: u64, width: u64) -> bool
+    ensures { result ≡ (nat_le range.now.base address
+        && nat_le (address + width) (range.now.base + range.now.length)) }
+{
+    range.base <= address && width <= range.length && address - range.base <= range.length - width
 }
 
 /// Whether all of these ranges end at or below the end of the address space.
 pub fn are_within(ranges: &[Range]) -> bool
     ensures { IsTrue result ↔ AreWithin ranges.now (2 ^ 64) }
 {
-    ranges.iter().all(|range| range.ends())
+    ranges.iter().all(|range| is_within(*range))
 }

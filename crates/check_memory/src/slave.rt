@@ -2,7 +2,7 @@
 ghost use Rattle.std.specs.Prelude.{◌≡◌, true, IfOk, OnErr};
 ghost use Rattle.check_memory.specs.Slave.{slave_after, slave_after_forgetting, slave_takes_bytes, expected_of};
 
-use crate::memory::Memory;
+use crate::memory::PartialMemory;
 use check_cells::Pattern;
 use std::alloc::{AllocError, Global};
 use tl_types::{Ask, MAX_BYTES};
@@ -11,7 +11,7 @@ use tl_types::{Ask, MAX_BYTES};
 #[derive(Drop)]
 pub enum Slave {
     /// A memory, whose replies follow from the requests before.
-    Memory(Memory),
+    Memory(PartialMemory),
     /// A device, which keeps nothing here and decides for itself what it answers.
     Device,
 }

@@ -5,30 +5,30 @@ use Rattle.clap.specs.Words.{App, HasMatchesOf, Text, fault_of, first_of, first_
 use Rattle.clap.specs.declared.error.ErrorKind.{ErrorKind}
 use Rattle.clap.proofs.WalkLemmas.{first_value-rows}
 use Rattle.clap.specs.declared.parser.matches.ArgMatches.{ArgMatches}
-use Rattle.check_options.specs.Options.{AreRefusedAs, AskFor, Asked, Asks, IsCommandLine, Names, Refuses, asked_in, texts_of, with_rules}
+use Rattle.check_options.specs.Options.{AreRefusedAs, AskFor, AskedOptions, Asks, IsCommandLine, WordSlice, Refuses, asked_in, texts_of, with_rules}
 
 -- a word that lies at a place
 abbrev pub at : ℕ × ℕ → Text → Bor Text
 at place word = record { ref_ptr = place; now = word }
 
-abbrev pub list_at : ℕ × ℕ → List (Bor Text) → Names
+abbrev pub list_at : ℕ × ℕ → List (Bor Text) → WordSlice
 list_at place words = record { ref_ptr = place; now = words }
 
 moved : (word : Bor Text) (text : Text) → word.now ≡ text → word ≡ at word.ref_ptr text
 moved word text e = ap (at word.ref_ptr) e
 
 -- the lists of the program, at any places
-abbrev pub links_at : ℕ × ℕ → ℕ × ℕ → ℕ × ℕ → ℕ × ℕ → ℕ × ℕ → Names
+abbrev pub links_at : ℕ × ℕ → ℕ × ℕ → ℕ × ℕ → ℕ × ℕ → ℕ × ℕ → WordSlice
 links_at place a b c f =
     list_at place (at a (codes "both") ∷ at b (codes "masters") ∷ at c (codes "ports") ∷ at f (codes "each") ∷ [])
 
-abbrev pub orders_at : ℕ × ℕ → ℕ × ℕ → ℕ × ℕ → ℕ × ℕ → Names
+abbrev pub orders_at : ℕ × ℕ → ℕ × ℕ → ℕ × ℕ → ℕ × ℕ → WordSlice
 orders_at place a b c = list_at place (at a (codes "accept") ∷ at b (codes "reply") ∷ at c (codes "any") ∷ [])
 
 -- a list of four words is one at its places, and so is a list of three
-of_four : (P : Names → Type 0) (s t u v : Text)
+of_four : (P : WordSlice → Type 0) (s t u v : Text)
     → ((place a b c f : ℕ × ℕ) → P (list_at place (at a s ∷ at b t ∷ at c u ∷ at f v ∷ [])))
-    → (names : Names) → texts_of names ≡ s ∷ t ∷ u ∷ v ∷ [] → P names
+    → (names : WordSlice) → texts_of names ≡ s ∷ t ∷ u ∷ v ∷ [] → P names
 of_four P s t u v holds names listed = go names.now listed
   where
     go : (words : List (Bor Text)) → map (λ (word : Bor Text). word.now) words ≡ s ∷ t ∷ u ∷ v ∷ []
@@ -47,9 +47,9 @@ of_four P s t u v holds names listed = go names.now listed
         (holds names.ref_ptr a.ref_ptr b.ref_ptr c.ref_ptr f.ref_ptr)
     go (a ∷ b ∷ c ∷ f ∷ g ∷ words) e = cc
 
-of_three : (P : Names → Type 0) (s t u : Text)
+of_three : (P : WordSlice → Type 0) (s t u : Text)
     → ((place a b c : ℕ × ℕ) → P (list_at place (at a s ∷ at b t ∷ at c u ∷ [])))
-    → (names : Names) → texts_of names ≡ s ∷ t ∷ u ∷ [] → P names
+    → (names : WordSlice) → texts_of names ≡ s ∷ t ∷ u ∷ [] → P names
 of_three P s t u holds names listed = go names.now listed
   where
     go : (words : List (Bor Text)) → map (λ (word : Bor Text). word.now) words ≡ s ∷ t ∷ u ∷ []
@@ -72,13 +72,13 @@ pub wherever : (P : App → Type 0)
     → (app : App) → IsCommandLine app → P app
 wherever P holds app line =
     subst P (sym line.is)
-    (of_four (λ (links : Names). P (with_rules links line.orders)) _ _ _ _
-    (λ l a b c f. of_three (λ (orders : Names). P (with_rules (links_at l a b c f) orders)) _ _ _
+    (of_four (λ (links : WordSlice). P (with_rules links line.orders)) _ _ _ _
+    (λ l a b c f. of_three (λ (orders : WordSlice). P (with_rules (links_at l a b c f) orders)) _ _ _
     (holds l a b c f) line.orders line.orders_listed)
     line.links line.links_listed)
 
 -- what words ask for, and what they are refused as, if clap's rules say so at all places; both are computed
-pub asks : (asked : Asked) (words : List Text)
+pub asks : (asked : AskedOptions) (words : List Text)
     → ((l a b c f o d e g : ℕ × ℕ) → fault_of (with_rules (links_at l a b c f) (orders_at o d e g)) words ≡ [])
     → ((l a b c f o d e g : ℕ × ℕ) → asked_in (with_rules (links_at l a b c f) (orders_at o d e g)) words ≡ asked)
     → AskFor asked words

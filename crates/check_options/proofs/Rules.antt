@@ -7,7 +7,7 @@ use Rattle.clap.specs.declared.builder.action.ArgAction.TheVariants.{Set}
 use Rattle.clap.specs.declared.builder.arg.Arg.{Arg}
 use Rattle.clap.specs.declared.builder.value_parser.ValueParser.{ValueParser}
 use Rattle.clap.specs.declared.builder.value_parser.ValueParser.TheVariants as values
-use Rattle.check_options.specs.Options.{IsLinksRule, IsOrderRule, Names, links_rule, links_words, order_rule, order_words, texts_of, valued_rule}
+use Rattle.check_options.specs.Options.{IsLinksRule, IsOrderRule, WordSlice, links_rule, links_words, order_rule, order_words, texts_of, valued_rule}
 
 -- one value, a name for it, and a text for help
 pub one_value : (new acting named helped : Arg) (id : Text) → rule_of new ≡ new_rule id
@@ -59,10 +59,10 @@ flagged new long acting parsed helped name action parser rule begun named acts p
     parses is
 
 -- the rules of the two options that have one of a list of words, by the list that they have
-pub is_links : (rule made : Rule) (names : Names) → rule ≡ made → made.parser ≡ Some (values.Names names)
+pub is_links : (rule made : Rule) (names : WordSlice) → rule ≡ made → made.parser ≡ Some (values.Names names)
     → texts_of names ≡ links_words → made ≡ links_rule names → IsLinksRule rule
 is_links rule made names is has listed same = record { names = names; listed = listed; is = is ∙ same }
 
-pub is_order : (rule made : Rule) (names : Names) → rule ≡ made → made.parser ≡ Some (values.Names names)
+pub is_order : (rule made : Rule) (names : WordSlice) → rule ≡ made → made.parser ≡ Some (values.Names names)
     → texts_of names ≡ order_words → made ≡ order_rule names → IsOrderRule rule
 is_order rule made names is has listed same = record { names = names; listed = listed; is = is ∙ same }

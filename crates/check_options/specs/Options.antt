@@ -12,15 +12,15 @@ use Rattle.check_sides.specs.declared.links.Links.{Links}
 use Rattle.check_sides.specs.declared.links.Links.TheVariants.{Both, Masters, Ports, Each}
 use Rattle.check_flight.specs.declared.order.Order.{Order}
 use Rattle.check_flight.specs.declared.order.Order.TheVariants.{Accept, Reply, Any}
-use Rattle.check_options.specs.declared.options.Options.{Options}
+use Rattle.check_options.specs.declared.options.CheckOptions.{CheckOptions}
 
 -- ---- the command line
 
 -- a list of words, which lies somewhere in memory
-abbrev pub Names : Type 0
-Names = Bor (List (Bor Text))
+abbrev pub WordSlice : Type 0
+WordSlice = Bor (List (Bor Text))
 
-abbrev pub texts_of : Names → List Text
+abbrev pub texts_of : WordSlice → List Text
 texts_of names = map (λ name. name.now) names.now
 
 -- the words of `--links`, and those of `--order`
@@ -35,7 +35,7 @@ abbrev pub valued_rule : Text → Rule
 valued_rule id = record (new_rule id) { action = Some Set; value_names = 1 }
 
 -- `--links`, one of its words, and `both` if it is not given
-abbrev pub links_rule : Names → Rule
+abbrev pub links_rule : WordSlice → Rule
 links_rule names = record (new_rule (codes "links")) {
   long = Some (codes "links");
   action = Some Set;
@@ -45,7 +45,7 @@ links_rule names = record (new_rule (codes "links")) {
 }
 
 -- `--order`, one of its words, and `accept` if it is not given
-abbrev pub order_rule : Names → Rule
+abbrev pub order_rule : WordSlice → Rule
 order_rule names = record (new_rule (codes "order")) {
   long = Some (codes "order");
   action = Some Set;
@@ -83,7 +83,7 @@ abbrev pub with_flag : App → Text → App
 with_flag app name = with_rule app (flag_rule name)
 
 -- the two options that have one of a list of words; the flags; and the option and the words that name a file
-abbrev pub with_choices : App → Names → Names → App
+abbrev pub with_choices : App → WordSlice → WordSlice → App
 with_choices app links orders = with_rule (with_rule app (links_rule links)) (order_rule orders)
 
 abbrev pub with_flags : App → App
@@ -93,24 +93,24 @@ abbrev pub with_files : App → App
 with_files app = with_rule (with_rule (with_rule app coverage_rule) system_rule) capture_rule
 
 -- these eight, and `--help` and `--version`, which clap adds
-abbrev pub with_rules : Names → Names → App
+abbrev pub with_rules : WordSlice → WordSlice → App
 with_rules links orders = with_files (with_flags (with_choices program links orders))
 
 -- the rule is that of `--links`, or of `--order`, wherever its list of words lies
 pub record IsLinksRule (rule : Rule) : Type 0 where
-  pub names : Names
+  pub names : WordSlice
   pub listed : texts_of names ≡ links_words
   pub is : rule ≡ links_rule names
 
 pub record IsOrderRule (rule : Rule) : Type 0 where
-  pub names : Names
+  pub names : WordSlice
   pub listed : texts_of names ≡ order_words
   pub is : rule ≡ order_rule names
 
 -- the command line, wherever its two lists of words lie
 pub record IsCommandLine (app : App) : Type 0 where
-  pub links : Names
-  pub orders : Names
+  pub links : WordSlice
+  pub orders : WordSlice
   pub links_listed : texts_of links ≡ links_words
   pub orders_listed : texts_of orders ≡ order_words
   pub is : app ≡ with_rules links orders
@@ -118,7 +118,7 @@ pub record IsCommandLine (app : App) : Type 0 where
 -- ---- what the words ask for
 
 -- the options, without where their texts lie
-pub record Asked : Type 0 where
+pub record AskedOptions : Type 0 where
   pub links : Links
   pub order : Order
   pub trace : Bool
@@ -128,8 +128,8 @@ pub record Asked : Type 0 where
   pub system : Text
   pub capture : Option Text
 
-abbrev pub asked_of : Options → Asked
-asked_of options = record {
+abbrev pub options_asked : CheckOptions → AskedOptions
+options_asked options = record {
   links = options.links;
   order = options.order;
   trace = options.trace;
@@ -164,7 +164,7 @@ abbrev pub value_of : List Row → Text → Text
 value_of rows id = unwrap_or (first_of id rows) []
 
 -- the options that matches ask for, and those that words ask for
-abbrev pub asked_from : List Row → Asked
+abbrev pub asked_from : List Row → AskedOptions
 asked_from rows = record {
   links = links_of (value_of rows (codes "links"));
   order = order_of (value_of rows (codes "order"));
@@ -176,23 +176,23 @@ asked_from rows = record {
   capture = file_of (first_of (codes "capture") rows);
 }
 
-abbrev pub asked_in : App → List Text → Asked
+abbrev pub asked_in : App → List Text → AskedOptions
 asked_in app words = asked_from (matches_of app words)
 
 -- the words are taken or refused as the command line says, and if they are taken the options are those that they
 -- ask for
-pub record Answers (words : List Text) (result : Result Options Error) : Type 0 where
+pub record AnswersCommandLine (words : List Text) (result : Result CheckOptions Error) : Type 0 where
   pub app : App
   pub is : IsCommandLine app
   pub faults : FailsBy (fault_of app words) result
-  pub asked : IfOk result (λ options. asked_of options ≡ asked_in app words)
+  pub asked : IfOk result (λ options. options_asked options ≡ asked_in app words)
 
 -- the words are taken, and ask for these options
-abbrev pub Asks : Asked → List Text → App → Type 0
+abbrev pub Asks : AskedOptions → List Text → App → Type 0
 Asks asked words app = (fault_of app words ≡ []) × (asked_in app words ≡ asked)
 
 -- what a line asks for that names SYSTEM alone
-abbrev pub plain : Asked
+abbrev pub plain : AskedOptions
 plain = record {
   links = Both;
   order = Accept;
@@ -204,7 +204,7 @@ plain = record {
   capture = None;
 }
 
-abbrev pub AskFor : Asked → List Text → Type 0
+abbrev pub AskFor : AskedOptions → List Text → Type 0
 AskFor asked words = (app : App) → IsCommandLine app → Asks asked words app
 
 -- the words are refused as this

@@ -1,7 +1,7 @@
 //! The command line of tlcheck: `tlcheck [--links both|masters|ports|each] [--order accept|reply|any] [--trace]
 //! [--complete] [--quiet] [--coverage FILE] SYSTEM [CAPTURE]`.
 //!
-//! [`read_options`] carries the promise: the words are taken or refused just as the command line says, by clap's own
+//! [`read_check_options`] carries the promise: the words are taken or refused just as the command line says, by clap's own
 //! definitions (`IsCommandLine`, `specs/Options.antt`), and if they are taken the answer is what they ask for. The
 //! laws say of lines that the documents name what they ask for, or as what they are refused. What help and refusals
 //! read as is clap's.
@@ -13,4 +13,4 @@
 pub mod laws;
 mod options;
 
-pub use options::{Options, read_options};
+pub use options::{CheckOptions, read_check_options};

@@ -1,7 +1,7 @@
 //! The command line: `tlcheck [--links both|masters|ports|each] [--order accept|reply|any] [--trace] [--complete] [--quiet] [--coverage FILE] SYSTEM [CAPTURE]`.
 ghost use Rattle.std.specs.Prelude.{◌≡◌, IfOk, [], map, false, option_map, unwrap_or};
 ghost use Rattle.clap.specs.Words.{app_of, first_value, found_of, rule_of};
-ghost use Rattle.check_options.specs.Options.{Answers, IsCommandLine, IsLinksRule, IsOrderRule, capture_rule, coverage_rule, file_of, flag_of, flag_rule, links_of, order_of, program, system_rule, valued_rule, with_files, with_flags};
+ghost use Rattle.check_options.specs.Options.{AnswersCommandLine, IsCommandLine, IsLinksRule, IsOrderRule, capture_rule, coverage_rule, file_of, flag_of, flag_rule, links_of, order_of, program, system_rule, valued_rule, with_files, with_flags};
 
 use check_flight::Order;
 use check_sides::Links;
@@ -28,7 +28,7 @@ const QUIET_HELP: &str = "Show no progress; it is shown only on a terminal";
 
 /// What the command line asks for.
 #[derive(Clone, Copy, Debug, PartialEq, Eq)]
-pub struct Options<'a> {
+pub struct CheckOptions<'a> {
     /// The links that were watched.
     pub links: Links,
     /// When a request takes effect at its port.
@@ -51,12 +51,15 @@ pub struct Options<'a> {
 ///
 /// Errors: help or the version that was asked for, an unknown option, a value that an option does not have or lacks, an
 /// option that is given twice, no SYSTEM, or a stray word; each is clap's own text.
-pub fn read_options<'a>(alloc: Global, words: &'a [&'a str]) -> Result<Options<'a>, Error>
+pub fn read_check_options<'a>(
+    alloc: Global,
+    words: &'a [&'a str],
+) -> Result<CheckOptions<'a>, Error>
     // The words are taken or refused as the command line says; the options are those that they ask for.
-    ensures answer { Answers (map (λ word. word.now) words.now) result }
+    ensures answer { AnswersCommandLine (map (λ word. word.now) words.now) result }
 {
     let matches = command(alloc)?.try_get_matches_from(words)?;
-    Ok(Options {
+    Ok(CheckOptions {
         links: read_links(value(&matches, "links")),
         order: read_order(value(&matches, "order")),
         trace: read_flag(value(&matches, "trace")),

@@ -5,15 +5,15 @@ use Rattle.std.specs.Prelude.{◌≢◌}
 use Rattle.std.proofs.lemmas.Bool.{cases_eq}
 use Rattle.tl_types.specs.Request.{Request}
 use Rattle.check_cells.specs.Pattern.{Pattern}
-use Rattle.check_contests.specs.Moments.{Moment as SlaveMoment, Course, Truth, IsWaiting, IsServed, MayAllCome, course_with, truth_accepting, truth_answering, truth_serving, truth_taking}
-use Rattle.check_contests.specs.Moments.Moment.{Accepts as SlaveAccepts, TakesEffect, Answers as SlaveAnswers}
+use Rattle.check_contests.specs.Moments.{SlaveMoment, Course, Truth, IsWaiting, IsServedCourse, MayAllCome, course_with, truth_accepting, truth_answering, truth_serving, truth_taking}
+use Rattle.check_contests.specs.Moments.SlaveMoment.{Accepts as SlaveAccepts, TakesEffect, Answers as SlaveAnswers}
 use Rattle.check_contests.specs.Moments.Course.{Idle, Waiting, Served}
 use Rattle.check_contests.proofs.Courses.{course-here, course-there}
 use Rattle.check_memory.specs.Slave.{slave_after, expected_of}
 use Rattle.check_flight.specs.declared.order.Order.TheVariants.{Accept}
 use Rattle.check_flight.specs.PortSlave.{PortSlave, accepted_by, answered_by, due_accepted_by, due_answered_by, served_by}
 use Rattle.check_watch_laws.specs.Memories.{entries_of}
-use Rattle.check_watch_laws.specs.Moments.{Act, Moment, dues_of, entry_due, slave_then}
+use Rattle.check_watch_laws.specs.Moments.{Act, RequestMoment, dues_of, entry_due, slave_then}
 use Rattle.check_watch_laws.specs.Moments.Act.{Accepts, Answers}
 use Rattle.check_watch_laws.specs.Whenever.{answer_given, given_in, seen_answer, seen_in}
 use Rattle.check_watch_laws.proofs.Told.{dues_none, dues_cons}
@@ -30,7 +30,7 @@ pub record GivesBut (wide : ℕ) (course : Course) (dues given : List (Request �
   pub some : (ask : Request) → left ≡ Some ask → length rest ≡ 1
 
 -- these moments of the slave may come, they show the port's, and give what is due
-pub record GivesAll (port : ℕ) (held : ℕ → Option Request) (slave : PortSlave) (truth : Truth) (seen : List Moment)
+pub record GivesAll (port : ℕ) (held : ℕ → Option Request) (slave : PortSlave) (truth : Truth) (seen : List RequestMoment)
     (all : List SlaveMoment) : Type 0 where
   pub may : MayAllCome truth all
   pub shows : seen_in truth all ≡ seen
@@ -42,12 +42,12 @@ one_given : (wide : ℕ) (held : Option Request) (course : Course) (ask : Reques
 one_given wide held course ask has left = ap (λ c. length (answer_given wide c)) (served_at held course ask has left).1
 
 module _ (port : ℕ) (held : ℕ → Option Request) (slave : PortSlave) (truth : Truth) (order : slave.order ≡ Accept)
-    (same : truth.slave ≡ slave.kept) (wide : ℕ) (ask : Request) (moments : List Moment)
+    (same : truth.slave ≡ slave.kept) (wide : ℕ) (ask : Request) (moments : List RequestMoment)
     (later : List SlaveMoment) where
-  abbrev accepted : Moment
+  abbrev accepted : RequestMoment
   accepted = record { act = Accepts; wide = wide; ask = ask }
 
-  abbrev answered : Moment
+  abbrev answered : RequestMoment
   answered = record { act = Answers; wide = wide; ask = ask }
 
   abbrev expected : Pattern
@@ -127,7 +127,7 @@ module _ (port : ℕ) (held : ℕ → Option Request) (slave : PortSlave) (truth
       → GivesAll port (open_then held answered) slave (truth_answering truth wide) moments later
       → GivesAll port held slave truth (answered ∷ moments) (SlaveAnswers wide ∷ later)
   answers reply served rest = record {
-    may = (subst (λ c. IsServed c) (sym served) tt, rest.may);
+    may = (subst (λ c. IsServedCourse c) (sym served) tt, rest.may);
     shows = ap (λ c. seen_answer wide c ++ seen_in after later) served ∙ ap (λ l. answered ∷ l) rest.shows;
     gives = λ other.
         let was = rest.gives other in
@@ -176,13 +176,13 @@ module _ (port : ℕ) (held : ℕ → Option Request) (slave : PortSlave) (truth
           (cases_eq other wide)
 
 -- so it is of all moments that come in turn
-abbrev AllGiven : ℕ → List Moment → Type 0
+abbrev AllGiven : ℕ → List RequestMoment → Type 0
 AllGiven port moments =
     (held : ℕ → Option Request) (slave : PortSlave) (truth : Truth) → slave.order ≡ Accept → truth.slave ≡ slave.kept
     → HaveCourses Accept held truth.course → AreInTurn held moments → AreCarried moments
     → GivesAll port held slave truth moments (with_effects Accept moments)
 
-step : (port : ℕ) (moment : Moment) (moments : List Moment) → AllGiven port moments → AllGiven port (moment ∷ moments)
+step : (port : ℕ) (moment : RequestMoment) (moments : List RequestMoment) → AllGiven port moments → AllGiven port (moment ∷ moments)
 step port moment moments rest held slave truth order same courses turns carried =
     go moment.act turns.0 turns.1 carried.0
   where
@@ -196,7 +196,7 @@ step port moment moments rest held slave truth order same courses turns carried 
         → CarriedBy act ask → GivesAll port held slave truth (record moment { act = act } ∷ moments)
         (with_effects Accept (record moment { act = act } ∷ moments))
     go Accepts turn later bytes =
-        let here : Moment = record moment { act = Accepts } in
+        let here : RequestMoment = record moment { act = Accepts } in
         let reply = expected_of truth.slave ask in
         accepts port held slave truth order same wide ask moments (with_effects Accept moments)
         (idle_at Accept (held wide) (truth.course wide) (courses wide) turn) bytes
@@ -208,7 +208,7 @@ step port moment moments rest held slave truth order same courses turns carried 
         (subst (λ o. HasCourse Accept o (Served ask reply)) (sym (open_here held here wide refl)) (reply, refl))))
         later carried.1)
     go Answers turn later bytes =
-        let here : Moment = record moment { act = Answers } in
+        let here : RequestMoment = record moment { act = Answers } in
         let served = served_at (held wide) (truth.course wide) ask (courses wide) turn in
         answers port held slave truth order same wide ask moments (with_effects Accept moments)
         served.0 served.1
@@ -216,7 +216,7 @@ step port moment moments rest held slave truth order same courses turns carried 
         (courses_then Accept held truth.course here Idle courses
         (subst (λ o. HasCourse Accept o Idle) (sym (open_here held here wide refl)) refl)) later carried.1)
 
-pub all_given : (port : ℕ) (moments : List Moment) → AllGiven port moments
+pub all_given : (port : ℕ) (moments : List RequestMoment) → AllGiven port moments
 all_given port [] held slave truth order same courses turns carried = record {
   may = tt;
   shows = refl;

@@ -24,7 +24,7 @@ use Rattle.check_contests.specs.Laws.{AreUncontested, IsAsServed, IsBeside}
 use Rattle.check_contests.proofs.Courses.{none_kept}
 use Rattle.check_contests.proofs.Kept.{kept-other, kept-new, apart-new, answering-other, answering-same, apart-answering}
 use Rattle.check_contests.proofs.Uncontested.{uncontested_is_as_served, device_is_as_served}
-use Rattle.check_watch_laws.specs.Moments.{Moment}
+use Rattle.check_watch_laws.specs.Moments.{RequestMoment}
 use Rattle.check_watch_laws.specs.Moments.Act.{Accepts, Answers}
 use Rattle.check_order_laws.proofs.InTurn.{open_then, open_here, open_there}
 
@@ -125,7 +125,7 @@ module _ (held : ℕ → Option Request) (kept : List Accepted) (are : AreKept h
   abbrev new : Accepted
   new = record { wide = wide; ask = ask; due = expected_of slave ask; index = index }
 
-  abbrev accepted : Moment
+  abbrev accepted : RequestMoment
   accepted = record { act = Accepts; wide = wide; ask = ask }
 
   pub kept_here : kept_of (kept ++ new ∷ []) wide ≡ Some new
@@ -156,7 +156,7 @@ module _ (held : ℕ → Option Request) (kept : List Accepted) (are : AreKept h
 pub kept_less : (held : ℕ → Option Request) (kept : List Accepted) (wide : ℕ) (ask : Request) → AreKept held kept
     → AreKept (open_then held (record { act = Answers; wide = wide; ask = ask })) (kept_answering kept wide)
 kept_less held kept wide ask are =
-    let answered : Moment = record { act = Answers; wide = wide; ask = ask } in
+    let answered : RequestMoment = record { act = Answers; wide = wide; ask = ask } in
     record {
       apart = apart-answering kept wide are.apart;
       asks = λ other. ⊎_elim

@@ -12,9 +12,9 @@ use Rattle.check_flight.specs.PortSlave.{answer_of, due_accepted_by, due_accepti
 use Rattle.check_watch.specs.declared.beat.Beat.{Beat}
 use Rattle.check_watch.specs.declared.beat.Beat.TheVariants.{A, D}
 use Rattle.check_watch.specs.declared.beat.Link.{Link}
-use Rattle.check_watch.specs.Lawful.{IsLawful}
-use Rattle.check_watch.specs.Past.{State, found_in, scene_of, state, state_after}
-use Rattle.check_watch.specs.Plan.{Plan, Sighting, Side, side_of, number_of, wide_of, same_side, is_of, HasLink, IsWatched}
+use Rattle.check_watch.specs.Lawful.{IsLawfulGroup}
+use Rattle.check_watch.specs.Past.{State, scene_found, scene_of, state, state_after}
+use Rattle.check_watch.specs.Plan.{GroupPlan, Sighting, LinkSide, side_of, link_number, wide_of, same_side, is_of, HasGroupLink, IsGroupLink}
 use Rattle.check_watch.specs.Scene.{ask_by, ask_if, turn_by, takes_effect, answered, flight_after}
 use Rattle.check_watch.proofs.InFlight.{ask_at, reply_at, of_is}
 use Rattle.check_watch_laws.specs.Crossed.{AreWatched}
@@ -23,27 +23,27 @@ use Rattle.check_watch_laws.proofs.Done.{are_replayed, ended_goes, orders, port_
 use Rattle.check_watch_laws.proofs.Taking.{takes}
 use Rattle.check_watch_laws.proofs.Turns.{link_on, own_link, same_side-refl}
 
-abbrev pub IsDueSoon : Plan → Side → Turn → Option Answer → Type 0
+abbrev pub IsDueSoon : GroupPlan → LinkSide → Turn → Option Answer → Type 0
 IsDueSoon plan side Idle due = Unit {0}
 IsDueSoon plan side (Asking n) due = Unit {0}
 IsDueSoon plan side (Asked n ask) due =
     side ≡ side_for plan.layout (port_for plan (link_on side n) ask)
     → order_at plan (port_for plan (link_on side n) ask) ≡ Accept → (answer : Answer) × (due ≡ Some answer)
 
-abbrev pub AreDueSoon : Plan → State → Type 0
+abbrev pub AreDueSoon : GroupPlan → State → Type 0
 AreDueSoon plan s =
-    (side : Side) (wide : ℕ) → IsDueSoon plan side (s.flights side wide).turn (s.flights side wide).due
+    (side : LinkSide) (wide : ℕ) → IsDueSoon plan side (s.flights side wide).turn (s.flights side wide).due
 
-stays : (plan : Plan) (side : Side) (turn : Turn) (due late : Option Answer) → IsDueSoon plan side turn due
+stays : (plan : GroupPlan) (side : LinkSide) (turn : Turn) (due late : Option Answer) → IsDueSoon plan side turn due
     → IsDueSoon plan side turn (due_by due late)
 stays plan side Idle due late was = tt
 stays plan side (Asking n) due late was = tt
 stays plan side (Asked n ask) due None was = was
 stays plan side (Asked n ask) due (Some answer) was = λ here accept. (answer, refl)
 
-module _ (plan : Plan) (s : State) (same_order : (port : ℕ) → order_at plan port ≡ (s.slaves port).order)
+module _ (plan : GroupPlan) (s : State) (same_order : (port : ℕ) → order_at plan port ≡ (s.slaves port).order)
     (dues : AreDueSoon plan s) (link : Link) (known : ℕ) (lanes : List ℕ)
-    (has : HasLink plan.layout link) (watched : IsWatched plan.layout.links link) where
+    (has : HasGroupLink plan.layout link) (watched : IsGroupLink plan.layout.links link) where
   pub ask_due_soon : (beat : AskHead) → AreDueSoon plan (state_after plan s (ask_at link known lanes beat))
   ask_due_soon beat side wide = go (is_of plan (ask_at link known lanes beat) side wide) refl
     where
@@ -51,22 +51,22 @@ module _ (plan : Plan) (s : State) (same_order : (port : ℕ) → order_at plan 
       turn = (s.flights (side_of link) (wide_of plan link beat.source)).turn
 
       found : ℕ
-      found = (found_in plan s link (A beat)).port
+      found = (scene_found plan s link (A beat)).port
 
       ended : Option Request
-      ended = ask_by (s.links (side_of link) (number_of link)) beat lanes
+      ended = ask_by (s.links (side_of link) (link_number link)) beat lanes
 
       seen : Bool
       seen = takes_effect plan.layout link found
 
       own : (o : Option Request) → ended ≡ o
-          → IsDueSoon plan (side_of link) (turn_by (number_of link) o)
+          → IsDueSoon plan (side_of link) (turn_by (link_number link) o)
           (due_accepting found (s.slaves found) (ask_if seen o))
       own None so = tt
       own (Some ask) so = λ here accept.
-          let goes : port_for plan (link_on (side_of link) (number_of link)) ask ≡ found =
+          let goes : port_for plan (link_on (side_of link) (link_number link)) ask ≡ found =
           ap (λ l. port_for plan l ask) (own_link link)
-          ∙ ended_goes plan link turn (s.links (side_of link) (number_of link)) lanes beat ask so in
+          ∙ ended_goes plan link turn (s.links (side_of link) (link_number link)) lanes beat ask so in
           let taken : seen ≡ true =
           takes plan.layout link found has watched (port_own plan link turn (A beat))
           ∙ ap (λ p. same_side (side_of link) (side_for plan.layout p)) (sym goes)
@@ -86,7 +86,7 @@ module _ (plan : Plan) (s : State) (same_order : (port : ℕ) → order_at plan 
           else s.flights side wide).due
       go false is = dues side wide
       go true is =
-          subst (λ sd. IsDueSoon plan sd (turn_by (number_of link) ended)
+          subst (λ sd. IsDueSoon plan sd (turn_by (link_number link) ended)
           (due_accepting found (s.slaves found) (ask_if seen ended)))
           (of_is plan (ask_at link known lanes beat) side wide is).0 (own ended refl)
 
@@ -94,7 +94,7 @@ module _ (plan : Plan) (s : State) (same_order : (port : ℕ) → order_at plan 
   reply_due_soon beat side wide = go (is_of plan (reply_at link known lanes beat) side wide) refl
     where
       under : Under
-      under = s.links (side_of link) (number_of link)
+      under = s.links (side_of link) (link_number link)
 
       by_end : (ends : Bool)
           → IsDueSoon plan (side_of link)
@@ -103,7 +103,7 @@ module _ (plan : Plan) (s : State) (same_order : (port : ℕ) → order_at plan 
       by_end true = tt
       by_end false =
           let was = s.flights (side_of link) (wide_of plan link beat.source) in
-          let found = found_in plan s link (D beat) in
+          let found = scene_found plan s link (D beat) in
           stays plan (side_of link) was.turn was.due
           (due_answering found.port found.slave found.wide
           (answered plan.layout link found.port found.under.replying found.flight.turn))
@@ -123,7 +123,7 @@ module _ (plan : Plan) (s : State) (same_order : (port : ℕ) → order_at plan 
           (of_is plan (reply_at link known lanes beat) side wide is).0
           (by_end (ends_reply under.bus under.replying beat))
 
-pub are_due_soon : (plan : Plan) (past : List Sighting) → AreWatched plan.layout past → IsLawful plan past
+pub are_due_soon : (plan : GroupPlan) (past : List Sighting) → AreWatched plan.layout past → IsLawfulGroup plan past
     → AreDueSoon plan (state plan past)
 are_due_soon plan [] watched lawful = λ side wide. tt
 are_due_soon plan (x ∷ past) watched lawful = go (are_due_soon plan past watched.1 lawful.0) x.beat

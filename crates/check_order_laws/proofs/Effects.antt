@@ -5,17 +5,17 @@ use Rattle.std.specs.Prelude.{◌==◌, ◌≢◌}
 use Rattle.std.proofs.lemmas.Bool.{cases_eq, eq-eqb, ne_eqb}
 use Rattle.tl_types.specs.Request.{Request}
 use Rattle.check_cells.specs.Pattern.{Pattern}
-use Rattle.check_contests.specs.Moments.{Moment as SlaveMoment, Course, AreBytes, IsCarried, course_with}
-use Rattle.check_contests.specs.Moments.Moment.{Accepts as SlaveAccepts, TakesEffect, Answers as SlaveAnswers}
+use Rattle.check_contests.specs.Moments.{SlaveMoment, Course, AreBytes, IsCarried, course_with}
+use Rattle.check_contests.specs.Moments.SlaveMoment.{Accepts as SlaveAccepts, TakesEffect, Answers as SlaveAnswers}
 use Rattle.check_contests.specs.Moments.Course.{Idle, Waiting, Served}
 use Rattle.check_contests.proofs.Courses.{course-here, course-there}
-use Rattle.check_memory.specs.Laws.{IsLawful as IsLawfulAsk}
+use Rattle.check_memory.specs.Laws.{IsLawfulAsk}
 use Rattle.check_memory.specs.declared.slave.Slave.{Slave}
 use Rattle.check_memory.specs.declared.slave.Slave.TheVariants.{Memory, Device}
 use Rattle.check_flight.specs.declared.order.Order.{Order}
 use Rattle.check_flight.specs.declared.order.Order.TheVariants.{Accept, Reply, Any}
 use Rattle.check_watch_laws.specs.Memories.{entries_of}
-use Rattle.check_watch_laws.specs.Moments.{Act, Moment}
+use Rattle.check_watch_laws.specs.Moments.{Act, RequestMoment}
 use Rattle.check_watch_laws.specs.Moments.Act.{Accepts, Answers}
 use Rattle.check_order_laws.proofs.InTurn.{open_then, open_there}
 
@@ -28,7 +28,7 @@ with_effect Reply Accepts wide ask = SlaveAccepts wide ask ∷ []
 with_effect Reply Answers wide ask = TakesEffect wide ∷ SlaveAnswers wide ∷ []
 with_effect Any act wide ask = []
 
-abbrev pub with_effects : Order → List Moment → List SlaveMoment
+abbrev pub with_effects : Order → List RequestMoment → List SlaveMoment
 with_effects order [] = []
 with_effects order (moment ∷ moments) =
     with_effect order moment.act moment.wide moment.ask ++ with_effects order moments
@@ -43,7 +43,7 @@ abbrev pub CarriedBy : Act → Request → Type 0
 CarriedBy Accepts ask = IsCarriedAsk ask
 CarriedBy Answers ask = Unit {0}
 
-abbrev pub AreCarried : List Moment → Type 0
+abbrev pub AreCarried : List RequestMoment → Type 0
 AreCarried [] = Unit {0}
 AreCarried (moment ∷ moments) = CarriedBy moment.act moment.ask × AreCarried moments
 
@@ -80,7 +80,7 @@ waiting_at None course ask has is = cc
 waiting_at (Some first) course ask has is = let same : first ≡ ask = cc in has ∙ ap (λ r. Waiting r) same
 
 -- one of them is another one then, and what is open is that
-pub courses_then : (order : Order) (held : ℕ → Option Request) (course : ℕ → Course) (moment : Moment) (next : Course)
+pub courses_then : (order : Order) (held : ℕ → Option Request) (course : ℕ → Course) (moment : RequestMoment) (next : Course)
     → HaveCourses order held course
     → HasCourse order (open_then held moment moment.wide) next
     → HaveCourses order (open_then held moment) (course_with course moment.wide next)

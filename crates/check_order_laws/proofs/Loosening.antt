@@ -3,7 +3,7 @@ use Rattle.std.proofs.Common.{◌≡◌, ◌∙◌, inl, inr, ℕ, List, [], ◌
 use Rattle.tl_types.specs.Request.{Request}
 use Rattle.check_cells.specs.Pattern.{Pattern}
 use Rattle.check_contests.specs.Laws.{IsBelowAtReset}
-use Rattle.check_contests.specs.Moments.{Moment as SlaveMoment}
+use Rattle.check_contests.specs.Moments.{SlaveMoment}
 use Rattle.check_memory.specs.declared.slave.Slave.{Slave}
 use Rattle.check_flight.specs.declared.order.Order.{Order}
 use Rattle.check_flight.specs.declared.order.Order.TheVariants.{Accept, Reply, Any}
@@ -11,8 +11,8 @@ use Rattle.check_flight.specs.PortSlave.{PortSlave, may_be_unknown}
 use Rattle.check_watch.specs.declared.beat.Beat.{Beat}
 use Rattle.check_watch.specs.declared.beat.Beat.TheVariants.{A, D}
 use Rattle.check_watch.specs.Allowed.{HasKnownLanes}
-use Rattle.check_watch.specs.Lawful.{IsLawful}
-use Rattle.check_watch.specs.Plan.{Plan, IsPlan, Layout, Sighting, bus_of}
+use Rattle.check_watch.specs.Lawful.{IsLawfulGroup}
+use Rattle.check_watch.specs.Plan.{GroupPlan, IsGroupPlan, GroupLayout, Sighting, bus_in_group}
 use Rattle.check_watch.proofs.Earlier.{earlier_is_lawful}
 use Rattle.check_watch_laws.specs.Crossed.{AreWatched}
 use Rattle.check_watch_laws.specs.Memories.{order_at, port_for, reset_of}
@@ -32,7 +32,7 @@ use Rattle.check_order_laws.proofs.Whenever.{accept_done, reply_done}
 
 -- ---- what is seen
 
-pub earlier_watched : (layout : Layout) (later earlier : List Sighting) → AreWatched layout (later ++ earlier)
+pub earlier_watched : (layout : GroupLayout) (later earlier : List Sighting) → AreWatched layout (later ++ earlier)
     → AreWatched layout earlier
 earlier_watched layout [] earlier are = are
 earlier_watched layout (x ∷ later) earlier are = earlier_watched layout later earlier are.1
@@ -45,11 +45,11 @@ pub same_lanes : (loose strict : PortSlave) → IsSameOrAny loose strict → may
 same_lanes loose strict (inl is) = ap (λ (s : PortSlave). may_be_unknown s) is
 same_lanes loose strict (inr is) = ap (λ (s : PortSlave). may_be_unknown s) is
 
-module _ (plan : Plan) (before after : List PortSlave) where
-  abbrev one : Plan
+module _ (plan : GroupPlan) (before after : List PortSlave) where
+  abbrev one : GroupPlan
   one = record plan { resets = before }
 
-  abbrev other : Plan
+  abbrev other : GroupPlan
   other = record plan { resets = after }
 
   pub same_seen : ((port : ℕ) → may_be_unknown (reset_of one port) ≡ may_be_unknown (reset_of other port))
@@ -61,7 +61,7 @@ module _ (plan : Plan) (before after : List PortSlave) where
           → IsSeenWhole other past (record x { beat = beat }) beat
       go (A beat) was = was
       go (D beat) was = λ ask next.
-          subst (λ b. HasKnownLanes (bus_of plan.layout x.link) b ask beat x.known) (lanes (port_for plan x.link ask))
+          subst (λ b. HasKnownLanes (bus_in_group plan.layout x.link) b ask beat x.known) (lanes (port_for plan x.link ask))
           (was ask next)
 
   -- what is due at a port whose slave is the same
@@ -87,7 +87,7 @@ module _ (plan : Plan) (before after : List PortSlave) where
   }
 
   -- the rules, by what is due at each port
-  pub rules_by_dues : (past : List Sighting) → IsPlan one → AreWatched plan.layout past → IsLawful one past
+  pub rules_by_dues : (past : List Sighting) → IsGroupPlan one → AreWatched plan.layout past → IsLawfulGroup one past
       → ((port : ℕ) → (history : List (Request × Pattern)) × IsDueAt other past port history)
       → KeepsRules other past
   rules_by_dues past is watched lawful dues = record {
@@ -102,7 +102,7 @@ module _ (plan : Plan) (before after : List PortSlave) where
   module _ (looser : (port : ℕ) → IsSameOrAny (reset_of other port) (reset_of one port)) (fresh : AreFresh one)
       (sound : AreSoundSlaves one) where
     -- nobody knows the order of a port where it was known
-    any_due : (past : List Sighting) → AreWatched plan.layout past → HaveByteLanes past → IsLawful one past
+    any_due : (past : List Sighting) → AreWatched plan.layout past → HaveByteLanes past → IsLawfulGroup one past
         → (port : ℕ) → reset_of other port ≡ record (reset_of one port) { order = Any }
         → (history : List (Request × Pattern)) × IsDueAt other past port history
     any_due past watched bytes lawful port is = go (order_at one port) refl
@@ -127,14 +127,14 @@ module _ (plan : Plan) (before after : List PortSlave) where
             same_due past port (is ∙ ap (λ o. record (reset_of one port) { order = o }) (sym order))
             (due_at one past watched lawful port)
 
-    looser_due : (past : List Sighting) → AreWatched plan.layout past → HaveByteLanes past → IsLawful one past
+    looser_due : (past : List Sighting) → AreWatched plan.layout past → HaveByteLanes past → IsLawfulGroup one past
         → (port : ℕ) → IsSameOrAny (reset_of other port) (reset_of one port)
         → (history : List (Request × Pattern)) × IsDueAt other past port history
     looser_due past watched bytes lawful port (inl is) = same_due past port is (due_at one past watched lawful port)
     looser_due past watched bytes lawful port (inr is) = any_due past watched bytes lawful port is
 
-    pub loosened : (past : List Sighting) → IsPlan one → AreWatched plan.layout past → HaveByteLanes past
-        → IsLawful one past → IsLawful other past
+    pub loosened : (past : List Sighting) → IsGroupPlan one → AreWatched plan.layout past → HaveByteLanes past
+        → IsLawfulGroup one past → IsLawfulGroup other past
     loosened past is watched bytes lawful =
         rules_make_lawful other past (same_plan plan before after is) watched
         (same_seen (λ port. sym (same_lanes (reset_of other port) (reset_of one port) (looser port))) past
@@ -143,13 +143,13 @@ module _ (plan : Plan) (before after : List PortSlave) where
         let watched' = earlier_watched plan.layout later earlier
         (subst (λ l. AreWatched plan.layout l) (sym so) watched) in
         let bytes' = earlier_bytes later earlier (subst (λ l. HaveByteLanes l) (sym so) bytes) in
-        let lawful' = earlier_is_lawful one later earlier (subst (λ l. IsLawful one l) (sym so) lawful) in
+        let lawful' = earlier_is_lawful one later earlier (subst (λ l. IsLawfulGroup one l) (sym so) lawful) in
         rules_by_dues earlier is watched' lawful' (λ port.
         looser_due earlier watched' bytes' lawful' port (looser port)))
 
-pub any_is_looser : (loose strict : Plan) (past : List Sighting) → IsLooser loose strict → IsPlan strict → AreFresh strict
-    → AreSoundSlaves strict → AreWatched strict.layout past → HaveByteLanes past → IsLawful strict past
-    → IsLawful loose past
+pub any_is_looser : (loose strict : GroupPlan) (past : List Sighting) → IsLooser loose strict → IsGroupPlan strict → AreFresh strict
+    → AreSoundSlaves strict → AreWatched strict.layout past → HaveByteLanes past → IsLawfulGroup strict past
+    → IsLawfulGroup loose past
 any_is_looser loose strict past looser is fresh sound watched bytes lawful =
-    subst (λ p. IsLawful p past) (sym looser.same)
+    subst (λ p. IsLawfulGroup p past) (sym looser.same)
     (loosened strict strict.resets loose.resets looser.slaves fresh sound past is watched bytes lawful)

@@ -10,13 +10,13 @@ use Rattle.check_watch.specs.declared.beat.Beat.TheVariants.{A}
 use Rattle.check_watch.specs.declared.beat.Link.{Link}
 use Rattle.check_watch.specs.declared.beat.Link.TheVariants.{Port}
 use Rattle.check_watch.specs.Allowed.{OfAsked, IsAllowedAsk}
-use Rattle.check_watch.specs.Past.{State, found_in, scene_of, state_after}
-use Rattle.check_watch.specs.Plan.{Plan, Sighting, Side, side_of, number_of, wide_of, is_link, is_of, HasLink, IsWatched}
+use Rattle.check_watch.specs.Past.{State, scene_found, scene_of, state_after}
+use Rattle.check_watch.specs.Plan.{GroupPlan, Sighting, LinkSide, side_of, link_number, wide_of, is_link, is_of, HasGroupLink, IsGroupLink}
 use Rattle.check_watch.specs.Scene.{ask_by, ask_if, turn_by, takes_effect, flight_after, under_after}
 use Rattle.check_watch.proofs.InFlight.{ask_at, of_is}
 use Rattle.check_watch_laws.specs.Memories.{side_for, port_for}
-use Rattle.check_watch_laws.specs.Messages.{Answers as AnswersTo}
-use Rattle.check_watch_laws.specs.Moments.{Moment, moments, moments_with}
+use Rattle.check_watch_laws.specs.Messages.{IsReplyBeatTo as AnswersTo}
+use Rattle.check_watch_laws.specs.Moments.{RequestMoment, moments, moments_with}
 use Rattle.check_watch_laws.specs.Moments.Act.{Accepts}
 use Rattle.check_watch_laws.proofs.Done.{accepts_now, ask_does, ended_goes, port_own}
 use Rattle.check_watch_laws.proofs.Links.{LinksAre, same_link}
@@ -26,9 +26,9 @@ use Rattle.check_watch_laws.proofs.UnderWay.{RepliesAnswer}
 use Rattle.check_order_laws.proofs.InTurn.{open_after, open_more, none_open, open_here, AreInTurn}
 use Rattle.check_order_laws.proofs.Openings.{unseen_by, AreOpen, open_if, open_ask, open_in, replies_to, asked_only, seen_there, side_there, taken_there, other_open}
 
-module _ (plan : Plan) (s : State) (past : List Sighting) (linked : LinksAre plan s past) (busy : AsksFly plan s)
+module _ (plan : GroupPlan) (s : State) (past : List Sighting) (linked : LinksAre plan s past) (busy : AsksFly plan s)
     (replies : RepliesAnswer plan s) (opens : AreOpen plan s past) (link : Link) (known : ℕ) (lanes : List ℕ)
-    (has : HasLink plan.layout link) (watched : IsWatched plan.layout.links link) (beat : AskHead)
+    (has : HasGroupLink plan.layout link) (watched : IsGroupLink plan.layout.links link) (beat : AskHead)
     (allowed : IsAllowedAsk plan.layout link (scene_of plan s link (A beat)) beat known lanes) where
   abbrev own : ℕ
   own = wide_of plan link beat.source
@@ -37,10 +37,10 @@ module _ (plan : Plan) (s : State) (past : List Sighting) (linked : LinksAre pla
   turn = (s.flights (side_of link) own).turn
 
   abbrev under : Under
-  under = s.links (side_of link) (number_of link)
+  under = s.links (side_of link) (link_number link)
 
   abbrev found : ℕ
-  found = (found_in plan s link (A beat)).port
+  found = (scene_found plan s link (A beat)).port
 
   abbrev ended : Option Request
   ended = ask_by under beat lanes
@@ -51,7 +51,7 @@ module _ (plan : Plan) (s : State) (past : List Sighting) (linked : LinksAre pla
   abbrev after : State
   after = state_after plan s (ask_at link known lanes beat)
 
-  abbrev more : ℕ → List Moment
+  abbrev more : ℕ → List RequestMoment
   more port = if found == port then moment_if Accepts own done else []
 
   abbrev before : ℕ → ℕ → Option Request
@@ -64,18 +64,18 @@ module _ (plan : Plan) (s : State) (past : List Sighting) (linked : LinksAre pla
   at_port = port_own plan link turn (A beat)
 
   -- no reply begins or goes on with it
-  replying_stays : (at : Link) → (after.links (side_of at) (number_of at)).replying
-      ≡ (s.links (side_of at) (number_of at)).replying
-  replying_stays at = go (is_link link (side_of at) (number_of at)) refl
+  replying_stays : (at : Link) → (after.links (side_of at) (link_number at)).replying
+      ≡ (s.links (side_of at) (link_number at)).replying
+  replying_stays at = go (is_link link (side_of at) (link_number at)) refl
     where
-      go : (here : Bool) → is_link link (side_of at) (number_of at) ≡ here
+      go : (here : Bool) → is_link link (side_of at) (link_number at) ≡ here
           → (if here then under_after under (A beat) known lanes
-          else s.links (side_of at) (number_of at)).replying
-          ≡ (s.links (side_of at) (number_of at)).replying
-      go true is = ap (λ (l : Link). (s.links (side_of l) (number_of l)).replying) (same_link link at is)
+          else s.links (side_of at) (link_number at)).replying
+          ≡ (s.links (side_of at) (link_number at)).replying
+      go true is = ap (λ (l : Link). (s.links (side_of l) (link_number l)).replying) (same_link link at is)
       go false is = refl
 
-  free : (turn ≡ Idle) ⊎ (turn ≡ Asking (number_of link))
+  free : (turn ≡ Idle) ⊎ (turn ≡ Asking (link_number link))
   free = open_before plan s busy link known lanes beat allowed
 
   none_before : (port : ℕ) → side_of link ≡ side_for plan.layout port → before port own ≡ None
@@ -83,7 +83,7 @@ module _ (plan : Plan) (s : State) (past : List Sighting) (linked : LinksAre pla
       opens port own
       ∙ ap (λ sd. open_in plan s port own sd (s.flights sd own).turn) (sym side)
       ∙ ⊎_elim (λ (is : turn ≡ Idle). ap (λ t. open_in plan s port own (side_of link) t) is)
-      (λ (is : turn ≡ Asking (number_of link)). ap (λ t. open_in plan s port own (side_of link) t) is) free
+      (λ (is : turn ≡ Asking (link_number link)). ap (λ t. open_in plan s port own (side_of link) t) is) free
 
   no_reply : replies_to plan link own under.replying ≡ false
   no_reply = go under.replying refl
@@ -93,9 +93,9 @@ module _ (plan : Plan) (s : State) (past : List Sighting) (linked : LinksAre pla
       go (Some b) is = by (wide_of plan link b.first.source == own) refl
         where
           by : (same : Bool) → (wide_of plan link b.first.source == own) ≡ same → same ≡ false
-          by true same = absurd (asked_only (number_of link) (number_of link) turn
+          by true same = absurd (asked_only (link_number link) (link_number link) turn
               (λ ask. AnswersTo ask b.first)
-              (subst (λ w. OfAsked (number_of link) (s.flights (side_of link) w).turn
+              (subst (λ w. OfAsked (link_number link) (s.flights (side_of link) w).turn
               (λ ask. AnswersTo ask b.first)) (eqb-true (wide_of plan link b.first.source) own same)
               (replies link b is)) free)
           by false same = refl
@@ -104,7 +104,7 @@ module _ (plan : Plan) (s : State) (past : List Sighting) (linked : LinksAre pla
 
   own_open : (port : ℕ) → side_of link ≡ side_for plan.layout port
       → open_after (before port) (more port) own
-      ≡ open_in plan after port own (side_of link) (turn_by (number_of link) ended)
+      ≡ open_in plan after port own (side_of link) (turn_by (link_number link) ended)
   own_open port side = by_ended ended refl
     where
       none : before port own ≡ None
@@ -128,14 +128,14 @@ module _ (plan : Plan) (s : State) (past : List Sighting) (linked : LinksAre pla
       by_ended : (o : Option Request) → ended ≡ o
           → open_after (before port) (if found == port then moment_if Accepts own
           (ask_if (takes_effect plan.layout link found) o) else []) own
-          ≡ open_in plan after port own (side_of link) (turn_by (number_of link) o)
+          ≡ open_in plan after port own (side_of link) (turn_by (link_number link) o)
       by_ended None so = by_none (found == port) (takes_effect plan.layout link found)
       by_ended (Some ask) so =
           by_some ask (found == port) refl
           ∙ ap (λ b. open_if (found == port) b ask)
           (sym (ap (λ k. replies_to plan link own k) (replying_stays link) ∙ no_reply))
           ∙ ap (λ p. open_if (p == port)
-          (replies_to plan link own (after.links (side_of link) (number_of link)).replying) ask)
+          (replies_to plan link own (after.links (side_of link) (link_number link)).replying) ask)
           (sym (ended_goes plan link turn under lanes beat ask so))
           ∙ ap (λ l. open_ask plan after port own l ask) (sym (own_link link))
 
@@ -150,7 +150,7 @@ module _ (plan : Plan) (s : State) (past : List Sighting) (linked : LinksAre pla
       ap (λ l. open_after none_open l wide) (moments_are port)
       ∙ ap (λ (f : ℕ → Option Request). f wide) (open_more none_open (moments plan port past) (more port))
 
-  same_open : (port wide : ℕ) (side : Side) (t : Turn)
+  same_open : (port wide : ℕ) (side : LinkSide) (t : Turn)
       → open_in plan s port wide side t ≡ open_in plan after port wide side t
   same_open port wide side Idle = refl
   same_open port wide side (Asking n) = refl
@@ -161,9 +161,9 @@ module _ (plan : Plan) (s : State) (past : List Sighting) (linked : LinksAre pla
   pub ask_opens : AreOpen plan (state_after plan s (ask_at link known lanes beat)) (ask_at link known lanes beat ∷ past)
   ask_opens port wide = go (is_of plan (ask_at link known lanes beat) (side_for plan.layout port) wide) refl
     where
-      Opens : Side → ℕ → Type 0
+      Opens : LinkSide → ℕ → Type 0
       Opens sd w = open_after none_open (moments plan port (ask_at link known lanes beat ∷ past)) w
-          ≡ open_in plan after port w sd (turn_by (number_of link) ended)
+          ≡ open_in plan after port w sd (turn_by (link_number link) ended)
 
       go : (of : Bool) → is_of plan (ask_at link known lanes beat) (side_for plan.layout port) wide ≡ of
           → open_after none_open (moments plan port (ask_at link known lanes beat ∷ past)) wide

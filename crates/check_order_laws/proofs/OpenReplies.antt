@@ -2,7 +2,7 @@
 use Rattle.std.proofs.Common.{◌≡◌, ◌∙◌, ◌+◌, ℕ, Bool, true, false, if◌then◌else◌, List, [], ◌∷◌, ◌++◌, Option, Some, None, unwrap_or, refl, ap, sym, subst}
 use Rattle.std.specs.Prelude.{◌==◌, ◌&&◌}
 use Rattle.tl_types.specs.Request.{Request}
-use Rattle.check_beats.specs.Message.{seen_at as seen_bytes}
+use Rattle.check_beats.specs.Message.{seen_cells as seen_bytes}
 use Rattle.check_beats.specs.State.{Under, ReplyBegun, first_reply, ends_reply, replied_beats, replied_bytes}
 use Rattle.check_beats.specs.declared.beat.ReplyHead.{ReplyHead}
 use Rattle.check_flight.specs.Flight.{Turn, Flight, idle, asked}
@@ -11,12 +11,12 @@ use Rattle.check_watch.specs.declared.beat.Beat.TheVariants.{D}
 use Rattle.check_watch.specs.declared.beat.Link.{Link}
 use Rattle.check_watch.specs.declared.beat.Link.TheVariants.{Port}
 use Rattle.check_watch.specs.Allowed.{IsAllowedReply}
-use Rattle.check_watch.specs.Past.{State, found_in, scene_of, state_after}
-use Rattle.check_watch.specs.Plan.{Plan, Sighting, Side, side_of, number_of, wide_of, same_side, is_link, is_of, HasLink, IsWatched}
+use Rattle.check_watch.specs.Past.{State, scene_found, scene_of, state_after}
+use Rattle.check_watch.specs.Plan.{GroupPlan, Sighting, LinkSide, side_of, link_number, wide_of, same_side, is_link, is_of, HasGroupLink, IsGroupLink}
 use Rattle.check_watch.specs.Scene.{ask_if, takes_effect, begins_reply, flight_after, under_after}
 use Rattle.check_watch.proofs.InFlight.{reply_at, of_is}
 use Rattle.check_watch_laws.specs.Memories.{side_for, port_for}
-use Rattle.check_watch_laws.specs.Moments.{Moment, moments, moments_with}
+use Rattle.check_watch_laws.specs.Moments.{RequestMoment, moments, moments_with}
 use Rattle.check_watch_laws.specs.Moments.Act.{Answers}
 use Rattle.check_watch_laws.proofs.Done.{answers_now, reply_does, reply_goes, port_own}
 use Rattle.check_watch_laws.proofs.Dues.{side_on}
@@ -29,9 +29,9 @@ use Rattle.check_watch_laws.proofs.UnderWay.{first_source}
 use Rattle.check_order_laws.proofs.InTurn.{open_after, open_more, none_open, open_here, AreInTurn}
 use Rattle.check_order_laws.proofs.Openings.{unseen_late, AreOpen, open_if, open_ask, open_in, not_open, replies_to, side_there, taken_there, other_open}
 
-module _ (plan : Plan) (s : State) (past : List Sighting) (linked : LinksAre plan s past) (steps : AreInStep plan s past)
+module _ (plan : GroupPlan) (s : State) (past : List Sighting) (linked : LinksAre plan s past) (steps : AreInStep plan s past)
     (opens : AreOpen plan s past) (link : Link) (known : ℕ) (lanes : List ℕ)
-    (has : HasLink plan.layout link) (watched : IsWatched plan.layout.links link) (beat : ReplyHead)
+    (has : HasGroupLink plan.layout link) (watched : IsGroupLink plan.layout.links link) (beat : ReplyHead)
     (allowed : IsAllowedReply plan.layout link (scene_of plan s link (D beat)) beat known lanes) where
   abbrev own : ℕ
   own = wide_of plan link beat.source
@@ -40,10 +40,10 @@ module _ (plan : Plan) (s : State) (past : List Sighting) (linked : LinksAre pla
   turn = (s.flights (side_of link) own).turn
 
   abbrev under : Under
-  under = s.links (side_of link) (number_of link)
+  under = s.links (side_of link) (link_number link)
 
   abbrev found : ℕ
-  found = (found_in plan s link (D beat)).port
+  found = (scene_found plan s link (D beat)).port
 
   abbrev done : Option Request
   done = answers_now plan s link beat
@@ -51,17 +51,17 @@ module _ (plan : Plan) (s : State) (past : List Sighting) (linked : LinksAre pla
   abbrev after : State
   after = state_after plan s (reply_at link known lanes beat)
 
-  abbrev more : ℕ → List Moment
+  abbrev more : ℕ → List RequestMoment
   more port = if found == port then moment_if Answers own done else []
 
   abbrev before : ℕ → ℕ → Option Request
   before port = open_after none_open (moments plan port past)
 
-  answers : (ask : Request) × (turn ≡ Asked (number_of link) ask)
-  answers = let is = asked_at (number_of link) turn _ allowed.answers in (is.0, is.1)
+  answers : (ask : Request) × (turn ≡ Asked (link_number link) ask)
+  answers = let is = asked_at (link_number link) turn _ allowed.answers in (is.0, is.1)
 
   goes : port_for plan link answers.0 ≡ found
-  goes = reply_goes plan link turn (number_of link) beat answers.0 answers.1
+  goes = reply_goes plan link turn (link_number link) beat answers.0 answers.1
 
   unseen : takes_effect plan.layout link found ≡ false → done ≡ None
   unseen = unseen_late (takes_effect plan.layout link found) (begins_reply under.replying) (asked turn)
@@ -86,26 +86,26 @@ module _ (plan : Plan) (s : State) (past : List Sighting) (linked : LinksAre pla
 
   -- of another source none is, at any link of its side
   replying_stays : (wide : ℕ) (at : Link) → (side_of link ≡ side_of at → (own == wide) ≡ false)
-      → replies_to plan at wide (after.links (side_of at) (number_of at)).replying
-      ≡ replies_to plan at wide (s.links (side_of at) (number_of at)).replying
-  replying_stays wide at other = go (is_link link (side_of at) (number_of at)) refl
+      → replies_to plan at wide (after.links (side_of at) (link_number at)).replying
+      ≡ replies_to plan at wide (s.links (side_of at) (link_number at)).replying
+  replying_stays wide at other = go (is_link link (side_of at) (link_number at)) refl
     where
-      go : (here : Bool) → is_link link (side_of at) (number_of at) ≡ here
+      go : (here : Bool) → is_link link (side_of at) (link_number at) ≡ here
           → replies_to plan at wide (if here then under_after under (D beat) known lanes
-          else s.links (side_of at) (number_of at)).replying
-          ≡ replies_to plan at wide (s.links (side_of at) (number_of at)).replying
+          else s.links (side_of at) (link_number at)).replying
+          ≡ replies_to plan at wide (s.links (side_of at) (link_number at)).replying
       go true is =
           let same : link ≡ at = same_link link at is in
           let apart : (own == wide) ≡ false = other (ap (λ l. side_of l) same) in
           subst (λ l. replies_to plan l wide (under_after under (D beat) known lanes).replying
-          ≡ replies_to plan l wide (s.links (side_of l) (number_of l)).replying) same
+          ≡ replies_to plan l wide (s.links (side_of l) (link_number l)).replying) same
           (not_other wide apart (under_after under (D beat) known lanes).replying is_own
           ∙ sym (not_other wide apart under.replying was_own))
       go false is = refl
 
   -- of its own source it is this one, if it goes on
   goes_on : ends_reply under.bus under.replying beat ≡ false
-      → replies_to plan link own (after.links (side_of link) (number_of link)).replying ≡ true
+      → replies_to plan link own (after.links (side_of link) (link_number link)).replying ≡ true
   goes_on is =
       ap (λ (h : Bool). replies_to plan link own (if h then under_after under (D beat) known lanes else under).replying)
       (own_is link)
@@ -182,7 +182,7 @@ module _ (plan : Plan) (s : State) (past : List Sighting) (linked : LinksAre pla
       ap (λ l. open_after none_open (moments plan port past ++ l) wide) (does port)
       ∙ ap (λ (f : ℕ → Option Request). f wide) (open_more none_open (moments plan port past) (more port))
 
-  same_open : (port wide : ℕ) (side : Side) (t : Turn) → (side_of link ≡ side → (own == wide) ≡ false)
+  same_open : (port wide : ℕ) (side : LinkSide) (t : Turn) → (side_of link ≡ side → (own == wide) ≡ false)
       → open_in plan s port wide side t ≡ open_in plan after port wide side t
   same_open port wide side Idle other = refl
   same_open port wide side (Asking n) other = refl
@@ -190,7 +190,7 @@ module _ (plan : Plan) (s : State) (past : List Sighting) (linked : LinksAre pla
       ap (λ b. open_if (port_for plan (link_on side n) ask == port) b ask)
       (sym (replying_stays wide (link_on side n) (λ same. other (same ∙ side_on side n))))
 
-  other_source : (side : Side) (wide : ℕ) → (same_side (side_of link) side && (own == wide)) ≡ false
+  other_source : (side : LinkSide) (wide : ℕ) → (same_side (side_of link) side && (own == wide)) ≡ false
       → side_of link ≡ side → (own == wide) ≡ false
   other_source side wide other same =
       sym (ap (λ b. b && (own == wide))
@@ -200,7 +200,7 @@ module _ (plan : Plan) (s : State) (past : List Sighting) (linked : LinksAre pla
       (reply_at link known lanes beat ∷ past)
   reply_opens port wide = go (is_of plan (reply_at link known lanes beat) (side_for plan.layout port) wide) refl
     where
-      Opens : Side → ℕ → Type 0
+      Opens : LinkSide → ℕ → Type 0
       Opens sd w = open_after none_open (moments plan port (reply_at link known lanes beat ∷ past)) w
           ≡ open_in plan after port w sd
           (flight_after plan.layout link (scene_of plan s link (D beat)) (D beat) lanes).turn

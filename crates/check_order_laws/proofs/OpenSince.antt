@@ -4,18 +4,18 @@ use Rattle.std.specs.Prelude.{◌≢◌}
 use Rattle.std.proofs.lemmas.Bool.{cases_eq}
 use Rattle.std.specs.List.{AllByRecursion}
 use Rattle.tl_types.specs.Request.{Request}
-use Rattle.check_watch_laws.specs.Moments.{Act, Moment}
+use Rattle.check_watch_laws.specs.Moments.{Act, RequestMoment}
 use Rattle.check_watch_laws.specs.Moments.Act.{Accepts, Answers}
 use Rattle.check_order_laws.specs.Open.{IsOpen}
 use Rattle.check_order_laws.proofs.InTurn.{open_by, open_then, open_after, none_open, open_here, open_there}
 
 -- it was open before, or it was accepted among these moments; and none of its source came later
-abbrev IsOpenSince : (ℕ → Option Request) → List Moment → ℕ → Request → Type 0
+abbrev IsOpenSince : (ℕ → Option Request) → List RequestMoment → ℕ → Request → Type 0
 IsOpenSince held moments wide ask =
     IsOpen moments wide ask
-    ⊎ ((held wide ≡ Some ask) × AllByRecursion (λ (moment : Moment). moment.wide ≢ wide) moments)
+    ⊎ ((held wide ≡ Some ask) × AllByRecursion (λ (moment : RequestMoment). moment.wide ≢ wide) moments)
 
-opened_by : (moment : Moment) (ask : Request) → open_by moment.act moment.ask ≡ Some ask
+opened_by : (moment : RequestMoment) (ask : Request) → open_by moment.act moment.ask ≡ Some ask
     → moment ≡ record { act = Accepts; wide = moment.wide; ask = ask }
 opened_by moment ask is = go moment.act is
   where
@@ -24,7 +24,7 @@ opened_by moment ask is = go moment.act is
     go Accepts is = let same : moment.ask ≡ ask = cc in ap (λ r. record moment { act = Accepts; ask = r }) same
     go Answers is = cc
 
-since : (held : ℕ → Option Request) (moments : List Moment) (wide : ℕ) (ask : Request)
+since : (held : ℕ → Option Request) (moments : List RequestMoment) (wide : ℕ) (ask : Request)
     → open_after held moments wide ≡ Some ask → IsOpenSince held moments wide ask
 since held [] wide ask is = inr (is, tt)
 since held (moment ∷ moments) wide ask is =
@@ -36,7 +36,7 @@ since held (moment ∷ moments) wide ask is =
       unanswered = found.unanswered;
     }))
     (λ (was : (open_then held moment wide ≡ Some ask)
-    × AllByRecursion (λ (m : Moment). m.wide ≢ wide) moments). ⊎_elim
+    × AllByRecursion (λ (m : RequestMoment). m.wide ≢ wide) moments). ⊎_elim
     (λ (here : wide ≡ moment.wide).
     let made = opened_by moment ask (sym (open_here held moment wide here) ∙ was.0) in
     inl (record {
@@ -51,11 +51,11 @@ since held (moment ∷ moments) wide ask is =
     (cases_eq wide moment.wide))
     (since (open_then held moment) moments wide ask is)
 
-pub open_is : (moments : List Moment) (wide : ℕ) (ask : Request) → open_after none_open moments wide ≡ Some ask
+pub open_is : (moments : List RequestMoment) (wide : ℕ) (ask : Request) → open_after none_open moments wide ≡ Some ask
     → IsOpen moments wide ask
 open_is moments wide ask is =
     ⊎_elim (λ (found : IsOpen moments wide ask). found)
-    (λ (was : (None ≡ Some ask) × AllByRecursion (λ (m : Moment). m.wide ≢ wide) moments). absurd (no was.0))
+    (λ (was : (None ≡ Some ask) × AllByRecursion (λ (m : RequestMoment). m.wide ≢ wide) moments). absurd (no was.0))
     (since none_open moments wide ask is)
   where
     no : None ≡ Some ask → ⊥

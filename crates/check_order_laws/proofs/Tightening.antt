@@ -14,13 +14,13 @@ use Rattle.check_flight.specs.Flight.{Flight}
 use Rattle.check_flight.specs.Flight.Turn.{Asked}
 use Rattle.check_flight.specs.Order.{is_due_at_reply}
 use Rattle.check_flight.specs.PortSlave.{PortSlave}
-use Rattle.check_watch.specs.Lawful.{IsLawful}
+use Rattle.check_watch.specs.Lawful.{IsLawfulGroup}
 use Rattle.check_watch.specs.Past.{state}
-use Rattle.check_watch.specs.Plan.{Plan, IsPlan, Sighting, Side, side_of, number_of}
+use Rattle.check_watch.specs.Plan.{GroupPlan, IsGroupPlan, Sighting, LinkSide, side_of, link_number}
 use Rattle.check_watch.proofs.Earlier.{earlier_is_lawful}
 use Rattle.check_watch_laws.specs.Crossed.{AreWatched}
 use Rattle.check_watch_laws.specs.Memories.{AreEntries, entries_of, exchanges_at, order_at, port_for, reset_of, side_for}
-use Rattle.check_watch_laws.specs.Moments.{IsDueAt, Moment, dues_of, moments, moments_with}
+use Rattle.check_watch_laws.specs.Moments.{IsDueAt, RequestMoment, dues_of, moments, moments_with}
 use Rattle.check_watch_laws.specs.Whenever.{AreFresh}
 use Rattle.check_watch_laws.proofs.Back.{rules_make_lawful}
 use Rattle.check_watch_laws.proofs.Dues.{HasBegun, IsReplying, are_due}
@@ -44,9 +44,9 @@ use Rattle.check_order_laws.proofs.Uncontested.{KeepsBut, beside_all, nothing_lo
 -- ---- a request that is open at a port of which nobody knows the order
 
 -- nothing is owed of it: what its reply has to fit is known as it is answered, and not before
-module _ (plan : Plan) (past : List Sighting) (watched : AreWatched plan.layout past) (lawful : IsLawful plan past)
+module _ (plan : GroupPlan) (past : List Sighting) (watched : AreWatched plan.layout past) (lawful : IsLawfulGroup plan past)
     (port : ℕ) (any : order_at plan port ≡ Any) (wide : ℕ) where
-  abbrev side : Side
+  abbrev side : LinkSide
   side = side_for plan.layout port
 
   abbrev flight : Flight
@@ -54,7 +54,7 @@ module _ (plan : Plan) (past : List Sighting) (watched : AreWatched plan.layout 
 
   no_due : (number : ℕ) (ask : Request) → port_for plan (link_on side number) ask ≡ port
       → replies_to plan (link_on side number) wide
-      ((state plan past).links (side_of (link_on side number)) (number_of (link_on side number))).replying ≡ false
+      ((state plan past).links (side_of (link_on side number)) (link_number (link_on side number))).replying ≡ false
       → (due : Option Answer) → HasBegun plan (state plan past) side wide (Asked number ask) due → due ≡ None
   no_due number ask goes unanswered None begun = refl
   no_due number ask goes unanswered (Some answer) begun =
@@ -101,8 +101,8 @@ module _ (plan : Plan) (past : List Sighting) (watched : AreWatched plan.layout 
 
 -- ---- moments up to an earlier one
 
-more_moments : (plan : Plan) (port : ℕ) (later earlier : List Sighting)
-    → (more : List Moment) × (moments plan port earlier ++ more ≡ moments plan port (later ++ earlier))
+more_moments : (plan : GroupPlan) (port : ℕ) (later earlier : List Sighting)
+    → (more : List RequestMoment) × (moments plan port earlier ++ more ≡ moments plan port (later ++ earlier))
 more_moments plan port [] earlier = ([], append-nil (moments plan port earlier))
 more_moments plan port (x ∷ later) earlier =
     let before = more_moments plan port later earlier in
@@ -111,7 +111,7 @@ more_moments plan port (x ∷ later) earlier =
       sym (append_assoc (moments plan port earlier) before.0 now) ∙ ap (λ l. l ++ now) before.1,
     )
 
-earlier_uncontested : (plan : Plan) (port : ℕ) (later earlier : List Sighting)
+earlier_uncontested : (plan : GroupPlan) (port : ℕ) (later earlier : List Sighting)
     → NothingIsContested plan port (later ++ earlier) → NothingIsContested plan port earlier
 earlier_uncontested plan port later earlier none before rest is =
     let more = more_moments plan port later earlier in
@@ -120,15 +120,15 @@ earlier_uncontested plan port later earlier none before rest is =
 
 -- ---- the way back
 
-module _ (plan : Plan) (before after : List PortSlave) where
-  abbrev loose : Plan
+module _ (plan : GroupPlan) (before after : List PortSlave) where
+  abbrev loose : GroupPlan
   loose = record plan { resets = before }
 
-  abbrev strict : Plan
+  abbrev strict : GroupPlan
   strict = record plan { resets = after }
 
   -- at a port of which nobody knew the order
-  accept_due : (past : List Sighting) (port : ℕ) → AreWatched plan.layout past → IsLawful loose past
+  accept_due : (past : List Sighting) (port : ℕ) → AreWatched plan.layout past → IsLawfulGroup loose past
       → reset_of loose port ≡ record (reset_of strict port) { order = Any } → order_at strict port ≡ Accept
       → (reset_of strict port).contests ≡ [] → NothingIsContested strict port past
       → (history : List (Request × Pattern)) × IsDueAt strict past port history
@@ -172,7 +172,7 @@ module _ (plan : Plan) (before after : List PortSlave) where
 
   module _ (looser : (port : ℕ) → IsSameOrAny (reset_of loose port) (reset_of strict port)) (fresh : AreFresh strict)
       (accept : (port : ℕ) → order_at loose port ≢ order_at strict port → order_at strict port ≡ Accept) where
-    tight_due : (past : List Sighting) → AreWatched plan.layout past → IsLawful loose past
+    tight_due : (past : List Sighting) → AreWatched plan.layout past → IsLawfulGroup loose past
         → ((port : ℕ) → order_at loose port ≢ order_at strict port → NothingIsContested strict port past)
         → (port : ℕ) → IsSameOrAny (reset_of loose port) (reset_of strict port)
         → (history : List (Request × Pattern)) × IsDueAt strict past port history
@@ -198,9 +198,9 @@ module _ (plan : Plan) (before after : List PortSlave) where
             (sym (is ∙ ap (λ o. record (reset_of strict port) { order = o }) (sym order)))
             (due_at loose past watched lawful port)
 
-    pub tightened : (past : List Sighting) → IsPlan loose → AreWatched plan.layout past
+    pub tightened : (past : List Sighting) → IsGroupPlan loose → AreWatched plan.layout past
         → ((port : ℕ) → order_at loose port ≢ order_at strict port → NothingIsContested strict port past)
-        → IsLawful loose past → IsLawful strict past
+        → IsLawfulGroup loose past → IsLawfulGroup strict past
     tightened past is watched none lawful =
         rules_make_lawful strict past (same_plan plan before after is) watched
         (same_seen plan before after (λ port. same_lanes (reset_of loose port) (reset_of strict port) (looser port)) past
@@ -208,24 +208,24 @@ module _ (plan : Plan) (before after : List PortSlave) where
         (λ later earlier so.
         let watched' = earlier_watched plan.layout later earlier
         (subst (λ l. AreWatched plan.layout l) (sym so) watched) in
-        let lawful' = earlier_is_lawful loose later earlier (subst (λ l. IsLawful loose l) (sym so) lawful) in
+        let lawful' = earlier_is_lawful loose later earlier (subst (λ l. IsLawfulGroup loose l) (sym so) lawful) in
         let none' : (port : ℕ) → order_at loose port ≢ order_at strict port → NothingIsContested strict port earlier =
         λ port differ. earlier_uncontested strict port later earlier
         (subst (λ l. NothingIsContested strict port l) (sym so) (none port differ)) in
         rules_by_dues plan before after earlier is watched' lawful' (λ port.
         tight_due earlier watched' lawful' none' port (looser port)))
 
-pub uncontested_is_tight : (loose strict : Plan) (past : List Sighting) → IsLooser loose strict → IsPlan strict
+pub uncontested_is_tight : (loose strict : GroupPlan) (past : List Sighting) → IsLooser loose strict → IsGroupPlan strict
     → AreFresh strict → AreWatched strict.layout past → DifferByAccept loose strict past
-    → IsLawful loose past → IsLawful strict past
+    → IsLawfulGroup loose past → IsLawfulGroup strict past
 uncontested_is_tight loose strict past looser is fresh watched differ lawful =
     tightened strict loose.resets strict.resets looser.slaves fresh (λ port other. (differ port other).0) past
     (same_plan strict strict.resets loose.resets is) watched (λ port other. (differ port other).1)
-    (subst (λ p. IsLawful p past) looser.same lawful)
+    (subst (λ p. IsLawfulGroup p past) looser.same lawful)
 
-pub uncontested_is_same : (loose strict : Plan) (past : List Sighting) → IsLooser loose strict → IsPlan strict
+pub uncontested_is_same : (loose strict : GroupPlan) (past : List Sighting) → IsLooser loose strict → IsGroupPlan strict
     → AreFresh strict → AreSoundSlaves strict → AreWatched strict.layout past → HaveByteLanes past
-    → DifferByAccept loose strict past → (IsLawful loose past ↔ IsLawful strict past)
+    → DifferByAccept loose strict past → (IsLawfulGroup loose past ↔ IsLawfulGroup strict past)
 uncontested_is_same loose strict past looser is fresh sound watched bytes differ = (
   uncontested_is_tight loose strict past looser is fresh watched differ,
   any_is_looser loose strict past looser is fresh sound watched bytes,

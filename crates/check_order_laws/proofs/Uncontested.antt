@@ -16,7 +16,7 @@ use Rattle.check_contests.proofs.Kept.{answering-other, answering-same}
 use Rattle.check_flight.specs.declared.order.Order.TheVariants.{Accept, Any}
 use Rattle.check_flight.specs.PortSlave.{PortSlave, accepted_by, answered_by, answer_of_kept, contested_by, due_accepted_by, due_answered_by, served_by}
 use Rattle.check_watch_laws.specs.Memories.{entries_of}
-use Rattle.check_watch_laws.specs.Moments.{Act, Moment, dues_of, entry_due, slave_then}
+use Rattle.check_watch_laws.specs.Moments.{Act, RequestMoment, dues_of, entry_due, slave_then}
 use Rattle.check_watch_laws.specs.Moments.Act.{Accepts, Answers}
 use Rattle.check_watch_laws.proofs.Told.{dues_none, dues_cons}
 use Rattle.check_order_laws.specs.Open.{AreApart, IsOpen}
@@ -32,12 +32,12 @@ BesideBy Accepts slave held ask =
     (other : ℕ) (with : Request) → held other ≡ Some with → AreUncontestedAt slave ask with
 BesideBy Answers slave held ask = Unit {0}
 
-abbrev pub AreBeside : Slave → (ℕ → Option Request) → List Moment → Type 0
+abbrev pub AreBeside : Slave → (ℕ → Option Request) → List RequestMoment → Type 0
 AreBeside slave held [] = Unit {0}
 AreBeside slave held (moment ∷ moments) =
     BesideBy moment.act slave held moment.ask × AreBeside slave (open_then held moment) moments
 
-apart_at : (slave : Slave) (moments : List Moment) (wide other : ℕ) (ask with : Request) → AreApart slave moments
+apart_at : (slave : Slave) (moments : List RequestMoment) (wide other : ℕ) (ask with : Request) → AreApart slave moments
     → wide ≢ other → IsOpen moments wide ask → IsOpen moments other with → AreUncontestedAt slave ask with
 apart_at (Memory memory) moments wide other ask with apart different first second =
     apart wide other ask with different first second
@@ -46,8 +46,8 @@ apart_at Device moments wide other ask with apart different first second = tt
 none_some : (ask : Request) → None ≡ Some ask → ⊥
 none_some ask is = cc
 
-pub beside_all : (slave : Slave) (before moments : List Moment)
-    → ((front rest : List Moment) → front ++ rest ≡ before ++ moments → AreApart slave front)
+pub beside_all : (slave : Slave) (before moments : List RequestMoment)
+    → ((front rest : List RequestMoment) → front ++ rest ≡ before ++ moments → AreApart slave front)
     → AreInTurn (open_after none_open before) moments → AreBeside slave (open_after none_open before) moments
 beside_all slave before [] apart turns = tt
 beside_all slave before (moment ∷ moments) apart turns = (
@@ -62,7 +62,7 @@ beside_all slave before (moment ∷ moments) apart turns = (
         → BesideBy act slave (open_after none_open before) moment.ask
     go Answers is turn = tt
     go Accepts is turn = λ other with held.
-        let here : List Moment = before ++ moment ∷ [] in
+        let here : List RequestMoment = before ++ moment ∷ [] in
         let after : (wide : ℕ) → open_after none_open here wide ≡ open_then (open_after none_open before) moment wide =
         λ wide. ap (λ (f : ℕ → Option Request). f wide) (open_more none_open before (moment ∷ [])) in
         let different : moment.wide ≢ other =
@@ -93,11 +93,11 @@ pub record KeepsBut (wide : ℕ) (kept : Option Accepted) (accept any : List (Re
 
 module _ (port : ℕ) (held : ℕ → Option Request) (strict loose : PortSlave) (accept : strict.order ≡ Accept)
     (any : loose.order ≡ Any) (same : loose.kept ≡ strict.kept) (are : AreKept held loose.contests) (wide : ℕ)
-    (ask : Request) (moments : List Moment) where
-  abbrev accepted : Moment
+    (ask : Request) (moments : List RequestMoment) where
+  abbrev accepted : RequestMoment
   accepted = record { act = Accepts; wide = wide; ask = ask }
 
-  abbrev answered : Moment
+  abbrev answered : RequestMoment
   answered = record { act = Answers; wide = wide; ask = ask }
 
   abbrev expected : Pattern
@@ -230,7 +230,7 @@ one_waits wide None held ask is some = let no : None ≡ Some ask = is ∙ some 
 one_waits wide (Some entry) held ask is some = refl
 
 -- so it is of all moments that come in turn
-abbrev NothingLost : ℕ → Slave → List Moment → Type 0
+abbrev NothingLost : ℕ → Slave → List RequestMoment → Type 0
 NothingLost port reset moments =
     (held : ℕ → Option Request) (strict loose : PortSlave) → strict.order ≡ Accept → loose.order ≡ Any
     → loose.kept ≡ strict.kept → IsSameButCells loose.kept reset → AreKept held loose.contests → AreInTurn held moments
@@ -238,7 +238,7 @@ NothingLost port reset moments =
     → KeepsBut wide (kept_of loose.contests wide) (dues_of port strict moments) (dues_of port loose moments)
     (open_after held moments wide)
 
-step : (port : ℕ) (reset : Slave) (moment : Moment) (moments : List Moment) → NothingLost port reset moments
+step : (port : ℕ) (reset : Slave) (moment : RequestMoment) (moments : List RequestMoment) → NothingLost port reset moments
     → NothingLost port reset (moment ∷ moments)
 step port reset moment moments rest held strict loose accept any same kind are turns beside other =
     go moment.act turns.0 turns.1 beside.0 beside.1
@@ -255,7 +255,7 @@ step port reset moment moments rest held strict loose accept any same kind are t
         (dues_of port loose (record moment { act = act } ∷ moments))
         (open_after (open_then held (record moment { act = act })) moments other)
     go Accepts turn later by bys =
-        let here : Moment = record moment { act = Accepts } in
+        let here : RequestMoment = record moment { act = Accepts } in
         let served = as_served loose.kept reset held loose.contests wide loose.served ask kind are by in
         accepts port held strict loose accept any same are wide ask moments turn served other
         (open_after (open_then held here) moments other)
@@ -265,7 +265,7 @@ step port reset moment moments rest held strict loose accept any same kind are t
         (subst (λ k. AreKept (open_then held here) k) (sym served.keeps)
         (kept_more held loose.contests are loose.kept wide loose.served ask turn)) later bys other)
     go Answers turn later by bys =
-        let here : Moment = record moment { act = Answers } in
+        let here : RequestMoment = record moment { act = Answers } in
         let entry = entry_of (kept_of loose.contests wide) ask (are.asks wide ∙ turn) in
         answers port held strict loose accept any same are wide ask moments entry.0 entry.1 entry.2 other
         (open_after (open_then held here) moments other)
@@ -273,7 +273,7 @@ step port reset moment moments rest held strict loose accept any same kind are t
         (record loose { contests = kept_answering loose.contests wide }) accept any same kind
         (kept_less held loose.contests wide ask are) later bys other)
 
-pub nothing_lost : (port : ℕ) (reset : Slave) (moments : List Moment) → NothingLost port reset moments
+pub nothing_lost : (port : ℕ) (reset : Slave) (moments : List RequestMoment) → NothingLost port reset moments
 nothing_lost port reset [] held strict loose accept any same kind are turns beside wide = record {
   rest = waiting wide (kept_of loose.contests wide);
   is = ap (λ l. waiting wide (kept_of loose.contests wide) ++ entries_of wide l) (dues_none port strict)

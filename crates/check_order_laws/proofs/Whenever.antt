@@ -10,9 +10,9 @@ use Rattle.check_memory.specs.declared.slave.Slave.{Slave}
 use Rattle.check_memory.specs.declared.slave.Slave.TheVariants.{Memory, Device}
 use Rattle.check_flight.specs.declared.order.Order.TheVariants.{Accept, Reply}
 use Rattle.check_flight.specs.Flight.{Flight}
-use Rattle.check_watch.specs.Lawful.{IsLawful}
+use Rattle.check_watch.specs.Lawful.{IsLawfulGroup}
 use Rattle.check_watch.specs.Past.{state}
-use Rattle.check_watch.specs.Plan.{Plan, Sighting, Side}
+use Rattle.check_watch.specs.Plan.{GroupPlan, Sighting, LinkSide}
 use Rattle.check_watch_laws.specs.Crossed.{AreWatched}
 use Rattle.check_watch_laws.specs.Memories.{AreEntries, entries_of, exchanges_at, order_at, port_for, reset_of, side_for}
 use Rattle.check_watch_laws.specs.Moments.{moments}
@@ -45,9 +45,9 @@ below_itself Device sound = tt
 
 -- ---- at a port
 
-module _ (plan : Plan) (past : List Sighting) (watched : AreWatched plan.layout past) (lawful : IsLawful plan past)
+module _ (plan : GroupPlan) (past : List Sighting) (watched : AreWatched plan.layout past) (lawful : IsLawfulGroup plan past)
     (port : ℕ) where
-  abbrev side : Side
+  abbrev side : LinkSide
   side = side_for plan.layout port
 
   abbrev dues : List (Request × Pattern)

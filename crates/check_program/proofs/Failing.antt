@@ -7,25 +7,25 @@ use Rattle.check_keys.specs.declared.fault.SystemFault.{SystemFault}
 use Rattle.check_keys.specs.declared.fault.SystemFault.TheVariants as system
 use Rattle.check_description.specs.Description.{Description}
 use Rattle.check_description.specs.File.{Parts}
-use Rattle.check_start.specs.Start.{names_of}
+use Rattle.check_start.specs.Start.{system_names}
 use Rattle.check_start.specs.declared.start.Terms.{Terms}
 use Rattle.check_text.specs.declared.fault.CaptureFault.{CaptureFault}
 use Rattle.check_text.specs.declared.fault.CaptureFault.TheVariants as stop
 use Rattle.check_text.specs.declared.fault.Verdict.{Verdict}
-use Rattle.check_program.specs.Engine.{Given, HasVerdict, IsChecked, IsFaulty, IsLineFault, IsStopped, IsUnprepared, is_lawful, line_of}
+use Rattle.check_program.specs.Engine.{GivenParts, HasVerdict, IsChecked, IsFaulty, IsLineFault, IsStopped, IsUnprepared, is_lawful, line_of}
 use Rattle.check_program.specs.Fault.{of_capture, of_system}
 use Rattle.check_program.specs.declared.fault.CheckFault.{CheckFault}
 use Rattle.check_program.specs.declared.fault.CheckFault.TheVariants as check
 use Rattle.check_program.specs.declared.asked.Asked.{Asked}
 
-pub checked_by : (asked : Asked) (given : Given) (old new : Option (List ℕ)) (result : Result Bool CheckFault)
+pub checked_by : (asked : Asked) (given : GivenParts) (old new : Option (List ℕ)) (result : Result Bool CheckFault)
     (fault : CheckFault)
     → IsErrAnd result (λ e. e ≡ fault) → IsFaulty asked given old new fault → IsChecked asked given old new result
 checked_by asked given old new (Ok lawful) fault is faulty = absurd is
 checked_by asked given old new (Err e) fault is faulty =
     record { ok = tt; fault = subst (IsFaulty asked given old new) (sym is) faulty }
 
-pub of_stopped : (asked : Asked) (given : Given) (old new : Option (List ℕ)) (fault : CaptureFault)
+pub of_stopped : (asked : Asked) (given : GivenParts) (old new : Option (List ℕ)) (fault : CaptureFault)
     → IsStopped asked given old new fault → IsFaulty asked given old new (of_capture fault)
 of_stopped asked given old new (stop.Header line) stopped = stopped
 of_stopped asked given old new (stop.TooLong line) stopped = stopped
@@ -55,7 +55,7 @@ pub unprepared_by : (terms : Terms) (parts : Parts) (images : List (List ℕ)) (
 unprepared_by terms parts images system.Memory first = tt
 unprepared_by terms parts images fault first = first (λ is. cc is)
 
-unprepared : (asked : Asked) (given : Given) (bytes : Option (List ℕ)) (fault : CheckFault)
+unprepared : (asked : Asked) (given : GivenParts) (bytes : Option (List ℕ)) (fault : CheckFault)
     → IsUnprepared asked.terms given.parts given.images fault → IsFaulty asked given bytes bytes fault
 unprepared asked given bytes (check.System fault) is = (is, Keeps-refl bytes)
 unprepared asked given bytes (check.Capture fault) is = absurd is
@@ -64,16 +64,16 @@ unprepared asked given bytes check.Write is = absurd is
 unprepared asked given bytes check.Memory is = inl (Keeps-refl bytes)
 
 -- nothing was written
-pub checked_unprepared : (asked : Asked) (given : Given) (bytes : Option (List ℕ)) (result : Result Bool CheckFault)
+pub checked_unprepared : (asked : Asked) (given : GivenParts) (bytes : Option (List ℕ)) (result : Result Bool CheckFault)
     (fault : CheckFault) → IsErrAnd result (λ e. e ≡ fault) → IsUnprepared asked.terms given.parts given.images fault
     → IsChecked asked given bytes bytes result
 checked_unprepared asked given bytes result fault is why =
     checked_by asked given bytes bytes result fault is (unprepared asked given bytes fault why)
 
-module _ (asked : Asked) (given : Given) (old told new : Option (List ℕ)) (system : Description) (verdict : Verdict)
+module _ (asked : Asked) (given : GivenParts) (old told new : Option (List ℕ)) (system : Description) (verdict : Verdict)
     (has : HasVerdict asked given old told system verdict) where
   -- a verdict whose line was not written
-  untold : (fault : CheckFault) → IsLineFault told new (line_of (names_of system) verdict) fault
+  untold : (fault : CheckFault) → IsLineFault told new (line_of (system_names system) verdict) fault
       → IsFaulty asked given old new fault
   untold (check.System fault) is = absurd is
   untold (check.Capture fault) is = absurd is
@@ -84,7 +84,7 @@ module _ (asked : Asked) (given : Given) (old told new : Option (List ℕ)) (sys
       inr (inr (record { system = system; verdict = verdict; told = told; has = has; line = is }))
 
   -- a verdict, and what became of its line
-  pub told_checked : (line : List ℕ) (result : Result Bool CheckFault) → line ≡ line_of (names_of system) verdict
+  pub told_checked : (line : List ℕ) (result : Result Bool CheckFault) → line ≡ line_of (system_names system) verdict
       → IfOk result (λ lawful. lawful ≡ is_lawful verdict) → IfOk result (λ lawful. Appends told new line)
       → IfErr result (IsLineFault told new line) → IsChecked asked given old new result
   told_checked line (Ok lawful) same answered written fault = record {

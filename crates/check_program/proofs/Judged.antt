@@ -7,7 +7,7 @@ use Rattle.check_review.specs.View.{Judges, is_asked, is_covered, is_traced}
 use Rattle.check_review.specs.declared.judge.Judge.{Judge}
 use Rattle.check_review.specs.declared.tally.Tally.{Tally}
 use Rattle.check_rows.specs.Row.{SeenRow}
-use Rattle.check_records.specs.Text.{Place, start_of}
+use Rattle.check_records.specs.Text.{TextPlace, start_of}
 use Rattle.check_start.specs.Start.{ByThePlan, master_buses, port_buses}
 use Rattle.check_text.specs.Buses.{LinkBuses}
 use Rattle.check_text.specs.Capture.{IsCovered, IsFault, IsVerdict, IsWritten, OfCapture, TellsCovered}
@@ -19,10 +19,10 @@ use Rattle.check_sides.specs.Plan.{Plan}
 use Rattle.check_program.specs.declared.asked.Asked.{Asked}
 use Rattle.check_program.specs.declared.fault.CheckFault.{CheckFault}
 use Rattle.check_program.specs.declared.engine.Prepared.{Prepared}
-use Rattle.check_program.specs.Engine.{Given, HasVerdict, IsCounted, IsPrepared, IsStopped, IsVerdictOf, IsWrittenOf, buses_of, is_lawful, with_buses}
+use Rattle.check_program.specs.Engine.{GivenParts, HasVerdict, IsCounted, IsPrepared, IsStopped, IsVerdictOf, IsWrittenByJudge, buses_of, is_lawful, with_buses}
 
 -- a judge of a system, and the buses of its links
-pub record IsJudgeOf (asked : Asked) (given : Given) (system : Description) (judge : Judge) (buses : LinkBuses)
+pub record IsJudgeOf (asked : Asked) (given : GivenParts) (system : Description) (judge : Judge) (buses : LinkBuses)
     : Type 0 where
   pub judges : ByThePlan asked.terms system given.images (λ plan. Judges plan [] judge)
   pub trace : is_traced judge ≡ asked.trace
@@ -39,7 +39,7 @@ buses_are masters ports system of_masters of_ports =
     ∙ ap (λ (p : List Bus). with_buses (master_buses system.masters) p) of_ports
 
 -- what a judge is that was prepared, with the buses of the system
-pub of_prepared : (asked : Asked) (given : Given) (prepared : Prepared) (buses : LinkBuses)
+pub of_prepared : (asked : Asked) (given : GivenParts) (prepared : Prepared) (buses : LinkBuses)
     (is : IsPrepared asked given.parts given.images prepared) → buses ≡ buses_of is.system
     → IsJudgeOf asked given is.system prepared.judge buses
 of_prepared asked given prepared buses is have = record {
@@ -50,7 +50,7 @@ of_prepared asked given prepared buses is have = record {
   have = have;
 }
 
-by_the_plan : (asked : Asked) (given : Given) (system : Description) (judge : Judge) (buses : LinkBuses)
+by_the_plan : (asked : Asked) (given : GivenParts) (system : Description) (judge : Judge) (buses : LinkBuses)
     (Holds : LinkBuses → Plan → Type 0) → IsJudgeOf asked given system judge buses
     → ((plan : Plan) → Judges plan [] judge → Holds buses plan)
     → ByThePlan asked.terms system given.images (Holds (buses_of system))
@@ -59,12 +59,12 @@ by_the_plan asked given system judge buses Holds of_it holds = record {
   each = λ plan is. subst (λ b. Holds b plan) of_it.have (holds plan (of_it.judges.each plan is));
 }
 
-by_the_traced_plan : (asked : Asked) (given : Given) (system : Description) (judge : Judge) (buses : LinkBuses)
+by_the_traced_plan : (asked : Asked) (given : GivenParts) (system : Description) (judge : Judge) (buses : LinkBuses)
     (old new : Option (List ℕ)) (answer : Result Verdict CaptureFault)
     → IsJudgeOf asked given system judge buses
     → ((plan : Plan) → Judges plan [] judge → IfSome given.capture
     (λ text. IsWritten (is_asked judge) (is_traced judge) plan buses (start_of text) old new answer))
-    → IsWrittenOf asked given system old new answer
+    → IsWrittenByJudge asked given system old new answer
 by_the_traced_plan asked given system judge buses old new answer of_it tells =
     let W : Bool → Bool → Type 0 = λ a t. ByThePlan asked.terms system given.images (λ plan. IfSome given.capture
     (λ text. IsWritten a t plan (buses_of system) (start_of text) old new answer)) in
@@ -73,7 +73,7 @@ by_the_traced_plan asked given system judge buses old new answer of_it tells =
     (λ text. IsWritten (is_asked judge) (is_traced judge) plan b (start_of text) old new answer)) of_it tells in
     subst (λ a. W a asked.trace) of_it.complete (subst (λ t. W (is_asked judge) t) of_it.trace is)
 
-pub has_verdict : (asked : Asked) (given : Given) (system : Description) (judge : Judge) (buses : LinkBuses)
+pub has_verdict : (asked : Asked) (given : GivenParts) (system : Description) (judge : Judge) (buses : LinkBuses)
     (old told : Option (List ℕ)) (verdict : Verdict)
     → IsJudgeOf asked given system judge buses → Makes given.parts system
     → ((plan : Plan) → Judges plan [] judge → IfSome given.capture
@@ -90,7 +90,7 @@ has_verdict asked given system judge buses old told verdict of_it made found tel
   tells = by_the_traced_plan asked given system judge buses old told (Ok verdict) of_it tells;
 }
 
-pub is_stopped : (asked : Asked) (given : Given) (system : Description) (judge : Judge) (buses : LinkBuses)
+pub is_stopped : (asked : Asked) (given : GivenParts) (system : Description) (judge : Judge) (buses : LinkBuses)
     (old new : Option (List ℕ)) (fault : CaptureFault)
     → IsJudgeOf asked given system judge buses → Makes given.parts system
     → ((plan : Plan) → Judges plan [] judge → IfSome given.capture (λ text. IsFault plan buses (start_of text) fault))
@@ -114,7 +114,7 @@ of_judged plan (verdicts.Lawful counts) rows P Q to is = record { lawful = is.la
 of_judged plan (verdicts.Incomplete left) rows P Q to is = record { lawful = is.lawful; holds = to is.lawful.crossed is.holds }
 of_judged plan (verdicts.Unlawful found) rows P Q to is = record { first = is.first; holds = to is.first.before is.holds }
 
-of_capture : (plan : Plan) (buses : LinkBuses) (from : Place) (v : Verdict) (P Q : List SeenRow → Type 0)
+of_capture : (plan : Plan) (buses : LinkBuses) (from : TextPlace) (v : Verdict) (P Q : List SeenRow → Type 0)
     → ((crossed : List SeenRow) → P crossed → Q crossed) → OfCapture plan buses from v P → OfCapture plan buses from v Q
 of_capture plan buses from v P Q to is = record {
   rows = is.rows;
@@ -129,7 +129,7 @@ of_known : (known : Option (List ℕ)) (P Q : List ℕ → Type 0) → ((text : 
 of_known None P Q to is = tt
 of_known (Some text) P Q to is = to text is
 
-pub is_counted : (asked : Asked) (given : Given) (system : Description) (judge : Judge) (buses : LinkBuses)
+pub is_counted : (asked : Asked) (given : GivenParts) (system : Description) (judge : Judge) (buses : LinkBuses)
     (tally : Tally) (covered : Bool) (old new : List ℕ) (verdict : Verdict)
     → IsJudgeOf asked given system judge buses → Makes given.parts system → IsVerdictOf asked given system verdict
     → covered ≡ is_covered judge
@@ -154,7 +154,7 @@ is_counted asked given system judge buses tally covered old new verdict of_it ma
       (appends plan crossed has)) is_covered_there) (covers plan start));
 }
 
-pub counted_if : (asked : Asked) (given : Given) (old new : List ℕ) (lawful : Bool) (result : Result Bool CheckFault)
+pub counted_if : (asked : Asked) (given : GivenParts) (old new : List ℕ) (lawful : Bool) (result : Result Bool CheckFault)
     → IfOk result (λ answered. answered ≡ lawful) → IsCounted asked given old new lawful
     → IfOk result (IsCounted asked given old new)
 counted_if asked given old new lawful (Ok answered) is counted = subst (IsCounted asked given old new) (sym is) counted

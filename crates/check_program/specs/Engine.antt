@@ -13,7 +13,7 @@ use Rattle.check_lines.specs.Verdict.{incomplete_line, lawful_line, unlawful_lin
 use Rattle.check_records.specs.Text.{start_of}
 use Rattle.check_start.specs.Slaves.{slaves_at_reset}
 use Rattle.check_start.specs.declared.start.Terms.{Terms}
-use Rattle.check_start.specs.Start.{ByThePlan, master_buses, names_of, port_buses}
+use Rattle.check_start.specs.Start.{ByThePlan, master_buses, system_names, port_buses}
 use Rattle.check_text.specs.Buses.{LinkBuses}
 use Rattle.check_text.specs.Capture.{IsFault, IsVerdict, IsWritten, TellsCovered}
 use Rattle.check_text.specs.declared.fault.CaptureFault.{CaptureFault}
@@ -28,7 +28,7 @@ use Rattle.check_program.specs.declared.engine.Prepared.{Prepared}
 -- ---- what is judged
 
 -- the parts that a system file names, with the bytes of the image of each port, and what the reader of a capture has
-pub record Given : Type 0 where
+pub record GivenParts : Type 0 where
   pub parts : Parts
   pub images : List (List ℕ)
   pub capture : Option (List ℕ)
@@ -38,30 +38,30 @@ abbrev pub buses_of : Description → LinkBuses
 buses_of system = record { masters = master_buses system.masters; ports = port_buses system.ports }
 
 -- by each plan of the system, and there is one: this holds of the text of the capture
-abbrev pub OfTheText : Asked → Given → Description → (Plan → List ℕ → Type 0) → Type 0
+abbrev pub OfTheText : Asked → GivenParts → Description → (Plan → List ℕ → Type 0) → Type 0
 OfTheText asked given system Holds =
     ByThePlan asked.terms system given.images (λ plan. IfSome given.capture (Holds plan))
 
 -- the verdict is the one over the capture, at a crossbar that is this system
-abbrev pub IsVerdictOf : Asked → Given → Description → Verdict → Type 0
+abbrev pub IsVerdictOf : Asked → GivenParts → Description → Verdict → Type 0
 IsVerdictOf asked given system verdict =
     OfTheText asked given system
     (λ plan text. IsVerdict asked.complete plan (buses_of system) (start_of text) verdict)
 
 -- the fault is one of the capture
-abbrev pub IsFaultOf : Asked → Given → Description → CaptureFault → Type 0
+abbrev pub IsFaultOf : Asked → GivenParts → Description → CaptureFault → Type 0
 IsFaultOf asked given system fault =
     OfTheText asked given system (λ plan text. IsFault plan (buses_of system) (start_of text) fault)
 
 -- what is written while the capture is judged, before this answer
-abbrev pub IsWrittenOf : Asked → Given → Description → Option (List ℕ) → Option (List ℕ) → Result Verdict CaptureFault
+abbrev pub IsWrittenByJudge : Asked → GivenParts → Description → Option (List ℕ) → Option (List ℕ) → Result Verdict CaptureFault
     → Type 0
-IsWrittenOf asked given system old new answer =
+IsWrittenByJudge asked given system old new answer =
     OfTheText asked given system
     (λ plan text. IsWritten asked.complete asked.trace plan (buses_of system) (start_of text) old new answer)
 
 -- the fault is the first of the parts that make no system, or the first image of the system that is too long
-abbrev pub IsSystemFault : Asked → Given → SystemFault → Type 0
+abbrev pub IsSystemFault : Asked → GivenParts → SystemFault → Type 0
 IsSystemFault asked given fault =
     IsFirstFaultOf given.parts fault
     ⊎ (system : Description) × Makes given.parts system
@@ -84,41 +84,41 @@ is_lawful (Incomplete left) = false
 
 -- the system is the one that the parts make, and the verdict is the one over the capture; by `told` what is told with it
 -- was written
-pub record HasVerdict (asked : Asked) (given : Given) (old told : Option (List ℕ)) (system : Description)
+pub record HasVerdict (asked : Asked) (given : GivenParts) (old told : Option (List ℕ)) (system : Description)
     (verdict : Verdict) : Type 0 where
   pub made : Makes given.parts system
   pub is : IsVerdictOf asked given system verdict
-  pub tells : IsWrittenOf asked given system old told (Ok verdict)
+  pub tells : IsWrittenByJudge asked given system old told (Ok verdict)
 
 -- there is such a verdict, it is lawful or not as is answered, and what is told with it and then its line was written
-pub record IsJudged (asked : Asked) (given : Given) (old new : Option (List ℕ)) (lawful : Bool) : Type 0 where
+pub record IsJudged (asked : Asked) (given : GivenParts) (old new : Option (List ℕ)) (lawful : Bool) : Type 0 where
   pub system : Description
   pub verdict : Verdict
   pub told : Option (List ℕ)
   pub has : HasVerdict asked given old told system verdict
   pub answered : lawful ≡ is_lawful verdict
-  pub written : Appends told new (line_of (names_of system) verdict)
+  pub written : Appends told new (line_of (system_names system) verdict)
 
 -- there is a system, and this is answered of the capture; what is told before that was written
-pub record IsStopped (asked : Asked) (given : Given) (old new : Option (List ℕ)) (fault : CaptureFault) : Type 0 where
+pub record IsStopped (asked : Asked) (given : GivenParts) (old new : Option (List ℕ)) (fault : CaptureFault) : Type 0 where
   pub system : Description
   pub made : Makes given.parts system
   pub is : IsFaultOf asked given system fault
-  pub tells : IsWrittenOf asked given system old new (Err fault)
+  pub tells : IsWrittenByJudge asked given system old new (Err fault)
 
 -- there is a verdict, and what is told with it was written; of its line this
-pub record IsUntold (asked : Asked) (given : Given) (old new : Option (List ℕ))
+pub record IsUntold (asked : Asked) (given : GivenParts) (old new : Option (List ℕ))
     (OfLine : Option (List ℕ) → List ℕ → Type 0) : Type 0 where
   pub system : Description
   pub verdict : Verdict
   pub told : Option (List ℕ)
   pub has : HasVerdict asked given old told system verdict
-  pub line : OfLine told (line_of (names_of system) verdict)
+  pub line : OfLine told (line_of (system_names system) verdict)
 
 -- why there is no verdict, and what was written. A fault of the system is its first; one of the capture is one of its
 -- text. Before a verdict nothing is written but what is told; if a write failed, a front of that or of the verdict's line,
 -- and not all of it
-abbrev pub IsFaulty : Asked → Given → Option (List ℕ) → Option (List ℕ) → CheckFault → Type 0
+abbrev pub IsFaulty : Asked → GivenParts → Option (List ℕ) → Option (List ℕ) → CheckFault → Type 0
 IsFaulty asked given old new (check.System fault) = IsSystemFault asked given fault × Keeps old new
 IsFaulty asked given old new (check.Capture fault) = IsStopped asked given old new fault
 IsFaulty asked given old new check.Read = IsStopped asked given old new stop.Read
@@ -132,7 +132,7 @@ IsFaulty asked given old new check.Write =
 
 -- what was given, what the writer held before and holds after, and the answer: whether the capture is lawful, or why
 -- there is no verdict
-pub record IsChecked (asked : Asked) (given : Given) (old new : Option (List ℕ)) (result : Result Bool CheckFault)
+pub record IsChecked (asked : Asked) (given : GivenParts) (old new : Option (List ℕ)) (result : Result Bool CheckFault)
     : Type 0 where
   pub ok : IfOk result (IsJudged asked given old new)
   pub fault : IfErr result (IsFaulty asked given old new)
@@ -141,7 +141,7 @@ pub record IsChecked (asked : Asked) (given : Given) (old new : Option (List ℕ
 
 -- a text grew by what the rows of the capture cover that the verdict is of, if that is asked for; the verdict is the one
 -- that is answered, whether lawful or not
-pub record IsCounted (asked : Asked) (given : Given) (old new : List ℕ) (lawful : Bool) : Type 0 where
+pub record IsCounted (asked : Asked) (given : GivenParts) (old new : List ℕ) (lawful : Bool) : Type 0 where
   pub system : Description
   pub verdict : Verdict
   pub made : Makes given.parts system
@@ -164,7 +164,7 @@ pub record IsPrepared (asked : Asked) (parts : Parts) (images : List (List ℕ))
   pub trace : is_traced prepared.judge ≡ asked.trace
   pub complete : is_asked prepared.judge ≡ asked.complete
   pub coverage : is_covered prepared.judge ≡ asked.coverage
-  pub names : prepared.names ≡ names_of system
+  pub names : prepared.names ≡ system_names system
   pub masters : prepared.master_buses.items ≡ master_buses system.masters
   pub ports : prepared.port_buses.items ≡ port_buses system.ports
 

@@ -1,11 +1,11 @@
 -- What the program asks of a capture, and how it ends. This project's own.
 use Rattle.std.specs.Prelude.{ℕ, Bool, true, false, is_some}
-use Rattle.check_options.specs.declared.options.Options.{Options}
+use Rattle.check_options.specs.declared.options.CheckOptions.{CheckOptions}
 use Rattle.check_program.specs.declared.asked.Asked.{Asked}
 
 -- what the command line asks for
-abbrev pub asked_of : Options → Asked
-asked_of options = record {
+abbrev pub asked_by_options : CheckOptions → Asked
+asked_by_options options = record {
   terms = record { links = options.links; order = options.order };
   trace = options.trace;
   complete = options.complete;

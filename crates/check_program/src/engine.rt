@@ -17,7 +17,7 @@ use check_beats::Bus;
 use check_coverage::Coverage;
 use check_description::{Parts, describe};
 use check_lines::{Names, push_incomplete, push_lawful, push_unlawful};
-use check_map::{MAX_MASTERS, MAX_PORTS};
+use check_map::{MAX_JUDGED_MASTERS, MAX_JUDGED_PORTS};
 use check_review::Judge;
 use check_rows::Buses;
 use check_sides::Watch;
@@ -104,8 +104,8 @@ fn prepare(
 ) -> Result<Prepared, CheckFault>
     ensures prepared { IfOk result
         (IsPrepared asked (parts_view parts) (map (λ image. image.items) images.now)) }
-    ensures masters { IfOk result (λ prepared. length prepared.master_buses.items ≤ MAX_MASTERS) }
-    ensures ports { IfOk result (λ prepared. length prepared.port_buses.items ≤ MAX_PORTS) }
+    ensures masters { IfOk result (λ prepared. length prepared.master_buses.items ≤ MAX_JUDGED_MASTERS) }
+    ensures ports { IfOk result (λ prepared. length prepared.port_buses.items ≤ MAX_JUDGED_PORTS) }
     ensures buses { IfOk result (λ prepared. HasBuses prepared.judge.tally.watch.layout
         (with_buses prepared.master_buses.items prepared.port_buses.items)) }
     ensures fault { IfErr result
@@ -149,8 +149,8 @@ fn check_prepared<C: Read + Drop, W: Write>(
     writer: &mut LimitedWriter<'_, W>,
     covered: &mut Vec<u8>,
 ) -> Result<bool, CheckFault>
-    requires masters { length prepared.old.master_buses.items ≤ MAX_MASTERS }
-    requires ports { length prepared.old.port_buses.items ≤ MAX_PORTS }
+    requires masters { length prepared.old.master_buses.items ≤ MAX_JUDGED_MASTERS }
+    requires ports { length prepared.old.port_buses.items ≤ MAX_JUDGED_PORTS }
     requires buses { HasBuses prepared.old.judge.tally.watch.layout
         (with_buses prepared.old.master_buses.items prepared.old.port_buses.items) }
     ensures same_writer { writer.new.writer.ghost_name ≡ writer.old.writer.ghost_name }

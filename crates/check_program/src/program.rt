@@ -4,13 +4,13 @@ ghost use Rattle.std.specs.Process.{exit_status};
 ghost use Rattle.check_description.specs.File.{parts_view};
 ghost use Rattle.check_program.specs.Engine.{IsChecked, IsCounted};
 ghost use Rattle.check_program.specs.Fault.{status_of};
-ghost use Rattle.check_program.specs.Program.{asked_of, status_of_verdict};
+ghost use Rattle.check_program.specs.Program.{asked_by_options, status_of_verdict};
 
 use crate::asked::Asked;
 use crate::engine::check;
 use crate::fault::CheckFault;
 use check_description::Parts;
-use check_options::Options;
+use check_options::CheckOptions;
 use check_start::Terms;
 use std::alloc::Global;
 use std::io::{Eprint, Read, Write};
@@ -28,15 +28,15 @@ pub fn check_as_asked<C: Read + Drop, W: Write>(
     images: &[Vec<u8>],
     capture: C,
     writer: &mut W,
-    options: &Options<'_>,
+    options: &CheckOptions<'_>,
     covered: &mut Vec<u8>,
 ) -> Result<bool, CheckFault>
-    ensures checked { IsChecked (asked_of options.now) (record {
+    ensures checked { IsChecked (asked_by_options options.now) (record {
       parts = parts_view parts;
       images = map (λ image. image.items) images.now;
       capture = C.remaining capture;
     }) (W.contents writer.old) (W.contents writer.new) result }
-    ensures covered { IfOk result (IsCounted (asked_of options.now) (record {
+    ensures covered { IfOk result (IsCounted (asked_by_options options.now) (record {
       parts = parts_view parts;
       images = map (λ image. image.items) images.now;
       capture = C.remaining capture;
@@ -55,7 +55,7 @@ pub fn check_as_asked<C: Read + Drop, W: Write>(
 }
 
 /// Ends the program after a verdict, or with the line and the status of a fault.
-pub fn ended<R: Eprint>(rt: &R, outcome: Result<bool, CheckFault>) -> ExitCode
+pub fn end_check<R: Eprint>(rt: &R, outcome: Result<bool, CheckFault>) -> ExitCode
     ensures verdict { IfOk outcome (λ lawful. exit_status result ≡ status_of_verdict lawful) }
     ensures fault { IfErr outcome (λ fault. exit_status result ≡ status_of fault) }
 {

@@ -12,7 +12,7 @@ use std::io::Read;
 use tl_streams::{LimitedReader, ReadFault, read_up_to};
 
 /// Reads a system file to its end, and the parts that it names.
-pub fn read_system<R: Read>(alloc: Global, system: &mut R) -> Result<Parts, CheckFault>
+pub fn read_system_parts<R: Read>(alloc: Global, system: &mut R) -> Result<Parts, CheckFault>
     ensures ok { IfOk result (λ parts. GivesParts (R.remaining system.old) (R.remaining system.new)
         (parts_view parts)) }
     ensures fault { IfErr result (IsPartsFault (R.remaining system.old) (R.remaining system.new)) }

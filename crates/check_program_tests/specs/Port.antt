@@ -2,10 +2,10 @@
 use Rattle.std.specs.Prelude.{◌<◌, ◌≤◌, List, length, All}
 use Rattle.tl_map.specs.declared.map.Range.{Range}
 use Rattle.check_map.specs.Ranges.{IsLawfulRange}
-use Rattle.check_map.specs.declared.limits.TheConstants.{MAX_RANGES}
+use Rattle.check_map.specs.declared.limits.TheConstants.{MAX_RANGES_OF_PORT}
 
 -- one range or more, not too many, and each of them lawful
 pub record IsPort (ranges : List Range) : Type 0 where
   pub some : 0 < length ranges
-  pub few : length ranges ≤ MAX_RANGES
+  pub few : length ranges ≤ MAX_RANGES_OF_PORT
   pub each : All IsLawfulRange ranges

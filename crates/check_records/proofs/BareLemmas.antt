@@ -8,7 +8,7 @@ use Rattle.csv.specs.declared.parser.State.{State}
 use Rattle.csv.specs.declared.parser.State.TheVariants as st
 use Rattle.csv.specs.declared.parser.Action.{Action}
 use Rattle.csv.specs.declared.parser.Action.TheVariants as act
-use Rattle.check_records.specs.Draft.{EndsWith, GoesOn, Partial, action_at, behind}
+use Rattle.check_records.specs.Draft.{EndsWith, DraftGoesOn, Partial, action_at, text_behind}
 use Rattle.check_records.specs.Machine.{begins_field, ends_field}
 use Rattle.check_records.specs.Text.{is_line_end, line_feeds}
 use Rattle.check_records.proofs.FeedLemmas.{part-behind}
@@ -58,7 +58,7 @@ within p (byte ∷ bytes) = record {
 -- a record at the beginning of a field, and the bytes of it that are at hand
 pub record IsBare (p : Partial) (bytes : List ℕ) : Type 0 where
   pub none : p.field ≡ []
-  pub goes : GoesOn p bytes (within p bytes)
+  pub goes : DraftGoesOn p bytes (within p bytes)
 
 pub bare-none : (p : Partial) → p.field ≡ [] → IsBare p []
 bare-none p none = record { none = none; goes = goes-none p }
@@ -95,7 +95,7 @@ size-within p (b ∷ bytes) = refl
 
 joined : (p : Partial) (bytes : List ℕ) (byte : ℕ) → p.field ≡ []
     → step default_config (within p bytes).state byte ≡ (st.InField, act.Copy)
-    → behind (within p bytes) byte ≡ within p (bytes ++ byte ∷ [])
+    → text_behind (within p bytes) byte ≡ within p (bytes ++ byte ∷ [])
 joined p [] byte none is =
     let make : State × Action → List ℕ → Partial = λ does field. next p [] byte does field p.size in ap₂ make is none
 joined p (b ∷ bytes) byte none is =
@@ -116,7 +116,7 @@ bare-more p bytes byte bare first plain unquoted =
     let on : is_end (action_at (within p bytes) byte) ≡ false = ap (λ (does : State × Action). is_end does.1) is in
     record {
       none = bare.none;
-      goes = subst (GoesOn p (bytes ++ byte ∷ [])) (joined p bytes byte bare.none is)
+      goes = subst (DraftGoesOn p (bytes ++ byte ∷ [])) (joined p bytes byte bare.none is)
           (goes-more p (within p bytes) bytes byte bare.goes on);
     }
 
@@ -142,7 +142,7 @@ behind_comma p bytes = record {
 -- a comma
 bare-comma : (p : Partial) (bytes : List ℕ) → IsBare p bytes
     → (bytes ≡ [] → step default_config p.state 44 ≡ step default_config st.StartField 44)
-    → GoesOn p (bytes ++ 44 ∷ []) (behind_comma p bytes)
+    → DraftGoesOn p (bytes ++ 44 ∷ []) (behind_comma p bytes)
 bare-comma p bytes bare first =
     let q = within p bytes in
     let is = acts-behind p bytes 44 (st.StartField, act.EndField) first refl refl in
@@ -153,11 +153,11 @@ bare-comma p bytes bare first =
       field = field_after does.1 44 field;
       size = size + 1;
     } in
-    let same : behind q 44 ≡ behind_comma p bytes =
+    let same : text_behind q 44 ≡ behind_comma p bytes =
     ap (λ does. make does q.fields q.field q.size) is
     ∙ ap (λ fields. make (st.StartField, act.EndField) fields q.field q.size) (fields-within p bytes)
     ∙ ap₂ (make (st.StartField, act.EndField) p.fields) (field-within p bytes bare.none) (size-within p bytes) in
-    subst (GoesOn p (bytes ++ 44 ∷ [])) same (goes-more p q bytes 44 bare.goes on)
+    subst (DraftGoesOn p (bytes ++ 44 ∷ [])) same (goes-more p q bytes 44 bare.goes on)
 
 -- a byte that ends no field is no line feed
 pub no-feed : (byte : ℕ) → ends_field byte ≡ false → byte ≢ 10
@@ -309,8 +309,8 @@ parts text start i low inside =
 pub text-comma : (o : Partial) (fields : List (List ℕ)) (text : List ℕ) (start i : ℕ) → start ≤ i → i < length text
     → begins_field (behind_fields o fields start).state (get_or text start 0) ≡ true
     → IsBare (behind_fields o fields start) (slice_range text start i)
-    → GoesOn o (take start text) (behind_fields o fields start) → get_or text i 0 ≡ 44
-    → GoesOn o (take (i + 1) text) (behind_fields o (fields ++ (slice_range text start i ∷ [])) (i + 1))
+    → DraftGoesOn o (take start text) (behind_fields o fields start) → get_or text i 0 ≡ 44
+    → DraftGoesOn o (take (i + 1) text) (behind_fields o (fields ++ (slice_range text start i ∷ [])) (i + 1))
 text-comma o fields text start i low inside begins bare so_far comma =
     let p = behind_fields o fields start in
     let hand = slice_range text start i in
@@ -328,14 +328,14 @@ text-comma o fields text start i low inside begins bare so_far comma =
       size = size;
     } in
     let same : behind_comma p hand ≡ behind_fields o (fields ++ (hand ∷ [])) (i + 1) = ap₂ make (sym some) size in
-    subst (λ (q : Partial). GoesOn o (take (i + 1) text) q) same
-    (subst (λ (xs : List ℕ). GoesOn o xs (behind_comma p hand)) front
+    subst (λ (q : Partial). DraftGoesOn o (take (i + 1) text) q) same
+    (subst (λ (xs : List ℕ). DraftGoesOn o xs (behind_comma p hand)) front
     (goes-trans o p (behind_comma p hand) (take start text) (hand ++ 44 ∷ []) so_far (bare-comma p hand bare first)))
 
 -- a whole field, and the end of a line after it
 pub text-end : (o p : Partial) (text : List ℕ) (start i : ℕ) → start ≤ i → i < length text
     → begins_field p.state (get_or text start 0) ≡ true → IsBare p (slice_range text start i)
-    → GoesOn o (take start text) p → ends_field (get_or text i 0) ≡ true → get_or text i 0 ≢ 44
+    → DraftGoesOn o (take start text) p → ends_field (get_or text i 0) ≡ true → get_or text i 0 ≢ 44
     → EndsWith o (take (i + 1) text) (p.fields ++ (slice_range text start i ∷ []))
     (p.size + length (slice_range text start i))
 text-end o p text start i low inside begins bare so_far ends other =

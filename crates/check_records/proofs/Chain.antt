@@ -2,10 +2,10 @@
 use Rattle.std.proofs.Common.{ℕ, List, [], ◌∷◌, ◌++◌, Option, Some, None, refl}
 use Rattle.check_records.specs.Reading.{HaveRead, Reading}
 use Rattle.check_records.specs.Source.{Between}
-use Rattle.check_records.specs.Text.{Gives, Place, Reads, Row}
+use Rattle.check_records.specs.Text.{GivesRecord, TextPlace, Reads, RecordRow}
 use Rattle.check_records.proofs.KnownLemmas.{between-trans}
 
-pub reads-more : (a b c : Place) (rows : List Row) (row : Row) → Reads a rows b → Gives b row c
+pub reads-more : (a b c : TextPlace) (rows : List RecordRow) (row : RecordRow) → Reads a rows b → GivesRecord b row c
     → Reads a (rows ++ row ∷ []) c
 unfolding Reads
 reads-more a b c [] row so_far next = rw so_far (c, next, refl)
@@ -22,10 +22,10 @@ have-read-none a = none a.left.text
     none (Some text) = refl
 
 -- a read that answered true
-pub have-read-more : (a b c : Reading) (rows : List Row) → HaveRead a rows b
-    → Between b.left c.left (λ from to. Gives from c.row to)
+pub have-read-more : (a b c : Reading) (rows : List RecordRow) → HaveRead a rows b
+    → Between b.left c.left (λ from to. GivesRecord from c.row to)
     → HaveRead a (rows ++ c.row ∷ []) c
 have-read-more a b c rows so_far next =
-    between-trans a.left b.left c.left (λ from to. Reads from rows to) (λ from to. Gives from c.row to)
+    between-trans a.left b.left c.left (λ from to. Reads from rows to) (λ from to. GivesRecord from c.row to)
     (λ from to. Reads from (rows ++ c.row ∷ []) to)
     (λ x y z. reads-more x y z rows c.row) so_far next

@@ -4,28 +4,28 @@ use Rattle.std.proofs.lemmas.List.{take_more}
 use Rattle.csv.specs.Machine.{is_end, next_record, step}
 use Rattle.csv.specs.Reading.{default_config}
 use Rattle.csv.specs.declared.parser.Action.TheVariants as act
-use Rattle.check_records.specs.Draft.{EndsWith, GoesOn, Partial, action_at, becomes, behind, full_size}
+use Rattle.check_records.specs.Draft.{EndsWith, DraftGoesOn, Partial, action_at, becomes, text_behind, full_size}
 use Rattle.check_records.specs.Text.{bytes_from}
 use Rattle.check_records.proofs.TextLemmas.{split-at}
 use Rattle.check_records.specs.declared.draft.TheConstants.{MAX_ROW}
 
-pub goes-none : (p : Partial) → GoesOn p [] p
+pub goes-none : (p : Partial) → DraftGoesOn p [] p
 goes-none p = record { becomes = λ rest. refl; size = λ rest. refl }
 
-pub goes-trans : (a b c : Partial) (xs ys : List ℕ) → GoesOn a xs b → GoesOn b ys c → GoesOn a (xs ++ ys) c
+pub goes-trans : (a b c : Partial) (xs ys : List ℕ) → DraftGoesOn a xs b → DraftGoesOn b ys c → DraftGoesOn a (xs ++ ys) c
 goes-trans a b c xs ys one two = record {
   becomes = λ rest. ap (becomes a) (append_assoc xs ys rest) ∙ one.becomes (ys ++ rest) ∙ two.becomes rest;
   size = λ rest. ap (full_size a) (append_assoc xs ys rest) ∙ one.size (ys ++ rest) ∙ two.size rest;
 }
 
 -- a byte that does not end it
-goes-byte : (p : Partial) (byte : ℕ) → is_end (action_at p byte) ≡ false → GoesOn p (byte ∷ []) (behind p byte)
+goes-byte : (p : Partial) (byte : ℕ) → is_end (action_at p byte) ≡ false → DraftGoesOn p (byte ∷ []) (text_behind p byte)
 unfolding next_record bytes_from
 goes-byte p byte on = record { becomes = λ rest. rw on refl; size = λ rest. rw on (omega arith) }
 
-pub goes-more : (p q : Partial) (xs : List ℕ) (byte : ℕ) → GoesOn p xs q → is_end (action_at q byte) ≡ false
-    → GoesOn p (xs ++ byte ∷ []) (behind q byte)
-goes-more p q xs byte so_far on = goes-trans p q (behind q byte) xs (byte ∷ []) so_far (goes-byte q byte on)
+pub goes-more : (p q : Partial) (xs : List ℕ) (byte : ℕ) → DraftGoesOn p xs q → is_end (action_at q byte) ≡ false
+    → DraftGoesOn p (xs ++ byte ∷ []) (text_behind q byte)
+goes-more p q xs byte so_far on = goes-trans p q (text_behind q byte) xs (byte ∷ []) so_far (goes-byte q byte on)
 
 -- a byte that ends it
 ends-byte : (p : Partial) (byte : ℕ) → action_at p byte ≡ act.EndRecord
@@ -37,7 +37,7 @@ ends-byte p byte end = record {
   has_size = λ rest. rw end (omega arith);
 }
 
-pub ends-behind : (p q : Partial) (xs ys : List ℕ) (fields : List (List ℕ)) (size : ℕ) → GoesOn p xs q
+pub ends-behind : (p q : Partial) (xs ys : List ℕ) (fields : List (List ℕ)) (size : ℕ) → DraftGoesOn p xs q
     → EndsWith q ys fields size
     → EndsWith p (xs ++ ys) fields size
 ends-behind p q xs ys fields size so_far ends = record {
@@ -46,13 +46,13 @@ ends-behind p q xs ys fields size so_far ends = record {
   has_size = λ rest. ap (full_size p) (append_assoc xs ys rest) ∙ so_far.size (ys ++ rest) ∙ ends.has_size rest;
 }
 
-pub ends-more : (p q : Partial) (xs : List ℕ) (byte : ℕ) → GoesOn p xs q → action_at q byte ≡ act.EndRecord
+pub ends-more : (p q : Partial) (xs : List ℕ) (byte : ℕ) → DraftGoesOn p xs q → action_at q byte ≡ act.EndRecord
     → EndsWith p (xs ++ byte ∷ []) (q.fields ++ (q.field ∷ [])) q.size
 ends-more p q xs byte so_far end =
     ends-behind p q xs (byte ∷ []) (q.fields ++ (q.field ∷ [])) q.size so_far (ends-byte q byte end)
 
 -- a byte more than a record may have
-pub long-more : (p q : Partial) (xs : List ℕ) (byte : ℕ) (rest : List ℕ) → GoesOn p xs q
+pub long-more : (p q : Partial) (xs : List ℕ) (byte : ℕ) (rest : List ℕ) → DraftGoesOn p xs q
     → is_end (action_at q byte) ≡ false → MAX_ROW ≤ q.size
     → MAX_ROW < full_size p (xs ++ (byte ∷ rest))
 unfolding bytes_from
@@ -64,19 +64,19 @@ long-more p q xs byte rest so_far on full =
 
 -- ---- the next byte of a text
 
-pub feed-more : (p q : Partial) (text : List ℕ) (i : ℕ) → i < length text → GoesOn p (take i text) q
+pub feed-more : (p q : Partial) (text : List ℕ) (i : ℕ) → i < length text → DraftGoesOn p (take i text) q
     → is_end (action_at q (get_or text i 0)) ≡ false
-    → GoesOn p (take (i + 1) text) (behind q (get_or text i 0))
+    → DraftGoesOn p (take (i + 1) text) (text_behind q (get_or text i 0))
 feed-more p q text i inside so_far on =
     rw (take_more text i 0 inside) (goes-more p q (take i text) (get_or text i 0) so_far on)
 
-pub feed-ends : (p q : Partial) (text : List ℕ) (i : ℕ) → i < length text → GoesOn p (take i text) q
+pub feed-ends : (p q : Partial) (text : List ℕ) (i : ℕ) → i < length text → DraftGoesOn p (take i text) q
     → action_at q (get_or text i 0) ≡ act.EndRecord
     → EndsWith p (take (i + 1) text) (q.fields ++ (q.field ∷ [])) q.size
 feed-ends p q text i inside so_far end =
     rw (take_more text i 0 inside) (ends-more p q (take i text) (get_or text i 0) so_far end)
 
-pub feed-long : (p q : Partial) (text : List ℕ) (i : ℕ) → i < length text → GoesOn p (take i text) q
+pub feed-long : (p q : Partial) (text : List ℕ) (i : ℕ) → i < length text → DraftGoesOn p (take i text) q
     → is_end (action_at q (get_or text i 0)) ≡ false
     → MAX_ROW ≤ q.size → (rest : List ℕ) → MAX_ROW < full_size p (text ++ rest)
 feed-long p q text i inside so_far on full rest =

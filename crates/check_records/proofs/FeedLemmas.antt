@@ -1,7 +1,7 @@
 -- A text that is fed in two parts.
 use Rattle.std.proofs.Common.{◌≡◌, ℕ, ◌+◌, ◌-◌, ◌<◌, ◌≤◌, Bool, true, false, List, ◌++◌, take, drop, length, slice_range, sym, ap, ◌∙◌, subst, arith, append_assoc, length-drop, take-add, take-append-drop}
 use Rattle.std.proofs.lemmas.List.{take_all}
-use Rattle.check_records.specs.Draft.{EndsWith, FeedsTo, GoesOn, Partial, full_size, partial}
+use Rattle.check_records.specs.Draft.{EndsWith, FeedsTo, DraftGoesOn, Partial, full_size, partial}
 use Rattle.check_records.specs.declared.draft.Draft.{Draft}
 use Rattle.check_records.specs.declared.draft.Fed.{Fed}
 use Rattle.check_records.specs.declared.draft.TheConstants.{MAX_ROW}
@@ -14,7 +14,7 @@ part-behind text n inside = take_all (length text - n) (drop n text) (omega (ari
 
 -- the second part ends the record, or it goes on
 pub feeds-on : (old mid new : Draft) (text : List ℕ) (n : ℕ) (rest whole : Fed) (ended : Bool) → n ≤ length text
-    → GoesOn (partial old) (take n text) (partial mid) → FeedsTo mid (drop n text) new rest ended
+    → DraftGoesOn (partial old) (take n text) (partial mid) → FeedsTo mid (drop n text) new rest ended
     → whole.taken ≡ n + rest.taken
     → FeedsTo old text new whole ended
 feeds-on old mid new text n rest whole true inside on feeds sum = (
@@ -28,13 +28,13 @@ feeds-on old mid new text n rest whole true inside on feeds sum = (
 feeds-on old mid new text n rest whole false inside on feeds sum =
     let all = feeds.0 in (
       omega (arith, all, sum, length-drop n text),
-      subst (λ (xs : List ℕ). GoesOn (partial old) xs (partial new)) (take-append-drop n text)
+      subst (λ (xs : List ℕ). DraftGoesOn (partial old) xs (partial new)) (take-append-drop n text)
           (goes-trans (partial old) (partial mid) (partial new) (take n text) (drop n text) on feeds.1),
       feeds.2,
     )
 
 -- the second part makes it too long
-pub long-on : (o p : Partial) (text : List ℕ) (n : ℕ) → GoesOn o (take n text) p
+pub long-on : (o p : Partial) (text : List ℕ) (n : ℕ) → DraftGoesOn o (take n text) p
     → ((rest : List ℕ) → MAX_ROW < full_size p (drop n text ++ rest))
     → (rest : List ℕ) → MAX_ROW < full_size o (text ++ rest)
 long-on o p text n on long rest =

@@ -2,8 +2,8 @@
 use Rattle.std.proofs.Common.{◌≡◌, ℕ, ◌+◌, ◌-◌, ◌≤◌, slice_range, arith, drop-drop, List, [], ◌++◌, take, drop, Option, Some, None, refl, sym, ap, ◌∙◌}
 use Rattle.std.proofs.lemmas.List.{drop-take}
 use Rattle.std.specs.Io.KnownBytes.{Consumes, Keeps, prepend_known}
-use Rattle.check_records.specs.Source.{Between, Both, Left}
-use Rattle.check_records.specs.Text.{Place}
+use Rattle.check_records.specs.Source.{Between, Both, TextLeft}
+use Rattle.check_records.specs.Text.{TextPlace}
 
 pub both-trans : (a b c : Option (List ℕ)) (P Q S : List ℕ → List ℕ → Type 0)
     → ((x y z : List ℕ) → P x y → Q y z → S x z)
@@ -13,7 +13,7 @@ both-trans (Some x) None c P Q S join one two = absurd one
 both-trans (Some x) (Some y) None P Q S join one two = absurd two
 both-trans (Some x) (Some y) (Some z) P Q S join one two = join x y z one two
 
-pub between-trans : (a b c : Left) (P Q S : Place → Place → Type 0) → ((x y z : Place) → P x y → Q y z → S x z)
+pub between-trans : (a b c : TextLeft) (P Q S : TextPlace → TextPlace → Type 0) → ((x y z : TextPlace) → P x y → Q y z → S x z)
     → Between a b P → Between b c Q → Between a c S
 between-trans a b c P Q S join one two =
     both-trans a.text b.text c.text

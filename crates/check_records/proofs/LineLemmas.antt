@@ -10,7 +10,7 @@ use Rattle.csv.specs.Reading.{default_config}
 use Rattle.csv.specs.declared.parser.State.{State}
 use Rattle.csv.specs.declared.parser.State.TheVariants as st
 use Rattle.csv.specs.declared.parser.Action.TheVariants as act
-use Rattle.check_records.specs.Bare.{IsBareLine, parts_of, stops_bare}
+use Rattle.check_records.specs.Bare.{IsBareLine, comma_parts, stops_bare}
 use Rattle.check_records.specs.Draft.{EndsWith}
 use Rattle.check_records.specs.Text.{bytes_from, is_line_end, line_feeds}
 use Rattle.check_records.proofs.TextLemmas.{feeds-more, feeds-no}
@@ -54,7 +54,7 @@ join_first field [] = field ∷ []
 join_first field (part ∷ parts) = (field ++ part) ∷ parts
 
 -- there is a part
-some-part : (line : List ℕ) → 0 < length (parts_of line)
+some-part : (line : List ℕ) → 0 < length (comma_parts line)
 some-part line = let size = length-slice_split (λ (byte : ℕ). byte == 44) line in omega (arith, size)
 
 join-none : (parts : List (List ℕ)) → 0 < length parts → join_first [] parts ≡ parts
@@ -70,7 +70,7 @@ join-onto field byte (part ∷ parts) = ap (λ (xs : List ℕ). xs ∷ parts) (a
 line-reads : (line rest : List ℕ) (end : ℕ) (state : State) (fields : List (List ℕ)) (field : List ℕ) → IsOpen state
     → All (λ byte. stops_bare byte ≡ false) line → is_line_end end ≡ true
     → next_record default_config state fields field (line ++ end ∷ rest)
-    ≡ Some (fields ++ join_first field (parts_of line), after end, rest)
+    ≡ Some (fields ++ join_first field (comma_parts line), after end, rest)
 unfolding next_record
 line-reads [] rest end state fields field opens plain ends =
     rw (opens.ends end ends)
@@ -85,20 +85,20 @@ line-reads (byte ∷ line) rest end state fields field opens plain ends =
     go : (comma : Bool) → (byte == 44) ≡ comma
         → ((next : State) (all : List (List ℕ)) (at_hand : List ℕ) → IsOpen next
         → next_record default_config next all at_hand (line ++ end ∷ rest)
-        ≡ Some (all ++ join_first at_hand (parts_of line), after end, rest))
+        ≡ Some (all ++ join_first at_hand (comma_parts line), after end, rest))
         → next_record default_config state fields field (byte ∷ (line ++ end ∷ rest))
-        ≡ Some (fields ++ join_first field (parts_of (byte ∷ line)), after end, rest)
+        ≡ Some (fields ++ join_first field (comma_parts (byte ∷ line)), after end, rest)
     go true is more =
         let does : step default_config state byte ≡ (st.StartField, act.EndField) =
         opens.takes byte here
         ∙ ap (λ (c : Bool). cond c (st.StartField, act.EndField) (st.InField, act.Copy)) is in
         let parts = slice_split-cons_yes (λ (c : ℕ). c == 44) byte line is in
-        let tail : join_first [] (parts_of line) ≡ parts_of line = join-none (parts_of line) (some-part line) in
+        let tail : join_first [] (comma_parts line) ≡ comma_parts line = join-none (comma_parts line) (some-part line) in
         rw does
         (more st.StartField (fields ++ field ∷ []) [] open-start
-        ∙ ap (λ (all : List (List ℕ)). Some (all, after end, rest)) (append_assoc fields (field ∷ []) (join_first [] (parts_of line))
+        ∙ ap (λ (all : List (List ℕ)). Some (all, after end, rest)) (append_assoc fields (field ∷ []) (join_first [] (comma_parts line))
         ∙ ap (λ (xs : List (List ℕ)). fields ++ field ∷ xs) tail
-        ∙ ap (λ (xs : List ℕ). fields ++ xs ∷ parts_of line) (sym (append-nil field))
+        ∙ ap (λ (xs : List ℕ). fields ++ xs ∷ comma_parts line) (sym (append-nil field))
         ∙ ap (λ (xs : List (List ℕ)). fields ++ join_first field xs) (sym parts)))
     go false is more =
         let does : step default_config state byte ≡ (st.InField, act.Copy) =
@@ -108,7 +108,7 @@ line-reads (byte ∷ line) rest end state fields field opens plain ends =
         rw does
         (more st.InField fields (field ++ byte ∷ []) open-field
         ∙ ap (λ (all : List (List ℕ)). Some (all, after end, rest)) (ap (λ (xs : List (List ℕ)). fields ++ xs)
-        (join-onto field byte (parts_of line) ∙ ap (join_first field) (sym parts))))
+        (join-onto field byte (comma_parts line) ∙ ap (join_first field) (sym parts))))
 
 -- the bytes of the record are those of the line
 line-bytes : (line rest : List ℕ) (end : ℕ) (state : State) → IsOpen state
@@ -171,7 +171,7 @@ all-plain (byte ∷ text) (suc n) inside plain =
     go rest (suc k) d below = rest k d (omega (arith, below))
 
 pub bare-ends : (text : List ℕ) (n : ℕ) → IsBareLine text n → is_line_end (get_or text 0 0) ≡ false
-    → EndsWith blank (take (n + 1) text) (parts_of (take n text)) n
+    → EndsWith blank (take (n + 1) text) (comma_parts (take n text)) n
 bare-ends [] n line first = absurd (let inside = line.inside in omega (arith, inside))
 bare-ends (byte ∷ text) zero line first = absurd (false≢true (sym first ∙ line.ends))
 bare-ends (byte ∷ text) (suc n) line first =
@@ -185,7 +185,7 @@ bare-ends (byte ∷ text) (suc n) line first =
           ap (next_record default_config st.StartRecord [] []) (line-parts whole (suc n) rest line.inside)
           ∙ start-reads byte (take n text ++ end ∷ rest) first
           ∙ line-reads front rest end st.StartField [] [] open-start plain line.ends
-          ∙ ap (λ (xs : List (List ℕ)). Some (xs, after end, rest)) (join-none (parts_of front) (some-part front));
+          ∙ ap (λ (xs : List (List ℕ)). Some (xs, after end, rest)) (join-none (comma_parts front) (some-part front));
       has_size = λ rest.
           let bytes : bytes_from st.StartRecord (take (suc n + 1) whole ++ rest) ≡ front =
           ap (bytes_from st.StartRecord) (line-parts whole (suc n) rest line.inside)

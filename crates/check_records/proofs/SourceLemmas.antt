@@ -5,10 +5,10 @@ use Rattle.std.specs.List.{AllPass}
 use Rattle.std.specs.Result.{IfOk}
 use Rattle.std.specs.Io.KnownBytes.{IsAtEnd, Keeps, prepend_known}
 use Rattle.csv.specs.Machine.{ends_at_end}
-use Rattle.check_records.specs.Draft.{EndsWith, GoesOn, Partial, full_size}
-use Rattle.check_records.specs.Reading.{Answers, StopsLong}
-use Rattle.check_records.specs.Source.{Between, HasFirst, HasSameNext, Left, at_hand, left, left_of}
-use Rattle.check_records.specs.Text.{Ends, Gives, Place, Row, is_line_end, line_feeds}
+use Rattle.check_records.specs.Draft.{EndsWith, DraftGoesOn, Partial, full_size}
+use Rattle.check_records.specs.Reading.{AnswersRow, StopsLong}
+use Rattle.check_records.specs.Source.{Between, HasFirst, HasSameNext, TextLeft, at_hand, left, text_left}
+use Rattle.check_records.specs.Text.{Ends, GivesRecord, TextPlace, RecordRow, is_line_end, line_feeds}
 use Rattle.check_records.specs.declared.draft.TheConstants.{MAX_ROW}
 use Rattle.check_records.specs.declared.fault.RecordFault.{RecordFault}
 use Rattle.check_records.specs.declared.source.Source.{Source}
@@ -32,7 +32,7 @@ parts count hand rest =
     ∙ append_assoc (take count hand) (drop count hand) rest
 
 pub advanced : {R : Type 0} (remaining : R → Option (List ℕ)) (old new : Source R) (count feeds : ℕ)
-    (P : Place → Place → Type 0)
+    (P : TextPlace → TextPlace → Type 0)
     → IsAdvance old count feeds new
     → ((rest : List ℕ) → P (record { line = old.line; text = at_hand old ++ rest })
     (record { line = old.line + line_feeds (take count (at_hand old)); text = drop count (at_hand old) ++ rest }))
@@ -59,7 +59,7 @@ skipped remaining old new count feeds is all =
 -- nothing was at hand, and what the reader had is left
 pub record IsRefill {R : Type 0} (remaining : R → Option (List ℕ)) (old new : Source R) : Type 0 where
   pub none : at_hand old ≡ []
-  pub text : Keeps (remaining old.reader) (left_of remaining new)
+  pub text : Keeps (remaining old.reader) (text_left remaining new)
   pub line_is : new.line ≡ old.line
 
 kept : (a b : Option (List ℕ)) (line : ℕ) → Keeps a b
@@ -67,17 +67,17 @@ kept : (a b : Option (List ℕ)) (line : ℕ) → Keeps a b
 kept None b line keeps = tt
 kept (Some xs) None line keeps = absurd keeps
 kept (Some xs) (Some ys) line keeps =
-    let at : List ℕ → Place = λ text. record { line = line; text = text } in ap at keeps
+    let at : List ℕ → TextPlace = λ text. record { line = line; text = text } in ap at keeps
 
 pub refilled : {R : Type 0} (remaining : R → Option (List ℕ)) (old new : Source R) → IsRefill remaining old new
     → Between (left remaining old) (left remaining new) (λ from to. to ≡ from)
 refilled remaining old new is =
     rw (is.none, is.line_is) (rw (prepend-none (remaining old.reader))
-    (kept (remaining old.reader) (left_of remaining new) old.line is.text))
+    (kept (remaining old.reader) (text_left remaining new) old.line is.text))
 
 -- a relation to a place goes on over a refill
-pub between-refill : {R : Type 0} (remaining : R → Option (List ℕ)) (from : Left) (old new : Source R)
-    (P : Place → Place → Type 0)
+pub between-refill : {R : Type 0} (remaining : R → Option (List ℕ)) (from : TextLeft) (old new : Source R)
+    (P : TextPlace → TextPlace → Type 0)
     → Between from (left remaining old) P → IsRefill remaining old new → Between from (left remaining new) P
 between-refill remaining from old new P so_far is =
     between-trans from (left remaining old) (left remaining new) P (λ a b. b ≡ a) P
@@ -96,15 +96,15 @@ within-first remaining source first =
     (λ rest. within-begin source.line (at_hand source) rest first.0 first.1)
 
 -- what is so of each place at which it may have begun
-abbrev pub Carries : Partial → ℕ → (Place → Place → Type 0) → Place → Place → Type 0
-Carries p row P here to = (from : Place) → IsWithin from p row here → P from to
+abbrev pub Carries : Partial → ℕ → (TextPlace → TextPlace → Type 0) → TextPlace → TextPlace → Type 0
+Carries p row P here to = (from : TextPlace) → IsWithin from p row here → P from to
 
 -- all bytes at hand belong to it
-pub within-advance : {R : Type 0} (remaining : R → Option (List ℕ)) (from : Left) (old new : Source R) (p q : Partial)
+pub within-advance : {R : Type 0} (remaining : R → Option (List ℕ)) (from : TextLeft) (old new : Source R) (p q : Partial)
     (row count feeds : ℕ)
     → Between from (left remaining old) (λ a b. IsWithin a p row b) → IsAdvance old count feeds new
     → count ≡ length (at_hand old)
-    → GoesOn p (at_hand old) q → Between from (left remaining new) (λ a b. IsWithin a q row b)
+    → DraftGoesOn p (at_hand old) q → Between from (left remaining new) (λ a b. IsWithin a q row b)
 within-advance remaining from old new p q row count feeds so_far is all on =
     between-trans from (left remaining old) (left remaining new) (λ a b. IsWithin a p row b)
     (Carries p row (λ a b. IsWithin a q row b))
@@ -118,23 +118,23 @@ within-advance remaining from old new p q row count feeds so_far is all on =
     (within-more x p q row old.line (at_hand old) rest within on)))
 
 -- the bytes that were taken end it
-pub gives-advance : {R : Type 0} (remaining : R → Option (List ℕ)) (from : Left) (old new : Source R) (p : Partial)
+pub gives-advance : {R : Type 0} (remaining : R → Option (List ℕ)) (from : TextLeft) (old new : Source R) (p : Partial)
     (row count feeds size : ℕ)
     (fields : List (List ℕ)) → Between from (left remaining old) (λ a b. IsWithin a p row b)
     → IsAdvance old count feeds new
     → EndsWith p (take count (at_hand old)) fields size → size ≤ MAX_ROW
-    → Between from (left remaining new) (λ a b. Gives a (record { line = row; fields = fields }) b)
+    → Between from (left remaining new) (λ a b. GivesRecord a (record { line = row; fields = fields }) b)
 gives-advance remaining from old new p row count feeds size fields so_far is ends short =
     between-trans from (left remaining old) (left remaining new) (λ a b. IsWithin a p row b)
-    (Carries p row (λ a b. Gives a (record { line = row; fields = fields }) b))
-    (λ a b. Gives a (record { line = row; fields = fields }) b)
+    (Carries p row (λ a b. GivesRecord a (record { line = row; fields = fields }) b))
+    (λ a b. GivesRecord a (record { line = row; fields = fields }) b)
     (λ x y z within carry. carry x within) so_far
     (advanced remaining old new count feeds (Carries p row
-    (λ a b. Gives a (record { line = row; fields = fields }) b)) is (λ rest x within.
+    (λ a b. GivesRecord a (record { line = row; fields = fields }) b)) is (λ rest x within.
     gives-end x p row old.line size count fields (at_hand old) rest within ends short))
 
 -- it gets too long
-long-known : (from : Left) (line : ℕ) (hand : List ℕ) (known : Option (List ℕ)) (p : Partial) (row : ℕ)
+long-known : (from : TextLeft) (line : ℕ) (hand : List ℕ) (known : Option (List ℕ)) (p : Partial) (row : ℕ)
     → Between from (record { line = line; text = prepend_known hand known }) (λ a b. IsWithin a p row b)
     → ((rest : List ℕ) → MAX_ROW < full_size p (hand ++ rest)) → StopsLong from row
 long-known from line hand known p row so_far long = go from.text known so_far
@@ -148,7 +148,7 @@ long-known from line hand known p row so_far long = go from.text known so_far
     go (Some xs) (Some rest) within =
         long-within (record { line = from.line; text = xs }) p row line (hand ++ rest) within (long rest)
 
-pub long-hand : {R : Type 0} (remaining : R → Option (List ℕ)) (from : Left) (source : Source R) (p : Partial) (row : ℕ)
+pub long-hand : {R : Type 0} (remaining : R → Option (List ℕ)) (from : TextLeft) (source : Source R) (p : Partial) (row : ℕ)
     → Between from (left remaining source) (λ a b. IsWithin a p row b)
     → ((rest : List ℕ) → MAX_ROW < full_size p (at_hand source ++ rest))
     → StopsLong from row
@@ -158,7 +158,7 @@ long-hand remaining from source p row so_far long =
 -- ---- the end of the text
 
 -- no byte is left
-at-end : {R : Type 0} (remaining : R → Option (List ℕ)) (source : Source R) (P : Place → Place → Type 0)
+at-end : {R : Type 0} (remaining : R → Option (List ℕ)) (source : Source R) (P : TextPlace → TextPlace → Type 0)
     → at_hand source ≡ []
     → IsAtEnd (remaining source.reader)
     → P (record { line = source.line; text = [] }) (record { line = source.line; text = [] })
@@ -172,24 +172,24 @@ at-end remaining source P none end is = rw none (go (remaining source.reader) en
     go (Some xs) end = rw end is
 
 -- it ends there
-pub gives-at-end : {R : Type 0} (remaining : R → Option (List ℕ)) (from : Left) (source : Source R) (p : Partial)
+pub gives-at-end : {R : Type 0} (remaining : R → Option (List ℕ)) (from : TextLeft) (source : Source R) (p : Partial)
     (row : ℕ)
     → Between from (left remaining source) (λ a b. IsWithin a p row b) → at_hand source ≡ []
     → IsAtEnd (remaining source.reader)
     → ends_at_end p.state ≡ true → p.size ≤ MAX_ROW
-    → Between from (left remaining source) (λ a b. Gives a
+    → Between from (left remaining source) (λ a b. GivesRecord a
     (record { line = row; fields = p.fields ++ (p.field ∷ []) }) b)
 gives-at-end remaining from source p row so_far none end ends short =
     between-trans from (left remaining source) (left remaining source) (λ a b. IsWithin a p row b)
-    (Carries p row (λ a b. Gives a (record { line = row; fields = p.fields ++ (p.field ∷ []) }) b))
-    (λ a b. Gives a (record { line = row; fields = p.fields ++ (p.field ∷ []) }) b)
+    (Carries p row (λ a b. GivesRecord a (record { line = row; fields = p.fields ++ (p.field ∷ []) }) b))
+    (λ a b. GivesRecord a (record { line = row; fields = p.fields ++ (p.field ∷ []) }) b)
     (λ x y z within carry. carry x within) so_far
-    (at-end remaining source (Carries p row (λ a b. Gives a
+    (at-end remaining source (Carries p row (λ a b. GivesRecord a
     (record { line = row; fields = p.fields ++ (p.field ∷ []) }) b)) none end
     (λ x within. gives-last x p row source.line within ends short))
 
 -- or there was none
-pub ends-at-end : {R : Type 0} (remaining : R → Option (List ℕ)) (from : Left) (source : Source R) (p : Partial)
+pub ends-at-end : {R : Type 0} (remaining : R → Option (List ℕ)) (from : TextLeft) (source : Source R) (p : Partial)
     (row : ℕ)
     → Between from (left remaining source) (λ a b. IsWithin a p row b) → at_hand source ≡ []
     → IsAtEnd (remaining source.reader)
@@ -201,7 +201,7 @@ ends-at-end remaining from source p row so_far none end ends =
     (at-end remaining source (Carries p row Ends) none end (λ x within. ends-last x p row source.line within ends))
 
 -- after ends of lines
-pub ends-behind-lines : {R : Type 0} (remaining : R → Option (List ℕ)) (from : Left) (source : Source R)
+pub ends-behind-lines : {R : Type 0} (remaining : R → Option (List ℕ)) (from : TextLeft) (source : Source R)
     → Between from (left remaining source) HasSameNext → HasFirst remaining source false
     → Between from (left remaining source) Ends
 ends-behind-lines remaining from source same first =
@@ -210,17 +210,17 @@ ends-behind-lines remaining from source same first =
     (at-end remaining source Ends first.0 first.1 (ends-none source.line))
 
 -- a record after them
-pub gives-behind-lines : (from here to : Left) (row : Row) → Between from here HasSameNext
-    → Between here to (λ a b. Gives a row b)
-    → Between from to (λ a b. Gives a row b)
+pub gives-behind-lines : (from here to : TextLeft) (row : RecordRow) → Between from here HasSameNext
+    → Between here to (λ a b. GivesRecord a row b)
+    → Between from to (λ a b. GivesRecord a row b)
 gives-behind-lines from here to row same gives =
-    between-trans from here to HasSameNext (λ a b. Gives a row b) (λ a b. Gives a row b)
+    between-trans from here to HasSameNext (λ a b. GivesRecord a row b) (λ a b. GivesRecord a row b)
     (λ x y z. gives-same x y z row) same gives
 
-pub ends-behind : (from here to : Left) → Between from here HasSameNext → Between here to Ends → Between from to Ends
+pub ends-behind : (from here to : TextLeft) → Between from here HasSameNext → Between here to Ends → Between from to Ends
 ends-behind from here to same ends = between-trans from here to HasSameNext Ends Ends ends-same same ends
 
-pub stops-behind-lines : (from here : Left) (line : ℕ) → Between from here HasSameNext → StopsLong here line
+pub stops-behind-lines : (from here : TextLeft) (line : ℕ) → Between from here HasSameNext → StopsLong here line
     → StopsLong from line
 stops-behind-lines from here line same long = go from.text here.text same long
   where
@@ -235,17 +235,17 @@ stops-behind-lines from here line same long = go from.text here.text same long
 
 -- ---- what a read answers at the end of the text
 
-pub answers-at-end : {R : Type 0} (remaining : R → Option (List ℕ)) (from : Left) (source : Source R) (p : Partial)
-    (line : ℕ) (row : Row)
+pub answers-at-end : {R : Type 0} (remaining : R → Option (List ℕ)) (from : TextLeft) (source : Source R) (p : Partial)
+    (line : ℕ) (row : RecordRow)
     (r : Result Bool RecordFault) → Between from (left remaining source) (λ a b. IsWithin a p line b)
     → at_hand source ≡ []
     → IsAtEnd (remaining source.reader) → p.size ≤ MAX_ROW → IfOk r (λ ends. ends ≡ ends_at_end p.state)
     → (r ≡ Ok true → row.fields ≡ p.fields ++ (p.field ∷ [])) → row.line ≡ line
-    → IfOk r (Answers from (left remaining source) row)
+    → IfOk r (AnswersRow from (left remaining source) row)
 answers-at-end remaining from source p line row (Ok true) within none end short ends fields same =
-    let make : ℕ → List (List ℕ) → Row = λ at of. record { line = at; fields = of } in
+    let make : ℕ → List (List ℕ) → RecordRow = λ at of. record { line = at; fields = of } in
     let is : row ≡ make line (p.fields ++ (p.field ∷ [])) = ap₂ make same (fields refl) in
-    subst (λ (w : Row). Between from (left remaining source) (λ a b. Gives a w b)) (sym is)
+    subst (λ (w : RecordRow). Between from (left remaining source) (λ a b. GivesRecord a w b)) (sym is)
     (gives-at-end remaining from source p line within none end (sym ends) short)
 answers-at-end remaining from source p line row (Ok false) within none end short ends fields same =
     ends-at-end remaining from source p line within none end (sym ends)

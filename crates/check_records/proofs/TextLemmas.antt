@@ -9,7 +9,7 @@ use Rattle.csv.specs.Machine.{next_record}
 use Rattle.csv.specs.Reading.{default_config}
 use Rattle.csv.specs.declared.parser.State.TheVariants as st
 use Rattle.check_records.specs.Source.{HasSameNext}
-use Rattle.check_records.specs.Text.{Place, bytes_from, ends_before, from_record, is_line_end, line_feeds, record_line}
+use Rattle.check_records.specs.Text.{TextPlace, bytes_from, ends_before, from_record, is_line_end, line_feeds, record_line}
 
 -- ---- line feeds
 
@@ -110,10 +110,10 @@ same-skip line front rest all =
       lines = omega (arith, whole);
     }
 
-pub same-none : (place : Place) → HasSameNext place place
+pub same-none : (place : TextPlace) → HasSameNext place place
 same-none place = record { reads = refl; bytes = refl; begins = refl; lines = refl }
 
-pub same-trans : (a b c : Place) → HasSameNext a b → HasSameNext b c → HasSameNext a c
+pub same-trans : (a b c : TextPlace) → HasSameNext a b → HasSameNext b c → HasSameNext a c
 same-trans a b c one two = record {
   reads = one.reads ∙ two.reads;
   bytes = one.bytes ∙ two.bytes;

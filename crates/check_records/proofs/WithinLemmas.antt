@@ -3,14 +3,14 @@ use Rattle.std.proofs.Common.{◌≡◌, ℕ, ◌+◌, ◌<◌, ◌≤◌, true,
 use Rattle.csv.specs.Machine.{ends_at_end, next_record}
 use Rattle.csv.specs.Reading.{default_config}
 use Rattle.csv.specs.declared.parser.State.TheVariants as st
-use Rattle.check_records.specs.Draft.{EndsWith, GoesOn, Partial, becomes, full_size}
+use Rattle.check_records.specs.Draft.{EndsWith, DraftGoesOn, Partial, becomes, full_size}
 use Rattle.check_records.specs.Source.{HasSameNext}
-use Rattle.check_records.specs.Text.{Ends, Gives, IsTooLong, Place, Row, bytes_from, is_line_end, line_feeds, record_bytes, record_line}
+use Rattle.check_records.specs.Text.{Ends, GivesRecord, IsTooLong, TextPlace, RecordRow, bytes_from, is_line_end, line_feeds, record_bytes, record_line}
 use Rattle.check_records.specs.declared.draft.TheConstants.{MAX_ROW}
 use Rattle.check_records.proofs.TextLemmas.{feeds-append, from-first, line-first}
 
 -- the record at hand, which begins on this line, is the next of the one place, and the other place is within it
-pub record IsWithin (from : Place) (p : Partial) (line : ℕ) (to : Place) : Type 0 where
+pub record IsWithin (from : TextPlace) (p : Partial) (line : ℕ) (to : TextPlace) : Type 0 where
   pub reads : next_record default_config st.StartRecord [] [] from.text ≡ becomes p to.text
   pub size : length (record_bytes from.text) ≡ full_size p to.text
   pub begins : line ≡ record_line from
@@ -35,8 +35,8 @@ within-begin line (byte ∷ more) rest some first =
     }
 
 -- bytes that belong to it
-pub within-more : (from : Place) (p q : Partial) (row line : ℕ) (bytes rest : List ℕ)
-    → IsWithin from p row (record { line = line; text = bytes ++ rest }) → GoesOn p bytes q
+pub within-more : (from : TextPlace) (p q : Partial) (row line : ℕ) (bytes rest : List ℕ)
+    → IsWithin from p row (record { line = line; text = bytes ++ rest }) → DraftGoesOn p bytes q
     → IsWithin from q row (record { line = line + line_feeds bytes; text = rest })
 within-more from p q row line bytes rest within on =
     let lines = within.lines in
@@ -49,10 +49,10 @@ within-more from p q row line bytes rest within on =
     }
 
 -- bytes that end it
-pub gives-end : (from : Place) (p : Partial) (row line size n : ℕ) (fields : List (List ℕ)) (hand rest : List ℕ)
+pub gives-end : (from : TextPlace) (p : Partial) (row line size n : ℕ) (fields : List (List ℕ)) (hand rest : List ℕ)
     → IsWithin from p row (record { line = line; text = hand ++ rest }) → EndsWith p (take n hand) fields size
     → size ≤ MAX_ROW
-    → Gives from (record { line = row; fields = fields })
+    → GivesRecord from (record { line = row; fields = fields })
     (record { line = line + line_feeds (take n hand); text = drop n hand ++ rest })
 gives-end from p row line size n fields hand rest within ends short =
     let parts : hand ++ rest ≡ take n hand ++ (drop n hand ++ rest) =
@@ -71,9 +71,9 @@ gives-end from p row line size n fields hand rest within ends short =
     }
 
 -- the end of the text ends it
-pub gives-last : (from : Place) (p : Partial) (row line : ℕ) → IsWithin from p row (record { line = line; text = [] })
+pub gives-last : (from : TextPlace) (p : Partial) (row line : ℕ) → IsWithin from p row (record { line = line; text = [] })
     → ends_at_end p.state ≡ true
-    → p.size ≤ MAX_ROW → Gives from (record { line = row; fields = p.fields ++ (p.field ∷ []) })
+    → p.size ≤ MAX_ROW → GivesRecord from (record { line = row; fields = p.fields ++ (p.field ∷ []) })
     (record { line = line; text = [] })
 unfolding next_record bytes_from
 gives-last from p row line within ends short =
@@ -86,14 +86,14 @@ gives-last from p row line within ends short =
       lines = within.lines;
     }
 
-pub ends-last : (from : Place) (p : Partial) (row line : ℕ) → IsWithin from p row (record { line = line; text = [] })
+pub ends-last : (from : TextPlace) (p : Partial) (row line : ℕ) → IsWithin from p row (record { line = line; text = [] })
     → ends_at_end p.state ≡ false
     → Ends from (record { line = line; text = [] })
 unfolding next_record
 ends-last from p row line within ends = record { none = within.reads ∙ rw ends refl; used_up = refl }
 
 -- it gets too long
-pub long-within : (from : Place) (p : Partial) (row line : ℕ) (text : List ℕ)
+pub long-within : (from : TextPlace) (p : Partial) (row line : ℕ) (text : List ℕ)
     → IsWithin from p row (record { line = line; text = text })
     → MAX_ROW < full_size p text → IsTooLong from row
 long-within from p row line text within long =
@@ -101,7 +101,7 @@ long-within from p row line text within long =
 
 -- ---- what holds of a place with the same next record
 
-pub gives-same : (from here to : Place) (row : Row) → HasSameNext from here → Gives here row to → Gives from row to
+pub gives-same : (from here to : TextPlace) (row : RecordRow) → HasSameNext from here → GivesRecord here row to → GivesRecord from row to
 gives-same from here to row same gives =
     let bytes = ap (λ (xs : List ℕ). length xs) same.bytes in
     let short = gives.short in
@@ -113,10 +113,10 @@ gives-same from here to row same gives =
       lines = gives.lines ∙ same.lines;
     }
 
-pub ends-same : (from here to : Place) → HasSameNext from here → Ends here to → Ends from to
+pub ends-same : (from here to : TextPlace) → HasSameNext from here → Ends here to → Ends from to
 ends-same from here to same ends = record { none = same.reads ∙ ends.none; used_up = ends.used_up }
 
-pub long-same : (from here : Place) (line : ℕ) → HasSameNext from here → IsTooLong here line → IsTooLong from line
+pub long-same : (from here : TextPlace) (line : ℕ) → HasSameNext from here → IsTooLong here line → IsTooLong from line
 long-same from here line same long =
     let bytes = ap (λ (xs : List ℕ). length xs) same.bytes in
     let more = long.long in

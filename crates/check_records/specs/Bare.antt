@@ -2,15 +2,15 @@
 use Rattle.std.specs.Prelude.{◌≡◌, ℕ, ◌<◌, ◌≤◌, ◌==◌, ◌||◌, Bool, true, false, List, length, get_or}
 use Rattle.std.specs.List.{slice_split}
 use Rattle.check_records.specs.Source.{bare_of}
-use Rattle.check_records.specs.Text.{Row, is_line_end}
-use Rattle.check_records.specs.Reading.{row_of}
+use Rattle.check_records.specs.Text.{RecordRow, is_line_end}
+use Rattle.check_records.specs.Reading.{row_of_draft}
 use Rattle.check_records.specs.declared.draft.Draft.{Draft}
 use Rattle.check_records.specs.declared.draft.TheConstants.{MAX_ROW}
 use Rattle.check_records.specs.declared.source.Source.{Source}
 
 -- the parts of a line between its commas
-abbrev pub parts_of : List ℕ → List (List ℕ)
-parts_of line = slice_split (λ byte. byte == 44) line
+abbrev pub comma_parts : List ℕ → List (List ℕ)
+comma_parts line = slice_split (λ byte. byte == 44) line
 
 -- a byte that ends a line, or a quote
 abbrev pub stops_bare : ℕ → Bool
@@ -24,6 +24,6 @@ pub record IsBareLine (text : List ℕ) (size : ℕ) : Type 0 where
   pub ends : is_line_end (get_or text size 0) ≡ true
 
 -- a record that was read: its fields, or a line whose parts they are
-abbrev pub row_in : {R : Type 0} → Source R → Draft → Bool → Row
-row_in source draft false = row_of draft
-row_in source draft true = record { line = draft.line; fields = parts_of (bare_of source) }
+abbrev pub record_row_in : {R : Type 0} → Source R → Draft → Bool → RecordRow
+record_row_in source draft false = row_of_draft draft
+record_row_in source draft true = record { line = draft.line; fields = comma_parts (bare_of source) }

@@ -43,8 +43,8 @@ abbrev pub action_at : Partial → ℕ → Action
 action_at p byte = (step default_config p.state byte).1
 
 -- it, after a byte that does not end it
-abbrev pub behind : Partial → ℕ → Partial
-behind p byte = record {
+abbrev pub text_behind : Partial → ℕ → Partial
+text_behind p byte = record {
   state = (step default_config p.state byte).0;
   fields = fields_after (action_at p byte) p.fields p.field;
   field = field_after (action_at p byte) byte p.field;
@@ -52,7 +52,7 @@ behind p byte = record {
 }
 
 -- these bytes make the one of the other, whatever follows them
-pub record GoesOn (old : Partial) (bytes : List ℕ) (new : Partial) : Type 0 where
+pub record DraftGoesOn (old : Partial) (bytes : List ℕ) (new : Partial) : Type 0 where
   pub becomes : (rest : List ℕ) → becomes old (bytes ++ rest) ≡ becomes new rest
   pub size : (rest : List ℕ) → full_size old (bytes ++ rest) ≡ full_size new rest
 
@@ -82,10 +82,10 @@ TakesByte old byte new true =
     (action_at (partial old) byte ≡ act.EndRecord)
     × (fields_of new.columns ≡ fields_of old.columns ++ (old.field.items ∷ []))
 TakesByte old byte new false =
-    (is_end (action_at (partial old) byte) ≡ false) × (partial new ≡ behind (partial old) byte) × IsDraft new
+    (is_end (action_at (partial old) byte) ≡ false) × (partial new ≡ text_behind (partial old) byte) × IsDraft new
 
 -- so many bytes of a text end it, with no more bytes than it may have, or else it goes on after all of them
 abbrev pub FeedsTo : Draft → List ℕ → Draft → Fed → Bool → Type 0
 FeedsTo old text new fed true =
     (size : ℕ) × EndsWith (partial old) (take fed.taken text) (fields_of new.columns) size × (size ≤ MAX_ROW)
-FeedsTo old text new fed false = (fed.taken ≡ length text) × GoesOn (partial old) text (partial new) × IsDraft new
+FeedsTo old text new fed false = (fed.taken ≡ length text) × DraftGoesOn (partial old) text (partial new) × IsDraft new

@@ -39,22 +39,22 @@ abbrev pub record_bytes : List ℕ → List ℕ
 record_bytes text = bytes_from st.StartRecord (from_record text)
 
 -- a text that is left to be read, and the line on which it begins
-pub record Place : Type 0 where
+pub record TextPlace : Type 0 where
   pub line : ℕ
   pub text : List ℕ
 
 -- the line on which the next record begins
-abbrev pub record_line : Place → ℕ
+abbrev pub record_line : TextPlace → ℕ
 record_line place = place.line + line_feeds (ends_before place.text)
 
 -- a record, and the line on which it begins
-pub record Row : Type 0 where
+pub record RecordRow : Type 0 where
   pub line : ℕ
   pub fields : List (List ℕ)
 
 -- the next record is this row, it is short enough, and the text after it is left; each line feed stands before a place
 -- or after it
-pub record Gives (from : Place) (row : Row) (to : Place) : Type 0 where
+pub record GivesRecord (from : TextPlace) (row : RecordRow) (to : TextPlace) : Type 0 where
   pub state : State
   pub reads : next_record default_config st.StartRecord [] [] from.text ≡ Some (row.fields, state, to.text)
   pub begins : row.line ≡ record_line from
@@ -62,29 +62,29 @@ pub record Gives (from : Place) (row : Row) (to : Place) : Type 0 where
   pub lines : to.line + line_feeds to.text ≡ from.line + line_feeds from.text
 
 -- there is no next record, and the text is used up
-pub record Ends (from to : Place) : Type 0 where
+pub record Ends (from to : TextPlace) : Type 0 where
   pub none : next_record default_config st.StartRecord [] [] from.text ≡ None
   pub used_up : to.text ≡ []
 
 -- the next record begins on this line and is too long
-pub record IsTooLong (place : Place) (line : ℕ) : Type 0 where
+pub record IsTooLong (place : TextPlace) (line : ℕ) : Type 0 where
   pub begins : line ≡ record_line place
   pub long : MAX_ROW < length (record_bytes place.text)
 
 -- ---- whole texts
 
 -- these are the records from one place to another
-unfoldable pub Reads : Place → List Row → Place → Type 0
+unfoldable pub Reads : TextPlace → List RecordRow → TextPlace → Type 0
 Reads from [] to = from ≡ to
-Reads from (row ∷ rows) to = (behind : Place) × Gives from row behind × Reads behind rows to
+Reads from (row ∷ rows) to = (behind : TextPlace) × GivesRecord from row behind × Reads behind rows to
 
 -- where a text begins: on line 1, after a byte order mark
-abbrev pub start_of : List ℕ → Place
+abbrev pub start_of : List ℕ → TextPlace
 start_of text = record { line = 1; text = strip_bom text }
 
 -- these are all the records of a text
-pub record AreRows (text : List ℕ) (rows : List Row) : Type 0 where
-  pub last : Place
-  pub end : Place
+pub record AreRows (text : List ℕ) (rows : List RecordRow) : Type 0 where
+  pub last : TextPlace
+  pub end : TextPlace
   pub reads : Reads (start_of text) rows last
   pub ends : Ends last end

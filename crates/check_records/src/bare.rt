@@ -1,8 +1,8 @@
 //! A record that stands on a line without quotes.
 ghost use Rattle.std.specs.Prelude.{◌≡◌, ℕ, Err, Ok, false, true, ◌<◌, length, IfSome};
-ghost use Rattle.check_records.specs.Bare.{IsBareLine, row_in};
+ghost use Rattle.check_records.specs.Bare.{IsBareLine, record_row_in};
 ghost use Rattle.check_records.specs.Source.{Between, HasFirst, left};
-ghost use Rattle.check_records.specs.Text.{Gives};
+ghost use Rattle.check_records.specs.Text.{GivesRecord};
 
 use crate::draft::{Draft, MAX_ROW};
 use crate::fault::RecordFault;
@@ -31,7 +31,7 @@ pub(crate) fn take_bare<R: Read + Drop>(
 ) -> Result<bool, RecordFault>
     requires { HasFirst R.remaining source.old true }
     ensures yes { result ≡ Ok true → Between (left R.remaining source.old) (left R.remaining source.new)
-        (λ from to. Gives from (row_in source.new draft.new true) to) }
+        (λ from to. GivesRecord from (record_row_in source.new draft.new true) to) }
     ensures no { result ≡ Ok false → source.new ≡ source.old }
     ensures fault { (line : ℕ) → result ≡ Err (RecordFault.TooLong line) → ⊥ }
 {

@@ -3,8 +3,8 @@ ghost use Rattle.std.specs.Prelude.{◌≡◌, ℕ, [], option_map, None, Some, 
 ghost use Rattle.std.specs.Io.KnownBytes.{Keeps};
 ghost use Rattle.csv.specs.Reading.{strip_bom};
 ghost use Rattle.csv.specs.Records.{fields_of};
-ghost use Rattle.check_records.specs.Bare.{parts_of, row_in};
-ghost use Rattle.check_records.specs.Reading.{Answers, StopsLong, row_of};
+ghost use Rattle.check_records.specs.Bare.{comma_parts, record_row_in};
+ghost use Rattle.check_records.specs.Reading.{AnswersRow, StopsLong, row_of_draft};
 ghost use Rattle.check_records.specs.Source.{HasFirst, left};
 
 use crate::bare::take_bare;
@@ -22,8 +22,8 @@ fn read_begun<R: Read + Drop>(
     draft: &mut Draft,
 ) -> Result<bool, RecordFault>
     requires { HasFirst R.remaining source.old true }
-    ensures ok { IfOk result (Answers (left R.remaining source.old) (left R.remaining source.new)
-        (row_of draft.new)) }
+    ensures ok { IfOk result (AnswersRow (left R.remaining source.old) (left R.remaining source.new)
+        (row_of_draft draft.new)) }
     ensures long { (line : ℕ) → result ≡ Err (RecordFault.TooLong line)
         → StopsLong (left R.remaining source.old) line }
 {
@@ -43,8 +43,8 @@ fn read_begun<R: Read + Drop>(
 
 /// Reads the next record, if there is one.
 fn read_next<R: Read + Drop>(source: &mut Source<R>, draft: &mut Draft) -> Result<bool, RecordFault>
-    ensures ok { IfOk result (Answers (left R.remaining source.old) (left R.remaining source.new)
-        (row_of draft.new)) }
+    ensures ok { IfOk result (AnswersRow (left R.remaining source.old) (left R.remaining source.new)
+        (row_of_draft draft.new)) }
     ensures long { (line : ℕ) → result ≡ Err (RecordFault.TooLong line)
         → StopsLong (left R.remaining source.old) line }
 {
@@ -62,8 +62,8 @@ fn read_in_place<R: Read + Drop>(
     draft: &mut Draft,
     is_bare: &mut bool,
 ) -> Result<bool, RecordFault>
-    ensures ok { IfOk result (Answers (left R.remaining source.old) (left R.remaining source.new)
-        (row_in source.new draft.new is_bare.new)) }
+    ensures ok { IfOk result (AnswersRow (left R.remaining source.old) (left R.remaining source.new)
+        (record_row_in source.new draft.new is_bare.new)) }
     ensures long { (line : ℕ) → result ≡ Err (RecordFault.TooLong line)
         → StopsLong (left R.remaining source.old) line }
 {
@@ -92,12 +92,12 @@ impl<R: Read + Drop> Model for Records<R> {
 
     ghost Value = { Reading };
 
-    ghost use Rattle.check_records.specs.Bare.{row_in};
+    ghost use Rattle.check_records.specs.Bare.{record_row_in};
     ghost use Rattle.check_records.specs.Source.{left};
 
     ghost view = { λ r. record {
       left = left R.remaining r.source;
-      row = row_in r.source r.draft r.is_bare;
+      row = record_row_in r.source r.draft r.is_bare;
       is_bare = r.is_bare;
       fault = r.fault;
     } };
@@ -125,7 +125,7 @@ impl<R: Read + Drop> Records<R> {
     /// Reads the next record; answers whether there was one. A fault stops the reader: each read after it answers it
     /// again.
     pub fn read(&mut self) -> Result<bool, RecordFault>
-        ensures ok { IfOk result (Answers self.old.left self.new.left self.new.row) }
+        ensures ok { IfOk result (AnswersRow self.old.left self.new.left self.new.row) }
         ensures long { (line : ℕ) → result ≡ Err (RecordFault.TooLong line) → self.old.fault ≡ None
             → StopsLong self.old.left line }
         ensures goes_on { OnOk result ((self.old.fault ≡ None) × (self.new.fault ≡ None)) }
@@ -147,7 +147,7 @@ impl<R: Read + Drop> Records<R> {
     /// The same, but a record that stands whole in what was read, on a line without quotes, is left there:
     /// [`Records::bare`] has it, and [`Records::columns`] has each other record. It costs less than [`Records::read`].
     pub fn read_in_place(&mut self) -> Result<bool, RecordFault>
-        ensures ok { IfOk result (Answers self.old.left self.new.left self.new.row) }
+        ensures ok { IfOk result (AnswersRow self.old.left self.new.left self.new.row) }
         ensures long { (line : ℕ) → result ≡ Err (RecordFault.TooLong line) → self.old.fault ≡ None
             → StopsLong self.old.left line }
         ensures goes_on { OnOk result ((self.old.fault ≡ None) × (self.new.fault ≡ None)) }
@@ -180,7 +180,7 @@ impl<R: Read + Drop> Records<R> {
 
     /// The line of the last record, if it was left there; commas part its columns.
     pub fn bare(&self) -> Option<&[u8]>
-        ensures some { IfSome result (λ line. parts_of line.now ≡ self.now.row.fields) }
+        ensures some { IfSome result (λ line. comma_parts line.now ≡ self.now.row.fields) }
         ensures none { IfNone result (self.now.is_bare ≡ false) }
     {
         if !self.is_bare {

@@ -99,7 +99,7 @@ fn read_over<R: Read>(reader: &mut R, chunk: &mut Vec<u8>) -> Result<usize, Reco
 }
 
 impl<R: Read + Drop> Source<R> {
-    ghost use Rattle.check_records.specs.Source.{Between, HasFirst, HasSameNext, at_hand, bare_of, left, left_of};
+    ghost use Rattle.check_records.specs.Source.{Between, HasFirst, HasSameNext, at_hand, bare_of, left, text_left};
 
     /// A reader of which nothing was read.
     fn unread(alloc: Global, reader: R) -> Result<Source<R>, RecordFault>
@@ -124,7 +124,7 @@ impl<R: Read + Drop> Source<R> {
     pub(crate) fn new(alloc: Global, reader: R) -> Result<Source<R>, RecordFault>
         ensures line { IfOk result (λ source. source.line ≡ 1) }
         ensures text { IfOk result (λ source. Keeps (option_map strip_bom (R.remaining reader))
-            (left_of R.remaining source)) }
+            (text_left R.remaining source)) }
         ensures fault { (line : ℕ) → result ≡ Err (RecordFault.TooLong line) → ⊥ }
     {
         let mut source = Source::unread(alloc, reader)?;
@@ -181,7 +181,7 @@ impl<R: Read + Drop> Source<R> {
     /// Reads more, if nothing is at hand; answers whether there was anything.
     pub(crate) fn refill(&mut self) -> Result<bool, RecordFault>
         requires { at_hand self.old ≡ [] }
-        ensures text { OnOk result (Keeps (R.remaining self.old.reader) (left_of R.remaining self.new)) }
+        ensures text { OnOk result (Keeps (R.remaining self.old.reader) (text_left R.remaining self.new)) }
         ensures end { IfOk result (λ more. more ≡ false
             → (at_hand self.new ≡ []) × IsAtEnd (R.remaining self.new.reader)) }
         ensures line { self.new.line ≡ self.old.line }
@@ -200,7 +200,7 @@ impl<R: Read + Drop> Source<R> {
         requires room { self.old.filled < 3 }
         ensures front { self.new.next ≡ 0 }
         ensures few { self.new.filled ≤ 3 }
-        ensures text { OnOk result (Keeps (left_of R.remaining self.old) (left_of R.remaining self.new)) }
+        ensures text { OnOk result (Keeps (text_left R.remaining self.old) (text_left R.remaining self.new)) }
         ensures more { IfOk result (λ more. more ≡ true → self.new.filled ≡ self.old.filled + 1) }
         ensures end { IfOk result (λ more. more ≡ false → (self.new.filled ≡ self.old.filled)
             × IsAtEnd (R.remaining self.new.reader)) }
@@ -221,7 +221,7 @@ impl<R: Read + Drop> Source<R> {
         requires front { self.old.next ≡ 0 }
         requires room { self.old.filled ≡ 0 }
         ensures front { self.new.next ≡ 0 }
-        ensures text { OnOk result (Keeps (left_of R.remaining self.old) (left_of R.remaining self.new)) }
+        ensures text { OnOk result (Keeps (text_left R.remaining self.old) (text_left R.remaining self.new)) }
         ensures few { self.new.filled ≤ 3 }
         ensures end { OnOk result (self.new.filled < 3 → IsAtEnd (R.remaining self.new.reader)) }
         ensures line { self.new.line ≡ self.old.line }
@@ -240,7 +240,7 @@ impl<R: Read + Drop> Source<R> {
         requires front { self.old.next ≡ 0 }
         requires unread { self.old.filled ≡ 0 }
         ensures text { OnOk result (Keeps (option_map strip_bom (R.remaining self.old.reader))
-            (left_of R.remaining self.new)) }
+            (text_left R.remaining self.new)) }
         ensures line { self.new.line ≡ self.old.line }
         ensures fault { (line : ℕ) → result ≡ Err (RecordFault.TooLong line) → ⊥ }
     {

@@ -1,6 +1,6 @@
 -- What is counted after one row more.
 use Rattle.std.proofs.Common.{◌≡◌, ◌∙◌, true, ◌&&◌, List, ◌∷◌, IfSome, sym, ap, subst}
-use Rattle.check_watch.specs.Scene.{ended}
+use Rattle.check_watch.specs.Scene.{ended_by}
 use Rattle.check_watch.specs.declared.seen.Ended.{Ended}
 use Rattle.check_watch.specs.declared.seen.Seen.{Seen}
 use Rattle.check_sides.specs.Lawful.{what_is_seen}
@@ -9,8 +9,9 @@ use Rattle.check_sides.specs.View.{Keeps, View}
 use Rattle.check_rows.specs.Row.{SeenRow}
 use Rattle.check_coverage.specs.Flights.{end_of}
 use Rattle.check_coverage.specs.View.{Covers}
-use Rattle.check_review.specs.Count.{answered, asked, ends_a_reply, ends_an_ask, is_counted, one_more}
-use Rattle.check_review.specs.Order.{is_watched, seen, watched}
+use Rattle.check_coverage.specs.Flights.{ends_a_reply, ends_an_ask, is_counted}
+use Rattle.check_review.specs.Count.{answered_in_past, asked_in_past, one_more}
+use Rattle.check_review.specs.Order.{is_watched, sightings_of, watched}
 use Rattle.check_review.specs.View.{Tallied}
 use Rattle.check_review.specs.declared.tally.Tally.{Tally}
 use Rattle.check_review.proofs.Watched.{seen_one, watched_one}
@@ -19,16 +20,16 @@ use Rattle.check_review.proofs.Watched.{seen_one, watched_one}
 pub record IsCounted (plan : Plan) (before : List SeenRow) (row : SeenRow) (old new : Tally) (watch : View) (sees : Seen)
     (end : Ended) : Type 0 where
   pub here : is_watched plan.layout row.sighting.link ≡ true
-  pub keeps : Keeps plan (row.sighting ∷ seen plan.layout before) watch
+  pub keeps : Keeps plan (row.sighting ∷ sightings_of plan.layout before) watch
   pub watch_is : new.watch ≡ watch
-  pub sees_is : sees ≡ what_is_seen plan (seen plan.layout before) row.sighting
-  pub end_is : end ≡ ended sees
+  pub sees_is : sees ≡ what_is_seen plan (sightings_of plan.layout before) row.sighting
+  pub end_is : end ≡ ended_by sees
   pub requests : new.requests
       ≡ one_more (is_counted watch.layout.links row.sighting.link && ends_an_ask end) old.requests
   pub answered : new.answered
       ≡ one_more (is_counted watch.layout.links row.sighting.link && ends_a_reply end) old.answered
   pub covers : IfSome old.coverage (Covers plan (watched plan.layout before))
-      → Keeps plan (row.sighting ∷ seen plan.layout before) watch → end ≡ end_of plan (watched plan.layout before) row
+      → Keeps plan (row.sighting ∷ sightings_of plan.layout before) watch → end ≡ end_of plan (watched plan.layout before) row
       → IfSome new.coverage (Covers plan (row ∷ watched plan.layout before))
 
 pub tallied_one : (plan : Plan) (before : List SeenRow) (row : SeenRow) (old new : Tally) (watch : View) (sees : Seen)
@@ -37,17 +38,17 @@ pub tallied_one : (plan : Plan) (before : List SeenRow) (row : SeenRow) (old new
 tallied_one plan before row old new watch sees end tallied step =
     let all = seen_one plan.layout row before step.here in
     let layout : watch.layout ≡ plan.layout = step.keeps.suits.layout in
-    let ends : end ≡ ended (what_is_seen plan (seen plan.layout before) row.sighting) =
-    step.end_is ∙ ap ended step.sees_is in
+    let ends : end ≡ ended_by (what_is_seen plan (sightings_of plan.layout before) row.sighting) =
+    step.end_is ∙ ap ended_by step.sees_is in
     record {
       keeps = subst (λ past. Keeps plan past new.watch) (sym all)
-          (subst (λ (w : View). Keeps plan (row.sighting ∷ seen plan.layout before) w) (sym step.watch_is) step.keeps);
+          (subst (λ (w : View). Keeps plan (row.sighting ∷ sightings_of plan.layout before) w) (sym step.watch_is) step.keeps);
       requests = step.requests
           ∙ (λ i. one_more (is_counted (layout i).links row.sighting.link && ends_an_ask (ends i)) (tallied.requests i))
-          ∙ ap (asked plan) (sym all);
+          ∙ ap (asked_in_past plan) (sym all);
       answered = step.answered
           ∙ (λ i. one_more (is_counted (layout i).links row.sighting.link && ends_a_reply (ends i)) (tallied.answered i))
-          ∙ ap (answered plan) (sym all);
+          ∙ ap (answered_in_past plan) (sym all);
       covers = subst (λ rows. IfSome new.coverage (Covers plan rows)) (sym (watched_one plan.layout row before step.here))
           (step.covers tallied.covers step.keeps ends);
     }

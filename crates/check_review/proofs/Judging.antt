@@ -19,7 +19,7 @@ use Rattle.check_review.specs.declared.stop.Refusal.TheVariants as refusal
 use Rattle.check_review.specs.declared.stop.Stop.TheVariants as stop
 use Rattle.check_review.specs.declared.stop.Unlawful.{Unlawful}
 use Rattle.check_review.specs.declared.tally.Tally.{Tally}
-use Rattle.check_review.specs.Order.{CrossesBefore, IsCrossing, IsLater, NeverFalls, HasRowFault, seen}
+use Rattle.check_review.specs.Order.{CrossesBefore, IsCrossing, IsLater, NeverFalls, HasRowFault, sightings_of}
 use Rattle.check_review.specs.Told.{AppendsTold, IsTold}
 use Rattle.check_review.specs.View.{HasTold, JudgeView, Judges, Kept, TellsOn, TellsStop, is_traced}
 use Rattle.check_review.specs.Verdict.{IsLawfulFile, IsFirstUnlawful, IsStop, IsToldBefore, IsToldEarlier, IsToldFile, IsToldPart, MayWantAmong, MayWantMemory, OfUnlawful, StopsAt, StopsTelling, stop_of}
@@ -274,8 +274,8 @@ pub not_lawful : (plan : Plan) (file : List SeenRow) (found : Unlawful) → IsFi
 not_lawful plan file found first whole =
     let same : whole.crossed ≡ first.after ++ first.row ∷ first.before =
     crossing_is_unique file whole.crossed (first.after ++ first.row ∷ first.before) whole.crossing first.crossing in
-    let P : List SeenRow → Type 0 = λ l. IsLawful plan (seen plan.layout l) in
-    let rest : IsLawful plan (seen plan.layout (first.row ∷ first.before)) =
+    let P : List SeenRow → Type 0 = λ l. IsLawful plan (sightings_of plan.layout l) in
+    let rest : IsLawful plan (sightings_of plan.layout (first.row ∷ first.before)) =
     lawful_rest plan first.after (first.row ∷ first.before) (subst P same whole.lawful) in
     first.is.unlawful (subst (IsLawful plan) (seen_one plan.layout first.row first.before first.is.watched) rest)
 
@@ -291,7 +291,7 @@ rest_none now before is = let both = length-append now before in omega (arith, i
 -- of no rows nothing is told
 pub told_none : (plan : Plan) (judge : JudgeView) → Judges plan [] judge → HasTold plan [] judge []
 told_none plan judge judges =
-    let P : List SeenRow → Type 0 = λ l. IsTold (is_traced judge) plan (seen plan.layout l) [] in
+    let P : List SeenRow → Type 0 = λ l. IsTold (is_traced judge) plan (sightings_of plan.layout l) [] in
     record {
       judges = judges;
       told = subst P (sym (none judges.before (rest_none (reverse judge.moment.rows) judges.before
@@ -299,16 +299,16 @@ told_none plan judge judges =
     }
 
 told_of : (trace other : Bool) (plan : Plan) (rows others : List SeenRow) (text : List ℕ) → other ≡ trace → others ≡ rows
-    → IsTold trace plan (seen plan.layout rows) text
-    → IsTold other plan (seen plan.layout others) text
+    → IsTold trace plan (sightings_of plan.layout rows) text
+    → IsTold other plan (sightings_of plan.layout others) text
 told_of trace other plan rows others text same_trace same_rows is = rw (same_trace, same_rows) is
 
 -- the rows of the moment at hand are told
 pub told_later : (plan : Plan) (file : List SeenRow) (row : SeenRow) (old new : JudgeView) (so_far now next : List ℕ)
     (has : HasTold plan file old so_far) → IsLaterRow row old new
     → Kept plan (reverse old.moment.rows ++ has.judges.before) new.tally → is_traced new ≡ is_traced old
-    → AppendsTold (is_traced old) plan (seen plan.layout has.judges.before)
-    (seen plan.layout (reverse old.moment.rows ++ has.judges.before)) now next
+    → AppendsTold (is_traced old) plan (sightings_of plan.layout has.judges.before)
+    (sightings_of plan.layout (reverse old.moment.rows ++ has.judges.before)) now next
     → TellsOn plan (file ++ row ∷ []) new so_far now next
 told_later plan file row old new so_far now next has more kept trace told =
     let judged = judges_later plan file row old new has.judges more kept in
@@ -334,7 +334,7 @@ told_now plan file row old new so_far text has takes more =
       told = record {
         judges = judged.0;
         told = told_of (is_traced old) (is_traced new) plan _ _ _ trace judged.1
-            (subst (λ text. IsTold (is_traced old) plan (seen plan.layout has.judges.before) text)
+            (subst (λ text. IsTold (is_traced old) plan (sightings_of plan.layout has.judges.before) text)
             (sym (append-nil so_far)) has.told);
       };
     }
@@ -358,8 +358,8 @@ told_before plan file judge found so_far now next has stops =
 pub told_file : (plan : Plan) (file : List SeenRow) (judge : JudgeView) (tally : Tally) (so_far now next : List ℕ)
     (has : HasTold plan file judge so_far)
     → Kept plan (reverse judge.moment.rows ++ has.judges.before) tally
-    → AppendsTold (is_traced judge) plan (seen plan.layout has.judges.before)
-    (seen plan.layout (reverse judge.moment.rows ++ has.judges.before)) now next
+    → AppendsTold (is_traced judge) plan (sightings_of plan.layout has.judges.before)
+    (sightings_of plan.layout (reverse judge.moment.rows ++ has.judges.before)) now next
     → (more : List ℕ) × (next ≡ now ++ more) × IsToldFile (is_traced judge) plan file (so_far ++ more)
 told_file plan file judge tally so_far now next has kept told = (
   told.more,

@@ -13,7 +13,7 @@ use Rattle.check_unanswered.specs.Began.{row_with}
 use Rattle.check_review.specs.declared.stop.Refusal.{Refusal}
 use Rattle.check_review.specs.declared.stop.Refusal.TheVariants as refusal
 use Rattle.check_review.specs.declared.stop.Unlawful.{Unlawful}
-use Rattle.check_review.specs.Order.{seen}
+use Rattle.check_review.specs.Order.{sightings_of}
 use Rattle.check_review.specs.Told.{AppendsTold}
 use Rattle.check_review.specs.Verdict.{IsUnlawfulAfter, MayWantAfter, MayWantAmong, OfUnlawful, StopsAt, StopsTelling}
 use Rattle.check_review.specs.View.{HasLanes}
@@ -52,13 +52,13 @@ stops_at plan rows before i row found inside here unlawful = record {
 pub stops_there : (trace : Bool) (plan : Plan) (rows before : List SeenRow) (i : ℕ) (row : SeenRow)
     (old now next : List ℕ) (why : Refusal) → i < length rows → get_or rows i row ≡ row
     → OfUnlawful (IsUnlawfulAfter plan (reverse (take i rows) ++ before) row) why
-    → OfUnlawful (λ _. next ≡ now) why → AppendsTold trace plan (seen plan.layout before)
-    (seen plan.layout (reverse (take i rows) ++ before)) old now
+    → OfUnlawful (λ _. next ≡ now) why → AppendsTold trace plan (sightings_of plan.layout before)
+    (sightings_of plan.layout (reverse (take i rows) ++ before)) old now
     → OfUnlawful (StopsTelling trace plan rows before old next) why
 stops_there trace plan rows before i row old now next (refusal.Unlawful found) inside here unlawful quiet told = record {
   stops = stops_at plan rows before i row found inside here unlawful;
-  told = subst (λ text. AppendsTold trace plan (seen plan.layout before)
-      (seen plan.layout (reverse (take i rows) ++ before)) old text) (sym quiet) told;
+  told = subst (λ text. AppendsTold trace plan (sightings_of plan.layout before)
+      (sightings_of plan.layout (reverse (take i rows) ++ before)) old text) (sym quiet) told;
 }
 stops_there trace plan rows before i row old now next refusal.Memory inside here unlawful quiet told = tt
 

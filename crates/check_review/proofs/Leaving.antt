@@ -11,8 +11,8 @@ use Rattle.check_unanswered.specs.Began.{IsComplete, IsLeft}
 use Rattle.check_unanswered.specs.View.{Holds, PendingView}
 use Rattle.check_unanswered.specs.declared.request.Left.{Left}
 use Rattle.check_review.specs.declared.tally.Tally.{Tally}
-use Rattle.check_review.specs.Count.{answered, asked}
-use Rattle.check_review.specs.Order.{is_watched, seen, watched}
+use Rattle.check_review.specs.Count.{answered_in_past, asked_in_past}
+use Rattle.check_review.specs.Order.{is_watched, sightings_of, watched}
 use Rattle.check_review.specs.Verdict.{IsWhatIsLeft}
 use Rattle.check_review.specs.View.{Kept, Tallied}
 use Rattle.check_review.proofs.Watched.{seen_one, seen_other, watched_one, watched_other}
@@ -35,17 +35,17 @@ pub record IsNoted (plan : Plan) (before : List SeenRow) (row : SeenRow) (old mi
   pub tallied : Tallied plan (row ∷ before) mid
   pub same : mid.pending ≡ old.pending
   pub asked : is_some what ≡ is_some old.pending
-  pub change : IsLawful plan (row.sighting ∷ seen plan.layout before)
-      → IfSome what (IsChange plan (seen plan.layout before) row.sighting)
+  pub change : IsLawful plan (row.sighting ∷ sightings_of plan.layout before)
+      → IfSome what (IsChange plan (sightings_of plan.layout before) row.sighting)
   pub noted : Tallied plan (row ∷ before) mid → Tallied plan (row ∷ before) new
   pub holds : IfSome mid.pending (Holds plan (watched plan.layout before)) → is_some what ≡ is_some mid.pending
-      → IfSome what (IsChange plan (seen plan.layout before) row.sighting)
+      → IfSome what (IsChange plan (sightings_of plan.layout before) row.sighting)
       → IfSome new.pending (Holds plan (row ∷ watched plan.layout before))
 
 pub kept_noted : (plan : Plan) (before : List SeenRow) (row : SeenRow) (old mid new : Tally) (change : Option Change)
     → Kept plan before old → IsNoted plan before row old mid new change → Kept plan (row ∷ before) new
 kept_noted plan before row old mid new change kept step =
-    let lawful : IsLawful plan (row.sighting ∷ seen plan.layout before) =
+    let lawful : IsLawful plan (row.sighting ∷ sightings_of plan.layout before) =
     subst (IsLawful plan) (seen_one plan.layout row before step.here) step.tallied.keeps.lawful in
     let H : Option PendingView → Type 0 = λ p. IfSome p (Holds plan (watched plan.layout before)) in
     let R : List SeenRow → Type 0 = λ rows. IfSome new.pending (Holds plan rows) in
@@ -65,8 +65,8 @@ kept_unwatched plan before row tally other kept =
     record {
       tallied = record {
         keeps = subst (λ past. Keeps plan past tally.watch) same kept.tallied.keeps;
-        requests = kept.tallied.requests ∙ ap (asked plan) same;
-        answered = kept.tallied.answered ∙ ap (answered plan) same;
+        requests = kept.tallied.requests ∙ ap (asked_in_past plan) same;
+        answered = kept.tallied.answered ∙ ap (answered_in_past plan) same;
         covers = subst (λ rows. IfSome tally.coverage (Covers plan rows)) (sym (watched_other plan.layout row before other))
             kept.tallied.covers;
       };

@@ -4,7 +4,7 @@ use mathlib.Core.List.{reverse-cons}
 use Rattle.std.specs.List.{AllByRecursion}
 use Rattle.std.proofs.lemmas.List.{append_assoc, reverse-append}
 use Rattle.std.proofs.lemmas.List.Elements.{recursion_from_All}
-use Rattle.check_rows.specs.Moment.{Cross, place_of}
+use Rattle.check_rows.specs.Moment.{Cross, place_of_row}
 use Rattle.check_rows.specs.Row.{SeenRow}
 use Rattle.check_review.specs.Order.{CrossesBefore, AreInOrder}
 
@@ -32,9 +32,9 @@ reversed_middle done left before row =
 
 -- the row crosses before this place of this time
 abbrev IsBelow : ℕ → ℕ → SeenRow → Type 0
-IsBelow time place row = (row.time < time) ⊎ ((row.time ≡ time) × (place_of row < place))
+IsBelow time place row = (row.time < time) ⊎ ((row.time ≡ time) × (place_of_row row < place))
 
-below_row : (time low : ℕ) (row other : SeenRow) → row.time ≡ time → low ≤ place_of row → IsBelow time low other
+below_row : (time low : ℕ) (row other : SeenRow) → row.time ≡ time → low ≤ place_of_row row → IsBelow time low other
     → CrossesBefore other row
 below_row time low row other now above (inl earlier) = inl (omega arith)
 below_row time low row other now above (inr same) = let at = same.0 in let lower = same.1 in
@@ -50,11 +50,11 @@ onto : (time low : ℕ) (rows before : List SeenRow) → Cross low rows → AllB
 unfolding Cross
 onto time low [] before cross now below order = order
 onto time low (row ∷ more) before cross now below order =
-    let above : low ≤ place_of row = cross.0 in
-    let next : AllByRecursion (IsBelow time (place_of row + 1)) (row ∷ before) = (
+    let above : low ≤ place_of_row row = cross.0 in
+    let next : AllByRecursion (IsBelow time (place_of_row row + 1)) (row ∷ before) = (
       inr (now.0, omega arith),
-      all_weaker (IsBelow time low) (IsBelow time (place_of row + 1))
-          (λ other. higher time low (place_of row + 1) other (omega (arith, above))) before below,
+      all_weaker (IsBelow time low) (IsBelow time (place_of_row row + 1))
+          (λ other. higher time low (place_of_row row + 1) other (omega (arith, above))) before below,
     ) in
     let first : AreInOrder (row ∷ before) = (
       all_weaker (IsBelow time low) (λ other. CrossesBefore other row)
@@ -62,7 +62,7 @@ onto time low (row ∷ more) before cross now below order =
       order,
     ) in
     subst AreInOrder (sym (reversed_onto row more before))
-    (onto time (place_of row + 1) more (row ∷ before) cross.1 now.1 next first)
+    (onto time (place_of_row row + 1) more (row ∷ before) cross.1 now.1 next first)
 
 -- the rows of one time after those of earlier times
 pub in_order_onto : (time : ℕ) (rows before : List SeenRow) → Cross 0 rows → All (λ row. row.time ≡ time) rows

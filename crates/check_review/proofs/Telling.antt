@@ -1,6 +1,6 @@
 -- What is told, beat by beat.
 use Rattle.std.proofs.Common.{◌≡◌, ◌∙◌, ℕ, inl, inr, Bool, true, false, ◌&&◌, if◌then◌else◌, List, [], ◌∷◌, ◌++◌, append_assoc, append-nil, refl, sym, ap, subst}
-use Rattle.check_watch.specs.declared.seen.Entry.{Entry}
+use Rattle.check_watch.specs.declared.seen.SeenEntry.{SeenEntry}
 use Rattle.check_watch.specs.declared.beat.Beat.{Beat}
 use Rattle.check_watch.specs.declared.beat.Beat.TheVariants.{A, D}
 use Rattle.check_watch.specs.declared.beat.Link.{Link}
@@ -12,7 +12,7 @@ use Rattle.check_map.proofs.Kept.{one_owner}
 use Rattle.check_watch.specs.declared.seen.Seen.{Seen}
 use Rattle.check_watch.specs.declared.seen.Seen.TheVariants.{Part, WholeAsk, WholeReply}
 use Rattle.check_sides.specs.Plan.{IsPlan, Layout, Plan}
-use Rattle.check_watch.specs.Plan.{Layout as GroupLayout, Plan as GroupPlan, HasSource, source_of}
+use Rattle.check_watch.specs.Plan.{GroupLayout, GroupPlan, HasSource, source_of}
 use Rattle.check_sides.specs.Groups.{is_alone, plan_at, port_plan, shared_plan}
 use Rattle.check_sides.specs.declared.links.Links.{Links}
 use Rattle.check_sides.specs.declared.links.Links.TheVariants.{Both, Masters, Ports, Each}
@@ -21,8 +21,8 @@ use Rattle.check_sides.specs.Lawful.{scene}
 use Rattle.check_sides.specs.Lawful.{what_is_seen}
 use Rattle.check_watch.specs.Lawful.{IsAllowed, IsAllowedBeat}
 use Rattle.check_rows.specs.Row.{SeenRow}
-use Rattle.check_review.specs.Count.{is_counted}
-use Rattle.check_review.specs.Order.{is_watched, seen}
+use Rattle.check_coverage.specs.Flights.{is_counted}
+use Rattle.check_review.specs.Order.{is_watched, sightings_of}
 use Rattle.check_lines.specs.Trace.{AppendsLine, HasOwner, IsLine, entry_line}
 use Rattle.check_review.specs.Told.{AppendsTold, AppendsToldOf, IsCountedOfOwner, IsTold, IsToldOf}
 use Rattle.check_review.proofs.Watched.{seen_one, seen_other}
@@ -64,7 +64,7 @@ counted_of_owner plan past x allowed counted =
     has_owner (shared_plan plan).layout x.link (source_of x.beat)
     (subst P (counted_together plan.layout.links x.link counted) here)
 
-pub line_is_told : (owners : List Owner) (link : Link) (source : ℕ) (entry : Entry) (old new : List ℕ)
+pub line_is_told : (owners : List Owner) (link : Link) (source : ℕ) (entry : SeenEntry) (old new : List ℕ)
     → HasOwner owners link source → AppendsLine owners link source entry old new
     → (line : List ℕ) × (new ≡ old ++ line) × IsLine owners link source entry line
 line_is_told owners link source entry old new owner (inl line) = line
@@ -124,41 +124,41 @@ pub tells_row : (trace : Bool) (plan : Plan) (before : List SeenRow) (row : Seen
     → is_watched plan.layout row.sighting.link ≡ true
     → AppendsToldOf (trace && is_counted plan.layout.links row.sighting.link) plan.layout.owners row.sighting.link
     (source_of row.sighting.beat)
-    (what_is_seen plan (seen plan.layout before) row.sighting) old new
-    → AppendsTold trace plan (seen plan.layout before) (seen plan.layout (row ∷ before)) old new
+    (what_is_seen plan (sightings_of plan.layout before) row.sighting) old new
+    → AppendsTold trace plan (sightings_of plan.layout before) (sightings_of plan.layout (row ∷ before)) old new
 tells_row trace plan before row old new watched one =
-    subst (λ now. AppendsTold trace plan (seen plan.layout before) now old new)
+    subst (λ now. AppendsTold trace plan (sightings_of plan.layout before) now old new)
     (sym (seen_one plan.layout row before watched))
-    (tells_one trace plan (seen plan.layout before) row.sighting old new one)
+    (tells_one trace plan (sightings_of plan.layout before) row.sighting old new one)
 
 -- nothing is told of a row where replies are not told
 pub tells_quietly : (plan : Plan) (before : List SeenRow) (row : SeenRow) (text : List ℕ)
     → is_watched plan.layout row.sighting.link ≡ true
-    → AppendsTold false plan (seen plan.layout before) (seen plan.layout (row ∷ before)) text text
+    → AppendsTold false plan (sightings_of plan.layout before) (sightings_of plan.layout (row ∷ before)) text text
 tells_quietly plan before row text watched =
     tells_row false plan before row text text watched ([], sym (append-nil text), refl)
 
 pub tells_no_row : (trace : Bool) (plan : Plan) (before : List SeenRow) (row : SeenRow) (text : List ℕ)
     → is_watched plan.layout row.sighting.link ≡ false
-    → AppendsTold trace plan (seen plan.layout before) (seen plan.layout (row ∷ before)) text text
+    → AppendsTold trace plan (sightings_of plan.layout before) (sightings_of plan.layout (row ∷ before)) text text
 tells_no_row trace plan before row text watched =
-    subst (λ now. AppendsTold trace plan (seen plan.layout before) now text text)
+    subst (λ now. AppendsTold trace plan (sightings_of plan.layout before) now text text)
     (sym (seen_other plan.layout row before watched))
-    (tells_nothing trace plan (seen plan.layout before) text)
+    (tells_nothing trace plan (sightings_of plan.layout before) text)
 
 -- the same, whether its link is watched or not
 pub tells_none : (plan : Plan) (before : List SeenRow) (row : SeenRow) (text : List ℕ)
-    → AppendsTold false plan (seen plan.layout before) (seen plan.layout (row ∷ before)) text text
+    → AppendsTold false plan (sightings_of plan.layout before) (sightings_of plan.layout (row ∷ before)) text text
 tells_none plan before row text = go (is_watched plan.layout row.sighting.link) refl
   where
     go : (watched : Bool) → is_watched plan.layout row.sighting.link ≡ watched
-        → AppendsTold false plan (seen plan.layout before) (seen plan.layout (row ∷ before)) text text
+        → AppendsTold false plan (sightings_of plan.layout before) (sightings_of plan.layout (row ∷ before)) text text
     go true is = tells_quietly plan before row text is
     go false is = tells_no_row false plan before row text is
 
 -- ---- one text is told
 
-one_line : (owners : List Owner) → AreLawfulOwners owners → (link : Link) (source : ℕ) (entry : Entry)
+one_line : (owners : List Owner) → AreLawfulOwners owners → (link : Link) (source : ℕ) (entry : SeenEntry)
     (line other : List ℕ) → IsLine owners link source entry line → IsLine owners link source entry other → line ≡ other
 one_line owners lawful (Master m) source entry line other one two = one ∙ sym two
 one_line owners lawful (Port p) source entry line other one two =

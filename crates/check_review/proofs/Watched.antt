@@ -8,7 +8,7 @@ use Rattle.check_sides.specs.declared.links.Links.TheVariants.{Both, Masters, Po
 use Rattle.check_sides.specs.Plan.{Layout, Plan, HasLink, IsWatched}
 use Rattle.check_sides.specs.Lawful.{IsLawful}
 use Rattle.check_rows.specs.Row.{SeenRow}
-use Rattle.check_review.specs.Order.{are_masters_watched, are_ports_watched, is_watched, seen, watched}
+use Rattle.check_review.specs.Order.{are_masters_watched, are_ports_watched, is_watched, sightings_of, watched}
 
 below : (m count : ℕ) → IsTrue (nat_lt m count) → m < count
 below m count is = grind (arith, nat_tests)
@@ -47,11 +47,11 @@ pub watches_by : (layout : Layout) (link : Link) (r : Bool)
 watches_by layout link r h = same_answer r (is_watched layout link) h (watched_is layout link)
 
 pub seen_one : (layout : Layout) (row : SeenRow) (before : List SeenRow) → is_watched layout row.sighting.link ≡ true
-    → seen layout (row ∷ before) ≡ row.sighting ∷ seen layout before
+    → sightings_of layout (row ∷ before) ≡ row.sighting ∷ sightings_of layout before
 seen_one layout row before is = rw is refl
 
 pub seen_other : (layout : Layout) (row : SeenRow) (before : List SeenRow) → is_watched layout row.sighting.link ≡ false
-    → seen layout (row ∷ before) ≡ seen layout before
+    → sightings_of layout (row ∷ before) ≡ sightings_of layout before
 seen_other layout row before is = rw is refl
 
 pub watched_one : (layout : Layout) (row : SeenRow) (before : List SeenRow) → is_watched layout row.sighting.link ≡ true
@@ -65,14 +65,14 @@ watched_other layout row before is = rw is refl
 -- ---- a beginning of what is lawful is lawful
 
 drop_first : (plan : Plan) (row : SeenRow) (rest : List SeenRow) (b : Bool) → is_watched plan.layout row.sighting.link ≡ b
-    → IsLawful plan (seen plan.layout (row ∷ rest)) → IsLawful plan (seen plan.layout rest)
+    → IsLawful plan (sightings_of plan.layout (row ∷ rest)) → IsLawful plan (sightings_of plan.layout rest)
 drop_first plan row rest true is lawful =
-    let all : IsLawful plan (row.sighting ∷ seen plan.layout rest) =
+    let all : IsLawful plan (row.sighting ∷ sightings_of plan.layout rest) =
     subst (IsLawful plan) (seen_one plan.layout row rest is) lawful in all.0
 drop_first plan row rest false is lawful = subst (IsLawful plan) (seen_other plan.layout row rest is) lawful
 
-pub lawful_rest : (plan : Plan) (after before : List SeenRow) → IsLawful plan (seen plan.layout (after ++ before))
-    → IsLawful plan (seen plan.layout before)
+pub lawful_rest : (plan : Plan) (after before : List SeenRow) → IsLawful plan (sightings_of plan.layout (after ++ before))
+    → IsLawful plan (sightings_of plan.layout before)
 lawful_rest plan [] before lawful = lawful
 lawful_rest plan (row ∷ after) before lawful =
     lawful_rest plan after before (drop_first plan row (after ++ before)

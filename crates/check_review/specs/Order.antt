@@ -9,14 +9,14 @@ use Rattle.check_watch.specs.Plan.{Sighting}
 use Rattle.check_sides.specs.declared.links.Links.{Links}
 use Rattle.check_sides.specs.declared.links.Links.TheVariants.{Both, Masters, Ports, Each}
 use Rattle.check_sides.specs.Plan.{Layout}
-use Rattle.check_rows.specs.Moment.{place_of}
+use Rattle.check_rows.specs.Moment.{place_of_row}
 use Rattle.check_rows.specs.declared.fault.RowFault.{RowFault}
 use Rattle.check_rows.specs.declared.fault.RowFault.TheVariants as fault
 use Rattle.check_rows.specs.Row.{SeenRow}
 
 -- one row's beat crosses before another's: by time, and at one time by place
 abbrev pub CrossesBefore : SeenRow → SeenRow → Type 0
-CrossesBefore one other = (one.time < other.time) ⊎ ((one.time ≡ other.time) × (place_of one < place_of other))
+CrossesBefore one other = (one.time < other.time) ⊎ ((one.time ≡ other.time) × (place_of_row one < place_of_row other))
 
 -- each row crosses after all those that follow it in the list
 abbrev pub AreInOrder : List SeenRow → Type 0
@@ -38,7 +38,7 @@ NeverFalls file = IsNonDecreasingBy (λ row. row.time) file
 abbrev pub HasRowFault : List SeenRow → SeenRow → RowFault → Type 0
 HasRowFault file row fault.TimeFalls = (other : SeenRow) × Contains file other × (row.time < other.time)
 HasRowFault file row fault.TwoBeats =
-    (other : SeenRow) × Contains file other × (other.time ≡ row.time) × (place_of other ≡ place_of row)
+    (other : SeenRow) × Contains file other × (other.time ≡ row.time) × (place_of_row other ≡ place_of_row row)
 HasRowFault file row fault.Columns = ⊥
 HasRowFault file row fault.Number = ⊥
 HasRowFault file row fault.Range = ⊥
@@ -73,5 +73,5 @@ abbrev pub watched : Layout → List SeenRow → List SeenRow
 watched layout crossed = filter (λ row. is_watched layout row.sighting.link) crossed
 
 -- their sightings
-abbrev pub seen : Layout → List SeenRow → List Sighting
-seen layout crossed = map (λ row. row.sighting) (watched layout crossed)
+abbrev pub sightings_of : Layout → List SeenRow → List Sighting
+sightings_of layout crossed = map (λ row. row.sighting) (watched layout crossed)

@@ -11,7 +11,7 @@ use Rattle.check_watch.specs.Plan.{source_of}
 use Rattle.check_sides.specs.Lawful.{what_is_seen}
 use Rattle.check_sides.specs.declared.links.Links.{Links}
 use Rattle.check_lines.specs.Trace.{HasOwner, IsLine}
-use Rattle.check_review.specs.Count.{is_counted}
+use Rattle.check_coverage.specs.Flights.{is_counted}
 
 -- where messages of a link are counted, the source is somebody's
 abbrev pub IsCountedOfOwner : Links → List Owner → Link → ℕ → Type 0

@@ -7,29 +7,29 @@ use Rattle.check_rows.specs.Row.{SeenRow}
 use Rattle.check_rows.specs.declared.row.Row.{Row}
 use Rattle.check_unanswered.specs.Began.{IsComplete, IsLeft, row_with}
 use Rattle.check_unanswered.specs.declared.request.Left.{Left}
-use Rattle.check_lines.specs.declared.verdict.Counts.{Counts}
+use Rattle.check_lines.specs.declared.verdict.VerdictCounts.{VerdictCounts}
 use Rattle.check_review.specs.declared.stop.Refusal.{Refusal}
 use Rattle.check_review.specs.declared.stop.Refusal.TheVariants as refusal
 use Rattle.check_review.specs.declared.stop.Stop.{Stop}
 use Rattle.check_review.specs.declared.stop.Stop.TheVariants as stop
 use Rattle.check_review.specs.declared.stop.Unlawful.{Unlawful}
-use Rattle.check_review.specs.Order.{IsCrossing, IsLater, HasRowFault, is_watched, seen, watched}
-use Rattle.check_review.specs.Count.{asked, answered}
+use Rattle.check_review.specs.Order.{IsCrossing, IsLater, HasRowFault, is_watched, sightings_of, watched}
+use Rattle.check_review.specs.Count.{asked_in_past, answered_in_past}
 use Rattle.check_review.specs.Told.{AppendsTold, IsTold}
 
 -- the rows of a file, in the order in which their beats cross, are lawful at the links that are watched
 pub record IsLawfulFile (plan : Plan) (file : List SeenRow) : Type 0 where
   pub crossed : List SeenRow
   pub crossing : IsCrossing file crossed
-  pub lawful : IsLawful plan (seen plan.layout crossed)
+  pub lawful : IsLawful plan (sightings_of plan.layout crossed)
 
 -- how many rows a file has, and how many whole requests and replies are seen of them
-pub record HasCounts (plan : Plan) (file : List SeenRow) (counts : Counts) : Type 0 where
+pub record HasCounts (plan : Plan) (file : List SeenRow) (counts : VerdictCounts) : Type 0 where
   pub crossed : List SeenRow
   pub crossing : IsCrossing file crossed
   pub rows : counts.rows ≡ length file % 2 ^ 64
-  pub requests : counts.requests ≡ asked plan (seen plan.layout crossed)
-  pub answered : counts.answered ≡ answered plan (seen plan.layout crossed)
+  pub requests : counts.requests ≡ asked_in_past plan (sightings_of plan.layout crossed)
+  pub answered : counts.answered ≡ answered_in_past plan (sightings_of plan.layout crossed)
 
 -- what is answered of the requests that are left after some rows: nothing unless that is asked for; else that none is, or
 -- how many there are and the oldest
@@ -52,9 +52,9 @@ IsNamedBy row named = row_with named row.sighting.lanes ≡ row
 pub record IsUnlawfulAfter (plan : Plan) (before : List SeenRow) (row : SeenRow) (found : Unlawful) : Type 0 where
   pub named : IsNamedBy row found.row
   pub watched : IsTrue (is_watched plan.layout row.sighting.link)
-  pub lawful : IsLawful plan (seen plan.layout before)
-  pub unlawful : IsLawful plan (row.sighting ∷ seen plan.layout before) → ⊥
-  pub fault : IsFirstFault plan (seen plan.layout before) row.sighting found.fault
+  pub lawful : IsLawful plan (sightings_of plan.layout before)
+  pub unlawful : IsLawful plan (row.sighting ∷ sightings_of plan.layout before) → ⊥
+  pub fault : IsFirstFault plan (sightings_of plan.layout before) row.sighting found.fault
 
 -- the row is the first one, in the order in which beats cross, that makes the file unlawful, with its first fault
 pub record IsFirstUnlawful (plan : Plan) (file : List SeenRow) (found : Unlawful) : Type 0 where
@@ -67,20 +67,20 @@ pub record IsFirstUnlawful (plan : Plan) (file : List SeenRow) (found : Unlawful
 -- the rows of a file are lawful, and this is told of them
 pub record IsToldFile (trace : Bool) (plan : Plan) (file : List SeenRow) (text : List ℕ) : Type 0 where
   pub lawful : IsLawfulFile plan file
-  pub told : IsTold trace plan (seen plan.layout lawful.crossed) text
+  pub told : IsTold trace plan (sightings_of plan.layout lawful.crossed) text
 
 -- the row is the first one that makes a file unlawful, and this is told of those that cross before it
 pub record IsToldBefore (trace : Bool) (plan : Plan) (file : List SeenRow) (text : List ℕ) (found : Unlawful) : Type 0 where
   pub first : IsFirstUnlawful plan file found
-  pub told : IsTold trace plan (seen plan.layout first.before) text
+  pub told : IsTold trace plan (sightings_of plan.layout first.before) text
 
 -- rows of a file are lawful that cross before all others of it, and this is told of them
 pub record IsToldPart (trace : Bool) (plan : Plan) (file : List SeenRow) (text : List ℕ) : Type 0 where
   pub after : List SeenRow
   pub before : List SeenRow
   pub crossing : IsCrossing file (after ++ before)
-  pub lawful : IsLawful plan (seen plan.layout before)
-  pub told : IsTold trace plan (seen plan.layout before) text
+  pub lawful : IsLawful plan (sightings_of plan.layout before)
+  pub told : IsTold trace plan (sightings_of plan.layout before) text
 
 -- the rows of a file that are of an earlier time than its last are lawful, and this is told of them
 pub record IsToldEarlier (trace : Bool) (plan : Plan) (file : List SeenRow) (text : List ℕ) : Type 0 where
@@ -107,7 +107,7 @@ pub record StopsAt (plan : Plan) (rows before : List SeenRow) (found : Unlawful)
 pub record StopsTelling (trace : Bool) (plan : Plan) (rows before : List SeenRow) (old new : List ℕ)
     (found : Unlawful) : Type 0 where
   pub stops : StopsAt plan rows before found
-  pub told : AppendsTold trace plan (seen plan.layout before) (seen plan.layout (reverse stops.done ++ before)) old new
+  pub told : AppendsTold trace plan (sightings_of plan.layout before) (sightings_of plan.layout (reverse stops.done ++ before)) old new
 
 -- ---- want of memory
 
@@ -115,8 +115,8 @@ pub record StopsTelling (trace : Bool) (plan : Plan) (rows before : List SeenRow
 -- is to be, or for what is kept
 abbrev pub MayWantAfter : Bool → Plan → List SeenRow → SeenRow → Type 0
 MayWantAfter wants plan before row =
-    (wants ≡ true) ⊎ (IsLawful plan (row.sighting ∷ seen plan.layout before)
-    × MayNeedMemory plan (seen plan.layout before) row.sighting)
+    (wants ≡ true) ⊎ (IsLawful plan (row.sighting ∷ sightings_of plan.layout before)
+    × MayNeedMemory plan (sightings_of plan.layout before) row.sighting)
 
 -- it can be refused to one of these rows, which cross in this order after those before
 pub record MayWantAmong (wants : Bool) (plan : Plan) (rows before : List SeenRow) : Type 0 where

@@ -10,16 +10,16 @@ use Rattle.check_coverage.specs.View.{Covers}
 use Rattle.check_review.specs.declared.tally.Tally.{Tally}
 use Rattle.check_review.specs.declared.stop.Stop.{Stop}
 use Rattle.check_review.specs.declared.stop.Stop.TheVariants as stop
-use Rattle.check_review.specs.Order.{IsCrossing, NeverFalls, seen, watched}
-use Rattle.check_review.specs.Count.{asked, answered}
+use Rattle.check_review.specs.Order.{IsCrossing, NeverFalls, sightings_of, watched}
+use Rattle.check_review.specs.Count.{asked_in_past, answered_in_past}
 use Rattle.check_review.specs.Told.{IsTold}
 use Rattle.check_review.specs.Verdict.{IsToldBefore}
 
 -- the rows that crossed are lawful, and this is kept and counted of them, with what they cover if that is asked for
 pub record Tallied (plan : Plan) (crossed : List SeenRow) (tally : Tally) : Type 0 where
-  pub keeps : Keeps plan (seen plan.layout crossed) tally.watch
-  pub requests : tally.requests ≡ asked plan (seen plan.layout crossed)
-  pub answered : tally.answered ≡ answered plan (seen plan.layout crossed)
+  pub keeps : Keeps plan (sightings_of plan.layout crossed) tally.watch
+  pub requests : tally.requests ≡ asked_in_past plan (sightings_of plan.layout crossed)
+  pub answered : tally.answered ≡ answered_in_past plan (sightings_of plan.layout crossed)
   pub covers : IfSome tally.coverage (Covers plan (watched plan.layout crossed))
 
 -- and these of their requests are in flight, if it is asked which are left
@@ -75,7 +75,7 @@ is_traced judge = judge.tally.trace
 -- the rows of a file so far are taken, and this is told of those of earlier times than the moment at hand
 pub record HasTold (plan : Plan) (file : List SeenRow) (judge : JudgeView) (text : List ℕ) : Type 0 where
   pub judges : Judges plan file judge
-  pub told : IsTold (is_traced judge) plan (seen plan.layout judges.before) text
+  pub told : IsTold (is_traced judge) plan (sightings_of plan.layout judges.before) text
 
 -- a text grew by what is told after what was told so far, and so the judge of a file has told this
 pub record TellsOn (plan : Plan) (file : List SeenRow) (judge : JudgeView) (so_far old new : List ℕ) : Type 0 where

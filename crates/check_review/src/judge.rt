@@ -15,7 +15,7 @@ ghost use Rattle.check_review.specs.Verdict.{HasCounts, HasLeft, IsFirstUnlawful
 use crate::stop::{Ending, Refusal, Stop, stop_of};
 use crate::tally::Tally;
 use check_coverage::Coverage;
-use check_lines::Counts;
+use check_lines::VerdictCounts;
 use check_rows::{Moment, Row, RowFault};
 use check_sides::Watch;
 use check_unanswered::Pending;
@@ -288,7 +288,7 @@ impl Judge {
         if let Err(refusal) = self.tally.judge_rows(alloc, &self.moment, text) {
             return Err(refusal);
         }
-        let counts = Counts {
+        let counts = VerdictCounts {
             rows: self.rows,
             requests: self.tally.requests,
             answered: self.tally.answered,

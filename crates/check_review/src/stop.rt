@@ -2,7 +2,7 @@
 ghost use Rattle.std.specs.Prelude.{◌≡◌};
 ghost use Rattle.check_review.specs.Verdict.{stop_of};
 
-use check_lines::Counts;
+use check_lines::VerdictCounts;
 use check_rows::{Row, RowFault};
 use check_unanswered::Left;
 use check_watch::Fault;
@@ -10,7 +10,7 @@ use check_watch::Fault;
 /// How a lawful capture ends: its counts, and what is left of its requests, if that is asked for and there are any.
 #[derive(Debug, Clone, Copy, PartialEq, Eq)]
 pub struct Ending {
-    pub counts: Counts,
+    pub counts: VerdictCounts,
     pub left: Option<Left>,
 }
 

@@ -10,30 +10,21 @@ ghost use Rattle.check_unanswered.specs.Began.{beats_of, row_with};
 ghost use Rattle.check_unanswered.specs.View.{Holds};
 ghost use Rattle.check_coverage.specs.Flights.{end_of};
 ghost use Rattle.check_coverage.specs.View.{Covers};
-ghost use Rattle.check_review.specs.Count.{ends_a_reply, ends_an_ask, is_counted, one_more};
-ghost use Rattle.check_review.specs.Order.{seen};
+ghost use Rattle.check_coverage.specs.Flights.{ends_a_reply, ends_an_ask, is_counted};
+ghost use Rattle.check_review.specs.Count.{one_more};
+ghost use Rattle.check_review.specs.Order.{sightings_of};
 ghost use Rattle.check_review.specs.Told.{AppendsTold, AppendsToldOf, IsCountedOfOwner};
 ghost use Rattle.check_review.specs.View.{HasLanes, Kept, Tallied, wants};
 ghost use Rattle.check_review.specs.Verdict.{IsUnlawfulAfter, IsWhatIsLeft, MayWantAfter, MayWantAmong, OfUnlawful, StopsTelling};
 ghost use Rattle.check_review.specs.Covered.{StopsCovering};
 
 use crate::stop::{Refusal, Unlawful};
-use check_coverage::Coverage;
+use check_coverage::{Coverage, is_counted};
 use check_lines::push_answer;
 use check_rows::{Moment, Row};
 use check_sides::{Beat, Change, Ended, Link, Links, Seen, StepError, Watch};
 use check_unanswered::{Left, Pending};
 use std::alloc::{AllocError, Global};
-
-/// Whether messages are counted at a link: at the masters' if these are watched, else at the ports'.
-fn is_counted(links: Links, link: Link) -> bool
-    ensures { result ≡ is_counted links link }
-{
-    match link {
-        Link::Master(_) => matches!(links, Links::Both | Links::Masters | Links::Each),
-        Link::Port(_) => matches!(links, Links::Ports),
-    }
-}
 
 /// Counts what a beat ends at a link: a whole request or a whole reply, each modulo 2^64.
 pub fn count_end(links: Links, link: Link, end: Ended, requests: &mut u64, answered: &mut u64)
@@ -183,8 +174,8 @@ impl Tally {
         ensures keeps { (plan : Plan) (before : List SeenRow) → Tallied plan before self.old
             → OnOk result (Tallied plan (row_with row.now lanes.now ∷ before) self.new) }
         ensures told { (plan : Plan) (before : List SeenRow) → Tallied plan before self.old
-            → OnOk result (AppendsTold self.old.trace plan (seen plan.layout before)
-            (seen plan.layout (row_with row.now lanes.now ∷ before)) text.old.items text.new.items) }
+            → OnOk result (AppendsTold self.old.trace plan (sightings_of plan.layout before)
+            (sightings_of plan.layout (row_with row.now lanes.now ∷ before)) text.old.items text.new.items) }
         ensures fault { (plan : Plan) (before : List SeenRow) → Tallied plan before self.old
             → IfErr result (OfUnlawful (IsUnlawfulAfter plan before (row_with row.now lanes.now))) }
         ensures quiet { IfErr result (OfUnlawful (λ _. text.new.items ≡ text.old.items)) }
@@ -233,8 +224,8 @@ impl Tally {
         ensures keeps { (plan : Plan) (before : List SeenRow) → Tallied plan before self.old
             → OnOk result (Tallied plan (row_with row.now lanes.now ∷ before) self.new) }
         ensures told { (plan : Plan) (before : List SeenRow) → Tallied plan before self.old
-            → OnOk result (AppendsTold self.old.trace plan (seen plan.layout before)
-            (seen plan.layout (row_with row.now lanes.now ∷ before)) text.old.items text.new.items) }
+            → OnOk result (AppendsTold self.old.trace plan (sightings_of plan.layout before)
+            (sightings_of plan.layout (row_with row.now lanes.now ∷ before)) text.old.items text.new.items) }
         ensures fault { (plan : Plan) (before : List SeenRow) → Tallied plan before self.old
             → IfErr result (OfUnlawful (IsUnlawfulAfter plan before (row_with row.now lanes.now))) }
         ensures quiet { IfErr result (OfUnlawful (λ _. text.new.items ≡ text.old.items)) }
@@ -314,8 +305,8 @@ impl Tally {
         ensures keeps { (plan : Plan) (before : List SeenRow) → Kept plan before self.old
             → OnOk result (Kept plan (row_with row.now lanes.now ∷ before) self.new) }
         ensures told { (plan : Plan) (before : List SeenRow) → Kept plan before self.old
-            → OnOk result (AppendsTold self.old.trace plan (seen plan.layout before)
-            (seen plan.layout (row_with row.now lanes.now ∷ before)) text.old.items text.new.items) }
+            → OnOk result (AppendsTold self.old.trace plan (sightings_of plan.layout before)
+            (sightings_of plan.layout (row_with row.now lanes.now ∷ before)) text.old.items text.new.items) }
         ensures fault { (plan : Plan) (before : List SeenRow) → Kept plan before self.old
             → IfErr result (OfUnlawful (IsUnlawfulAfter plan before (row_with row.now lanes.now))) }
         ensures quiet { IfErr result (OfUnlawful (λ _. text.new.items ≡ text.old.items)) }
@@ -372,8 +363,8 @@ impl Tally {
         ensures keeps { (plan : Plan) (before : List SeenRow) → Kept plan before self.old
             → IfOk result (λ passed. passed ≡ true → Kept plan (reverse moment.now.rows ++ before) self.new) }
         ensures told { (plan : Plan) (before : List SeenRow) (text : List ℕ) → Kept plan before self.old
-            → IfOk result (λ passed. passed ≡ true → AppendsTold self.old.trace plan (seen plan.layout before)
-            (seen plan.layout (reverse moment.now.rows ++ before)) text text) }
+            → IfOk result (λ passed. passed ≡ true → AppendsTold self.old.trace plan (sightings_of plan.layout before)
+            (sightings_of plan.layout (reverse moment.now.rows ++ before)) text text) }
         ensures refused { IfOk result (λ passed. passed ≡ false → self.new ≡ self.old) }
         ensures memory { (plan : Plan) (before : List SeenRow) → Kept plan before self.old
             → IfErr result (λ _. MayWantAmong (wants self.old) plan moment.now.rows before) }
@@ -401,8 +392,8 @@ impl Tally {
         ensures keeps { (plan : Plan) (before : List SeenRow) → Kept plan before self.old
             → OnOk result (Kept plan (reverse moment.now.rows ++ before) self.new) }
         ensures told { (plan : Plan) (before : List SeenRow) → Kept plan before self.old
-            → OnOk result (AppendsTold self.old.trace plan (seen plan.layout before)
-            (seen plan.layout (reverse moment.now.rows ++ before)) text.old.items text.new.items) }
+            → OnOk result (AppendsTold self.old.trace plan (sightings_of plan.layout before)
+            (sightings_of plan.layout (reverse moment.now.rows ++ before)) text.old.items text.new.items) }
         ensures fault { (plan : Plan) (before : List SeenRow) → Kept plan before self.old
             → IfErr result (OfUnlawful (StopsTelling self.old.trace plan moment.now.rows before
             text.old.items text.new.items)) }

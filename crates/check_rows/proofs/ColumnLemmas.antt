@@ -6,7 +6,7 @@ use Rattle.std.specs.List.{All}
 use Rattle.std.proofs.lemmas.List.{drop_more, length-map, length-set, length-take-le, map-append, take_more_set}
 use Rattle.std.proofs.lemmas.List.Splits.{length-slice_split, slice_split_at, slice_split_none}
 use Rattle.csv.specs.Records.{field_at}
-use Rattle.check_rows.specs.Column.{or_empty, parts_of}
+use Rattle.check_rows.specs.Column.{or_empty, column_parts}
 
 -- ---- columns
 
@@ -45,15 +45,15 @@ all-plain (byte ∷ text) (suc n) inside plain =
 -- the first comma stands at this place
 pub parts-cut : (text : List ℕ) (n : ℕ) → n < length text
     → ((place : ℕ) → place < n → (get_or text place 0 == 44) ≡ false) → (get_or text n 0 == 44) ≡ true
-    → parts_of text ≡ take n text ∷ parts_of (drop (n + 1) text)
+    → column_parts text ≡ take n text ∷ column_parts (drop (n + 1) text)
 parts-cut text n inside plain ends =
-    ap parts_of (sym (take-append-drop n text) ∙ ap (λ (rest : List ℕ). take n text ++ rest) (drop_more text n 0 inside))
+    ap column_parts (sym (take-append-drop n text) ∙ ap (λ (rest : List ℕ). take n text ++ rest) (drop_more text n 0 inside))
     ∙ slice_split_at (λ (byte : ℕ). byte == 44) (take n text) (get_or text n 0) (drop (n + 1) text)
     (all-plain text n (omega (arith, inside)) plain) ends
 
 -- there is none
 pub parts-whole : (text : List ℕ) → ((place : ℕ) → place < length text → (get_or text place 0 == 44) ≡ false)
-    → parts_of text ≡ text ∷ []
+    → column_parts text ≡ text ∷ []
 parts-whole text plain =
     slice_split_none (λ (byte : ℕ). byte == 44) text
     (subst (All (λ byte. (byte == 44) ≡ false)) (take_all (length text) text (omega arith))
@@ -81,5 +81,5 @@ words-all all i word size =
     ∙ words-last all i word (omega (arith, size))
 
 -- a line has a part
-pub some-part : (line : List ℕ) → 0 < length (parts_of line)
+pub some-part : (line : List ℕ) → 0 < length (column_parts line)
 some-part line = let size = length-slice_split (λ (byte : ℕ). byte == 44) line in omega (arith, size)

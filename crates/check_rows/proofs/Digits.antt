@@ -6,7 +6,7 @@ use Rattle.std.specs.List.{range_with_len}
 use Rattle.std.proofs.lemmas.Bool.{cases_lt, false≢true, ltb-true}
 use Rattle.std.proofs.lemmas.List.FromFn.{get_or-map-range_with_len}
 use Rattle.check_rows.specs.Digit.{digit_code}
-use Rattle.check_rows.specs.Lanes.{is_shown, is_unknown, lane_of}
+use Rattle.check_rows.specs.Lanes.{is_shown, is_unknown, lane_of_digits}
 use Rattle.check_rows.specs.declared.digit.TheConstants.{CODES}
 
 -- the table, computed
@@ -99,8 +99,8 @@ lane_by-none false l true false byte one shown = refl
 lane_by-none false l false sl byte one shown = refl
 
 pub lane-known : (high low : ℕ) → max (digit_code high) (digit_code low) < 16
-    → lane_of high low ≡ Some (Some (16 * digit_code high + digit_code low))
-unfolding lane_of
+    → lane_of_digits high low ≡ Some (Some (16 * digit_code high + digit_code low))
+unfolding lane_of_digits
 lane-known high low small =
     let h : digit_code high < 16 = omega (arith, small) in
     let l : digit_code low < 16 = omega (arith, small) in
@@ -134,15 +134,15 @@ one_shown high low large =
       | inr small ↦ and-right (is_shown high) (is_shown low) (shown-large low (omega (arith, large, small)))
     ]
 
-pub lane-unknown : (high low : ℕ) → max (digit_code high) (digit_code low) ≡ 16 → lane_of high low ≡ Some None
-unfolding lane_of
+pub lane-unknown : (high low : ℕ) → max (digit_code high) (digit_code low) ≡ 16 → lane_of_digits high low ≡ Some None
+unfolding lane_of_digits
 lane-unknown high low is =
     lane_by-unknown (is_digit high 16) (is_digit low 16) (is_shown high) (is_shown low)
     (16 * digit_value high + digit_value low) (one_digit high low (omega (arith, is)))
     (shown-small high (omega (arith, is))) (shown-small low (omega (arith, is)))
 
-pub lane-none : (high low : ℕ) → 16 < max (digit_code high) (digit_code low) → lane_of high low ≡ None
-unfolding lane_of
+pub lane-none : (high low : ℕ) → 16 < max (digit_code high) (digit_code low) → lane_of_digits high low ≡ None
+unfolding lane_of_digits
 lane-none high low large =
     lane_by-none (is_digit high 16) (is_digit low 16) (is_shown high) (is_shown low)
     (16 * digit_value high + digit_value low) (one_digit high low (omega (arith, large))) (one_shown high low large)

@@ -15,19 +15,19 @@ use Rattle.check_rows.proofs.Digits.{lane-none}
 use Rattle.check_rows.proofs.Numbers.{hex_of-digits}
 use Rattle.check_rows.proofs.Shown.{lane-here, shown_by-none}
 use Rattle.check_rows.specs.Digit.{digit_code}
-use Rattle.check_rows.specs.Lanes.{Lanes, lane_of, lanes_of, shown_by}
+use Rattle.check_rows.specs.Lanes.{SeenLanes, lane_of_digits, lanes_of, shown_by}
 use Rattle.check_rows.specs.declared.fault.RowFault.TheVariants.{Number}
 use Rattle.check_beats.specs.declared.bus.Bus.{Bus}
 use Rattle.check_watch.specs.declared.beat.Link.TheVariants.{Master, Port}
 use Rattle.check_rows.specs.Columns.{channel_of, flag_of, index_of, link_of, nothing_of}
 use Rattle.check_rows.specs.Number.{address_of, decimal_of, hex_of, mask_digits, mask_of}
-use Rattle.check_rows.specs.declared.columns.Channel.TheVariants as channel
+use Rattle.check_rows.specs.declared.columns.RowChannel.TheVariants as channel
 use Rattle.check_rows.specs.declared.fault.RowFault.{RowFault}
-use Rattle.check_rows.specs.Column.{parts_of}
-use Rattle.check_rows.specs.Front.{BeginsWith, FirstIsNumber, FirstSpells, LastSpell}
-use Rattle.check_rows.specs.Row.{SeenBeat, ask_of, beat_of, reply_of, row_of}
-use Rattle.check_rows.specs.Buses.{bus_of}
-use Rattle.check_rows.specs.declared.columns.Channel.{Channel}
+use Rattle.check_rows.specs.Column.{column_parts}
+use Rattle.check_rows.specs.Front.{BeginsWithNumber, FirstIsNumber, FirstSpells, LastSpell}
+use Rattle.check_rows.specs.Row.{SeenBeat, ask_of_words, beat_of, reply_of_words, row_of}
+use Rattle.check_rows.specs.Buses.{bus_of_link}
+use Rattle.check_rows.specs.declared.columns.RowChannel.{RowChannel}
 use Rattle.check_watch.specs.Plan.{seen_at}
 use Rattle.check_watch.specs.declared.beat.Link.{Link}
 use Rattle.check_beats.specs.Bus.{bus_bytes}
@@ -42,13 +42,13 @@ Ok≢Err x fault is = grind (arith)
 pub decimal_digit : (c : ℕ) → 48 ≤ c → c ≤ 57 → digit_value c ≡ c - 48
 decimal_digit c low high = grind (arith, nat_tests)
 
-pub begins-none : (radix : ℕ) (text : List ℕ) → BeginsWith radix text 0 0
+pub begins-none : (radix : ℕ) (text : List ℕ) → BeginsWithNumber radix text 0 0
 begins-none radix text = record { inside = omega arith; digits = refl; value = refl }
 
 -- one digit more
 pub begins-more : (radix : ℕ) (text : List ℕ) (number count digit next : ℕ) → count < length text
     → is_digit (get_or text count 0) radix ≡ true → digit ≡ digit_value (get_or text count 0)
-    → next ≡ number * radix + digit → BeginsWith radix text number count → BeginsWith radix text next (count + 1)
+    → next ≡ number * radix + digit → BeginsWithNumber radix text number count → BeginsWithNumber radix text next (count + 1)
 begins-more radix text number count digit next within is same more h = record {
   inside = omega (arith, within);
   digits = list_all_more (λ (c : ℕ). is_digit c radix) text count 0 within
@@ -76,22 +76,22 @@ none-comma radix word none all = λ k d below. no-comma radix (get_or word k d) 
 
 -- digits and a comma are a column
 parts-of-digits : (radix : ℕ) (text : List ℕ) (number count : ℕ) → is_digit 44 radix ≡ false → count < length text
-    → get_or text count 0 ≡ 44 → BeginsWith radix text number count
-    → parts_of text ≡ take count text ∷ parts_of (drop (count + 1) text)
+    → get_or text count 0 ≡ 44 → BeginsWithNumber radix text number count
+    → column_parts text ≡ take count text ∷ column_parts (drop (count + 1) text)
 parts-of-digits radix text number count none inside comma h =
-    ap parts_of (sym (take-append-drop count text)
+    ap column_parts (sym (take-append-drop count text)
     ∙ ap (λ (rest : List ℕ). take count text ++ rest) (drop_more text count 0 inside))
     ∙ slice_split_at (λ (byte : ℕ). byte == 44) (take count text) (get_or text count 0) (drop (count + 1) text)
     (none-comma radix (take count text) none h.digits) (rw comma refl)
 
-some-digits : (radix : ℕ) (text : List ℕ) (number count : ℕ) → 0 < count → BeginsWith radix text number count
+some-digits : (radix : ℕ) (text : List ℕ) (number count : ℕ) → 0 < count → BeginsWithNumber radix text number count
     → are_digits radix (take count text) ≡ true
 some-digits radix text number count some h =
     let size = length-take-le count text h.inside in
     rw (lt-ltb 0 (length (take count text)) (omega (arith, size, some)), h.digits) refl
 
 pub first-number : (text : List ℕ) (number count : ℕ) → 0 < count → count < length text → get_or text count 0 ≡ 44
-    → BeginsWith 10 text number count → FirstIsNumber text number (drop (count + 1) text)
+    → BeginsWithNumber 10 text number count → FirstIsNumber text number (drop (count + 1) text)
 first-number text number count some inside comma h = record {
   word = take count text;
   parts = parts-of-digits 10 text number count refl inside comma h;
@@ -119,7 +119,7 @@ spells-decimal most text number rest small room h = record {
 }
 
 pub spells-address : (text : List ℕ) (number count : ℕ) → 0 < count → count ≤ 16 → count < length text
-    → get_or text count 0 ≡ 44 → BeginsWith 16 text number count
+    → get_or text count 0 ≡ 44 → BeginsWithNumber 16 text number count
     → FirstSpells address_of text number (drop (count + 1) text)
 unfolding address_of
 spells-address text number count some few inside comma h =
@@ -132,7 +132,7 @@ spells-address text number count some few inside comma h =
     }
 
 pub spells-mask : (bus : ℕ) (text : List ℕ) (number count : ℕ) → count ≡ mask_digits bus → number < 2 ^ bus
-    → count < length text → get_or text count 0 ≡ 44 → BeginsWith 16 text number count
+    → count < length text → get_or text count 0 ≡ 44 → BeginsWithNumber 16 text number count
     → FirstSpells (mask_of bus) text number (drop (count + 1) text)
 unfolding mask_of
 spells-mask bus text number count whole small inside comma h =
@@ -163,8 +163,8 @@ spells-index count text number rest small h =
     }
 
 -- a byte that is no comma stands before the first column
-one_more : (byte : ℕ) (text word : List ℕ) (rest : List (List ℕ)) → (byte == 44) ≡ false → parts_of text ≡ word ∷ rest
-    → parts_of (byte ∷ text) ≡ (byte ∷ word) ∷ rest
+one_more : (byte : ℕ) (text word : List ℕ) (rest : List (List ℕ)) → (byte == 44) ≡ false → column_parts text ≡ word ∷ rest
+    → column_parts (byte ∷ text) ≡ (byte ∷ word) ∷ rest
 one_more byte text word rest plain is =
     slice_split-cons_no (λ (c : ℕ). c == 44) byte text plain ∙ ap (onto_first byte) is
 
@@ -174,7 +174,7 @@ pub spells-master : (masters ports : List Bus) (text : List ℕ) (number : ℕ) 
 unfolding link_of
 spells-master masters ports text number rest h = record {
   word = 109 ∷ h.word;
-  parts = one_more 109 text h.word (parts_of rest) refl h.parts;
+  parts = one_more 109 text h.word (column_parts rest) refl h.parts;
   spells = rw h.spells refl;
 }
 
@@ -184,7 +184,7 @@ pub spells-port : (masters ports : List Bus) (text : List ℕ) (number : ℕ) (r
 unfolding link_of
 spells-port masters ports text number rest h = record {
   word = 112 ∷ h.word;
-  parts = one_more 112 text h.word (parts_of rest) refl h.parts;
+  parts = one_more 112 text h.word (column_parts rest) refl h.parts;
   spells = rw h.spells refl;
 }
 
@@ -194,7 +194,7 @@ pub one_byte : {A : Type 0} (read : List ℕ → Result A RowFault) (byte : ℕ)
     → (byte == 44) ≡ false → read (byte ∷ []) ≡ Ok value → FirstSpells read (byte ∷ 44 ∷ rest) value rest
 one_byte read byte value rest plain is = record {
   word = byte ∷ [];
-  parts = one_more byte (44 ∷ rest) [] (parts_of rest) plain refl;
+  parts = one_more byte (44 ∷ rest) [] (column_parts rest) plain refl;
   spells = is;
 }
 
@@ -219,12 +219,12 @@ and-no true = refl
 and-no false = refl
 
 -- a flag has no comma
-pub flag-plain : (text : List ℕ) (flag : Bool) → flag_of text ≡ Ok flag → parts_of text ≡ text ∷ []
+pub flag-plain : (text : List ℕ) (flag : Bool) → flag_of text ≡ Ok flag → column_parts text ≡ text ∷ []
 unfolding flag_of
 flag-plain [] flag is = absurd (Ok≢Err flag Number (sym is))
 flag-plain (byte ∷ []) flag is = go (byte == 44) refl
   where
-    go : (same : Bool) → (byte == 44) ≡ same → parts_of (byte ∷ []) ≡ (byte ∷ []) ∷ []
+    go : (same : Bool) → (byte == 44) ≡ same → column_parts (byte ∷ []) ≡ (byte ∷ []) ∷ []
     go false here = slice_split-cons_no (λ (c : ℕ). c == 44) byte [] here
     go true here =
         let fault : flag_of (byte ∷ []) ≡ Err Number = rw (eqb-true byte 44 here) refl in
@@ -237,7 +237,7 @@ flag-plain (first ∷ second ∷ more) flag is =
 
 -- where a comma stands, no lanes are shown
 no-lanes-here : (bus : ℕ) (word : List ℕ) (place : ℕ) → place < 2 * bus → get_or word place 0 ≡ 44
-    → lane_of (get_or word (2 * (place / 2)) 0) (get_or word (2 * (place / 2) + 1) 0) ≡ None
+    → lane_of_digits (get_or word (2 * (place / 2)) 0) (get_or word (2 * (place / 2) + 1) 0) ≡ None
 unfolding digit_code
 no-lanes-here bus word place within comma =
     elim (cases_lt (place % 2) 1) [
@@ -266,7 +266,7 @@ fault-of-none bus word some whole none =
     rw (other, same, none) refl
 
 -- lanes that are read have no comma
-plain-lanes : (bus : ℕ) (word : List ℕ) (lanes : Lanes) → lanes_of bus word ≡ Ok lanes
+plain-lanes : (bus : ℕ) (word : List ℕ) (lanes : SeenLanes) → lanes_of bus word ≡ Ok lanes
     → length word ≡ 2 * bus → (place : ℕ) → place < length word → (get_or word place 0 == 44) ≡ false
 plain-lanes bus word lanes is whole place within = go (get_or word place 0 == 44) refl
   where
@@ -277,7 +277,7 @@ plain-lanes bus word lanes is whole place within = go (get_or word place 0 == 44
         let none = no-lanes bus word place (omega (arith, within, whole)) comma in
         absurd (Ok≢Err lanes Number (sym is ∙ fault-of-none bus word (omega (arith, within)) whole none))
 
-pub spells-lanes : (bus : ℕ) (text : List ℕ) (lanes : Lanes) (count : ℕ) → (count ≡ 0) ⊎ (count ≡ 2 * bus)
+pub spells-lanes : (bus : ℕ) (text : List ℕ) (lanes : SeenLanes) (count : ℕ) → (count ≡ 0) ⊎ (count ≡ 2 * bus)
     → count < length text → get_or text count 0 ≡ 44 → Ok lanes ≡ lanes_of bus (take count text)
     → FirstSpells (lanes_of bus) text lanes (drop (count + 1) text)
 spells-lanes bus text lanes count size inside comma is = record {
@@ -300,17 +300,17 @@ spells-lanes bus text lanes count size inside comma is = record {
 -- ---- the columns of a beat
 
 -- nothing stands behind the last comma
-pub none-behind : (rest : List ℕ) → (length rest == 0) ≡ true → [] ∷ parts_of rest ≡ [] ∷ [] ∷ []
+pub none-behind : (rest : List ℕ) → (length rest == 0) ≡ true → [] ∷ column_parts rest ≡ [] ∷ [] ∷ []
 none-behind [] is = refl
 none-behind (byte ∷ rest) is = let none = eqb-true (length (byte ∷ rest)) 0 is in absurd (omega (arith, none))
 
 -- seven columns that are read, an empty one, and an empty last one, are nine
-pub ask-spells : (bus : ℕ) (text : List ℕ) (opcode param size source address mask : ℕ) (lanes : Lanes)
+pub ask-spells : (bus : ℕ) (text : List ℕ) (opcode param size source address mask : ℕ) (lanes : SeenLanes)
     (t₁ t₂ t₃ t₄ t₅ t₆ t₇ : List ℕ) → FirstSpells (decimal_of 255) text opcode t₁
     → FirstSpells (decimal_of 255) t₁ param t₂ → FirstSpells (decimal_of 255) t₂ size t₃
     → FirstSpells (decimal_of 65535) t₃ source t₄ → FirstSpells address_of t₄ address t₅
     → FirstSpells (mask_of bus) t₅ mask t₆ → FirstSpells (lanes_of bus) t₆ lanes t₇
-    → parts_of t₇ ≡ [] ∷ [] ∷ [] → LastSpell (ask_of bus) text (record {
+    → column_parts t₇ ≡ [] ∷ [] ∷ [] → LastSpell (ask_of_words bus) text (record {
       beat = beat.A (record {
         opcode = opcode;
         param = param;
@@ -321,9 +321,9 @@ pub ask-spells : (bus : ℕ) (text : List ℕ) (opcode param size source address
       });
       lanes = lanes;
     })
-unfolding ask_of field_at nothing_of
+unfolding ask_of_words field_at nothing_of
 ask-spells bus text opcode param size source address mask lanes t₁ t₂ t₃ t₄ t₅ t₆ t₇ h₁ h₂ h₃ h₄ h₅ h₆ h₇ last =
-    let all : parts_of text
+    let all : column_parts text
     ≡ h₁.word ∷ h₂.word ∷ h₃.word ∷ h₄.word ∷ h₅.word ∷ h₆.word ∷ h₇.word ∷ [] ∷ [] ∷ [] =
     rw (h₁.parts, h₂.parts, h₃.parts, h₄.parts, h₅.parts, h₆.parts, h₇.parts, last) refl in
     record {
@@ -333,18 +333,18 @@ ask-spells bus text opcode param size source address mask lanes t₁ t₂ t₃ t
     }
 
 -- a reply has three empty columns, and two flags at the end
-pub reply-spells : (bus : ℕ) (text : List ℕ) (opcode size source : ℕ) (lanes : Lanes) (denied corrupt : Bool)
-    (t₁ t₂ t₃ t₄ t₅ t₆ t₇ t₈ : List ℕ) → FirstSpells (decimal_of 255) text opcode t₁ → parts_of t₁ ≡ [] ∷ parts_of t₂
+pub reply-spells : (bus : ℕ) (text : List ℕ) (opcode size source : ℕ) (lanes : SeenLanes) (denied corrupt : Bool)
+    (t₁ t₂ t₃ t₄ t₅ t₆ t₇ t₈ : List ℕ) → FirstSpells (decimal_of 255) text opcode t₁ → column_parts t₁ ≡ [] ∷ column_parts t₂
     → FirstSpells (decimal_of 255) t₂ size t₃ → FirstSpells (decimal_of 65535) t₃ source t₄
-    → parts_of t₄ ≡ [] ∷ parts_of t₅ → parts_of t₅ ≡ [] ∷ parts_of t₆ → FirstSpells (lanes_of bus) t₆ lanes t₇
-    → FirstSpells flag_of t₇ denied t₈ → flag_of t₈ ≡ Ok corrupt → parts_of t₈ ≡ t₈ ∷ []
-    → LastSpell (reply_of bus) text (record {
+    → column_parts t₄ ≡ [] ∷ column_parts t₅ → column_parts t₅ ≡ [] ∷ column_parts t₆ → FirstSpells (lanes_of bus) t₆ lanes t₇
+    → FirstSpells flag_of t₇ denied t₈ → flag_of t₈ ≡ Ok corrupt → column_parts t₈ ≡ t₈ ∷ []
+    → LastSpell (reply_of_words bus) text (record {
       beat = beat.D (record { opcode = opcode; size = size; source = source; denied = denied; corrupt = corrupt });
       lanes = lanes;
     })
-unfolding reply_of field_at nothing_of
+unfolding reply_of_words field_at nothing_of
 reply-spells bus text opcode size source lanes denied corrupt t₁ t₂ t₃ t₄ t₅ t₆ t₇ t₈ h₁ e₁ h₂ h₃ e₂ e₃ h₄ h₅ flag last =
-    let all : parts_of text ≡ h₁.word ∷ [] ∷ h₂.word ∷ h₃.word ∷ [] ∷ [] ∷ h₄.word ∷ h₅.word ∷ t₈ ∷ [] =
+    let all : column_parts text ≡ h₁.word ∷ [] ∷ h₂.word ∷ h₃.word ∷ [] ∷ [] ∷ h₄.word ∷ h₅.word ∷ t₈ ∷ [] =
     rw (h₁.parts, e₁, h₂.parts, h₃.parts, e₂, e₃, h₄.parts, h₅.parts, last) refl in
     record {
       nine = rw all refl;
@@ -352,16 +352,16 @@ reply-spells bus text opcode size source lanes denied corrupt t₁ t₂ t₃ t�
     }
 
 -- three columns and the nine of a beat are a row
-pub row-spells : (masters ports : List Bus) (line time : ℕ) (link : Link) (channel : Channel) (bus : Bus)
+pub row-spells : (masters ports : List Bus) (line time : ℕ) (link : Link) (channel : RowChannel) (bus : Bus)
     (seen : SeenBeat) (text t₁ t₂ t₃ : List ℕ) → FirstSpells (decimal_of (2 ^ 64 - 1)) text time t₁
     → FirstSpells (link_of masters ports) t₁ link t₂ → FirstSpells channel_of t₂ channel t₃
-    → bus_bytes bus ≡ bus_of masters ports link → LastSpell (beat_of (bus_bytes bus) channel) t₃ seen
-    → row_of masters ports line (parts_of text) ≡ Ok (record {
+    → bus_bytes bus ≡ bus_of_link masters ports link → LastSpell (beat_of (bus_bytes bus) channel) t₃ seen
+    → row_of masters ports line (column_parts text) ≡ Ok (record {
       line = line;
       time = time;
       sighting = seen_at link seen.beat seen.lanes.known seen.lanes.bytes;
     })
 unfolding row_of field_at
 row-spells masters ports line time link channel bus seen text t₁ t₂ t₃ h₁ h₂ h₃ bytes h =
-    let all : parts_of text ≡ h₁.word ∷ h₂.word ∷ h₃.word ∷ parts_of t₃ = rw (h₁.parts, h₂.parts, h₃.parts) refl in
+    let all : column_parts text ≡ h₁.word ∷ h₂.word ∷ h₃.word ∷ column_parts t₃ = rw (h₁.parts, h₂.parts, h₃.parts) refl in
     rw (all, h.nine, h₁.spells, h₂.spells, h₃.spells, ← bytes, h.spells h₁.word h₂.word h₃.word) refl

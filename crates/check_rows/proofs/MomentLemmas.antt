@@ -7,7 +7,7 @@ use Rattle.check_beats.specs.Bus.{bus_bytes}
 use Rattle.check_beats.specs.declared.bus.Bus.{Bus}
 use Rattle.check_beats.specs.declared.bus.Bus.TheVariants.{One, Two, Four, Eight, Sixteen, ThirtyTwo, SixtyFour}
 use Rattle.check_watch.specs.Plan.{seen_at}
-use Rattle.check_rows.specs.Moment.{Cross, HasBeat, IsGap, IsKept, IsKeptGap, IsLink, IsMoment, Moment, kept_place, kept_row, moment_of, place_at, place_of}
+use Rattle.check_rows.specs.Moment.{Cross, HasBeat, IsGap, AreLanesKept, IsKeptGap, IsLink, IsMoment, Moment, kept_place, kept_row, moment_of, place_at, place_of_row}
 use Rattle.check_rows.specs.Row.{SeenRow, seen_row}
 use Rattle.check_rows.specs.declared.moment.Kept.{Kept}
 use Rattle.check_rows.specs.declared.row.Row.{Row}
@@ -23,7 +23,7 @@ inside-at (Port n) (A b) h = omega (arith, h)
 inside-at (Port n) (D b) h = omega (arith, h)
 inside-at (Master n) (D b) h = omega (arith, h)
 
-all-inside : (rows : List SeenRow) → All (λ row. IsLink row.sighting.link) rows → All (λ row. place_of row < 638) rows
+all-inside : (rows : List SeenRow) → All (λ row. IsLink row.sighting.link) rows → All (λ row. place_of_row row < 638) rows
 all-inside rows all k d inside = let row = get_or rows k d in
     inside-at row.sighting.link row.sighting.beat (all k d inside)
 
@@ -35,35 +35,35 @@ cross-lower low higher (row ∷ more) below cross = let first = cross.0 in (omeg
 
 -- the first row after a place
 cross-behind : (row : SeenRow) (rows : List SeenRow) (low : ℕ) (d : SeenRow) → Cross low rows
-    → (0 < length rows → place_of row < place_of (get_or rows 0 d))
-    → Cross (place_of row + 1) rows
+    → (0 < length rows → place_of_row row < place_of_row (get_or rows 0 d))
+    → Cross (place_of_row row + 1) rows
 unfolding Cross
 cross-behind row [] low d cross behind = tt
 cross-behind row (first ∷ more) low d cross behind = let here = behind (omega arith) in (omega (arith, here), cross.1)
 
 -- what stands among them stands at `low` or after it
 cross-low : (low : ℕ) (rows : List SeenRow) (i : ℕ) (d : SeenRow) → Cross low rows → i < length rows
-    → low ≤ place_of (get_or rows i d)
+    → low ≤ place_of_row (get_or rows i d)
 unfolding Cross
 cross-low low [] i d cross inside = absurd (omega (arith, inside))
 cross-low low (row ∷ more) zero d cross inside = cross.0
 cross-low low (row ∷ more) (suc i) d cross inside =
-    let next = cross-low (place_of row + 1) more i d cross.1 (omega (arith, inside)) in
+    let next = cross-low (place_of_row row + 1) more i d cross.1 (omega (arith, inside)) in
     let first = cross.0 in
     omega (arith, next, first)
 
 -- a row after the first i, of which the last is nearest, is after the first
 cross-first : (low : ℕ) (first row d : SeenRow) (more : List SeenRow) (i : ℕ) → Cross low (first ∷ more) → i ≤ length more
-    → place_of (get_or (first ∷ more) i d) < place_of row → place_of first < place_of row
+    → place_of_row (get_or (first ∷ more) i d) < place_of_row row → place_of_row first < place_of_row row
 unfolding Cross
 cross-first low first row d more zero cross inside before = before
 cross-first low first row d more (suc i) cross inside before =
-    let next = cross-low (place_of first + 1) more i d cross.1 (omega (arith, inside)) in
+    let next = cross-low (place_of_row first + 1) more i d cross.1 (omega (arith, inside)) in
     omega (arith, next, before)
 
-cross-insert : (low : ℕ) (rows : List SeenRow) (i : ℕ) (row d : SeenRow) → Cross low rows → low ≤ place_of row → i ≤ length rows
-    → ((k : ℕ) → k + 1 ≡ i → place_of (get_or rows k d) < place_of row)
-    → (i < length rows → place_of row < place_of (get_or rows i d))
+cross-insert : (low : ℕ) (rows : List SeenRow) (i : ℕ) (row d : SeenRow) → Cross low rows → low ≤ place_of_row row → i ≤ length rows
+    → ((k : ℕ) → k + 1 ≡ i → place_of_row (get_or rows k d) < place_of_row row)
+    → (i < length rows → place_of_row row < place_of_row (get_or rows i d))
     → Cross low (insert rows i row)
 unfolding Cross
 cross-insert low rows zero row d cross above inside before behind = (above, cross-behind row rows low d cross behind)
@@ -71,17 +71,17 @@ cross-insert low [] (suc i) row d cross above inside before behind = absurd (ome
 cross-insert low (first ∷ more) (suc i) row d cross above inside before behind =
     let later = cross-first low first row d more i cross (omega (arith, inside)) (before i (omega arith)) in (
       cross.0,
-      cross-insert (place_of first + 1) more i row d cross.1 (omega (arith, later)) (omega (arith, inside))
+      cross-insert (place_of_row first + 1) more i row d cross.1 (omega (arith, later)) (omega (arith, inside))
           (λ k is. before (suc k) (omega (arith, is))) (λ in_more. behind (omega (arith, in_more))),
     )
 
 -- so many rows are no more than there are places
-cross-length : (low : ℕ) (rows : List SeenRow) → Cross low rows → All (λ row. place_of row < 638) rows
+cross-length : (low : ℕ) (rows : List SeenRow) → Cross low rows → All (λ row. place_of_row row < 638) rows
     → length rows ≤ 638 - low
 unfolding Cross
 cross-length low [] cross all = omega arith
 cross-length low (row ∷ more) cross all =
-    let rest = cross-length (place_of row + 1) more cross.1 (λ k d inside. all (suc k) d (omega (arith, inside))) in
+    let rest = cross-length (place_of_row row + 1) more cross.1 (λ k d inside. all (suc k) d (omega (arith, inside))) in
     let first = cross.0 in
     let here = all 0 row (omega arith) in
     omega (arith, rest, first, here)
@@ -122,7 +122,7 @@ pub record Belongs (moment : Moment) (i : ℕ) (row : SeenRow) : Type 0 where
   pub lawful : IsMoment moment
   pub link : IsLink row.sighting.link
   pub now : row.time ≡ moment.time
-  pub gap : IsGap moment.rows (place_of row) i
+  pub gap : IsGap moment.rows (place_of_row row) i
 
 pub moment-insert : (moment : Moment) (i : ℕ) (row : SeenRow) → Belongs moment i row
     → IsMoment (record { time = moment.time; rows = insert moment.rows i row })
@@ -203,7 +203,7 @@ bus-small Sixteen = lit≤ tt
 bus-small ThirtyTwo = lit≤ tt
 bus-small SixtyFour = lit≤ tt
 
-pub none-kept : (time : ℕ) → IsKept time [] []
+pub none-kept : (time : ℕ) → AreLanesKept time [] []
 none-kept time = record {
   moment = moment-empty time;
   inside = λ k d inside. absurd (omega (arith, inside));
@@ -212,14 +212,14 @@ none-kept time = record {
 
 -- a row that is put in among those that are kept
 pub record CanBeKept (time : ℕ) (rows : List Kept) (lanes buffer : List ℕ) (row : Row) (i : ℕ) : Type 0 where
-  pub kept : IsKept time rows lanes
+  pub kept : AreLanesKept time rows lanes
   pub link : IsLink row.link
   pub now : row.time ≡ time
   pub long : bus_bytes row.bus ≤ length buffer
   pub gap : IsGap (map (kept_row lanes) rows) (place_at row.link row.beat) i
 
 pub can-be-kept : (time : ℕ) (rows : List Kept) (lanes buffer : List ℕ) (row : Row) (i : ℕ) (old : Moment)
-    → moment_of time rows lanes ≡ old → IsKept time rows lanes → IsLink row.link → row.time ≡ old.time
+    → moment_of time rows lanes ≡ old → AreLanesKept time rows lanes → IsLink row.link → row.time ≡ old.time
     → bus_bytes row.bus ≤ length buffer → IsGap old.rows (place_at row.link row.beat) i
     → CanBeKept time rows lanes buffer row i
 can-be-kept time rows lanes buffer row i old is kept link now long gap = record {
@@ -266,7 +266,7 @@ all-kept P rows i row all here =
 
 pub kept-insert : (time : ℕ) (rows : List Kept) (lanes buffer : List ℕ) (row : Row) (i : ℕ)
     → CanBeKept time rows lanes buffer row i
-    → IsKept time (insert rows i (added row lanes)) (lanes ++ take (bus_bytes row.bus) buffer)
+    → AreLanesKept time (insert rows i (added row lanes)) (lanes ++ take (bus_bytes row.bus) buffer)
 kept-insert time rows lanes buffer row i h =
     let bus = bus_bytes row.bus in
     let part = take bus buffer in
@@ -296,12 +296,12 @@ links-kept lanes rows all k d within =
 
 place-seen : (lanes : List ℕ) (rows : List Kept) (k : ℕ) (row : SeenRow) → k < length rows
     → (P : ℕ → Type 0) → ((kept : Kept) → P (kept_place (get_or rows k kept)))
-    → P (place_of (get_or (map (kept_row lanes) rows) k row))
+    → P (place_of_row (get_or (map (kept_row lanes) rows) k row))
 place-seen lanes [] k row within P is = absurd (omega (arith, within))
 place-seen lanes (first ∷ rows) k row within P is =
     let same : get_or (map (kept_row lanes) (first ∷ rows)) k row ≡ kept_row lanes (get_or (first ∷ rows) k first) =
     get_or-map (kept_row lanes) (first ∷ rows) k first row within in
-    subst (λ (x : SeenRow). P (place_of x)) (sym same) (is first)
+    subst (λ (x : SeenRow). P (place_of_row x)) (sym same) (is first)
 
 pub gap-seen : (lanes : List ℕ) (rows : List Kept) (place i : ℕ) → IsKeptGap rows place i
     → IsGap (map (kept_row lanes) rows) place i
@@ -318,7 +318,7 @@ gap-seen lanes rows place i h =
 
 -- a row that stands at a place is one of those that are seen
 pub beat-seen : (time : ℕ) (lanes : List ℕ) (rows : List Kept) (kept : Kept) (row : SeenRow) → Contains rows kept
-    → kept_place kept ≡ place_of row → HasBeat (moment_of time rows lanes) row
+    → kept_place kept ≡ place_of_row row → HasBeat (moment_of time rows lanes) row
 beat-seen time lanes rows kept row there same =
     let size : length (map (kept_row lanes) rows) ≡ length rows = length-map rows (kept_row lanes) in
     let within = there.1 in

@@ -7,7 +7,7 @@ use Rattle.std.specs.Option.{is_some, option_and_then, option_map}
 use Rattle.std.specs.List.{range_with_len}
 use Rattle.std.proofs.lemmas.List.{drop-set, drop_all}
 use Rattle.std.proofs.lemmas.List.FromFn.{get_or-map-range_with_len, length-map-range_with_len}
-use Rattle.check_rows.specs.Lanes.{all_of, byte_in, known_bit, known_of, lane_at, lane_of, shown_by}
+use Rattle.check_rows.specs.Lanes.{all_of, byte_or_zero, known_bit, known_of, lane_at, lane_of_digits, shown_by}
 
 -- the lanes from one on are read, so many
 pub record AreRead (bus : ℕ) (word : List ℕ) (first count known : ℕ) (lanes : List ℕ) : Type 0 where
@@ -15,7 +15,7 @@ pub record AreRead (bus : ℕ) (word : List ℕ) (first count known : ℕ) (lane
   pub all : all_of (map (lane_at bus word) (range_with_len first count)) ≡ Some found
   pub bits : known ≡ known_of found
   pub small : known < 2 ^ count
-  pub bytes : drop first lanes ≡ map byte_in found
+  pub bytes : drop first lanes ≡ map byte_or_zero found
 
 pub none-read : (bus : ℕ) (word lanes : List ℕ) (first : ℕ) → length lanes ≤ first → AreRead bus word first 0 0 lanes
 none-read bus word lanes first all = record {
@@ -32,10 +32,10 @@ small-bit (Some byte) = omega arith
 
 -- what the digits at places say of a lane
 pub lane-here : (bus : ℕ) (word : List ℕ) (k : ℕ) → k < bus
-    → lane_at bus word (bus - 1 - k) ≡ lane_of (get_or word (2 * k) 0) (get_or word (2 * k + 1) 0)
+    → lane_at bus word (bus - 1 - k) ≡ lane_of_digits (get_or word (2 * k) 0) (get_or word (2 * k + 1) 0)
 lane-here bus word k within =
     let same : bus - 1 - (bus - 1 - k) ≡ k = omega (arith, within) in
-    ap (λ (n : ℕ). lane_of (get_or word (2 * n) 0) (get_or word (2 * n + 1) 0)) same
+    ap (λ (n : ℕ). lane_of_digits (get_or word (2 * n) 0) (get_or word (2 * n + 1) 0)) same
 
 all_of-more : (first : Option (Option ℕ)) (more : List (Option (Option ℕ))) (x : Option ℕ) (xs : List (Option ℕ))
     → first ≡ Some x → all_of more ≡ Some xs → all_of (first ∷ more) ≡ Some (x ∷ xs)
@@ -43,7 +43,7 @@ all_of-more first more x xs is rest = rw (is, rest) refl
 
 pub one_lane_more : (bus : ℕ) (word : List ℕ) (first count known : ℕ) (lanes : List ℕ) (lane : Option ℕ)
     → lane_at bus word first ≡ Some lane → first < length lanes → AreRead bus word (first + 1) count known lanes
-    → AreRead bus word first (count + 1) (2 * known + known_bit lane) (set lanes first (byte_in lane))
+    → AreRead bus word first (count + 1) (2 * known + known_bit lane) (set lanes first (byte_or_zero lane))
 one_lane_more bus word first count known lanes lane is inside before =
     let bit = small-bit lane in
     let small = before.small in
@@ -55,7 +55,7 @@ one_lane_more bus word first count known lanes lane is inside before =
           before.found is before.all);
       bits = let bits = before.bits in omega (arith, bits);
       small = omega (arith, next, small, bit);
-      bytes = drop-set lanes first (byte_in lane) inside ∙ ap (λ (xs : List ℕ). byte_in lane ∷ xs) before.bytes;
+      bytes = drop-set lanes first (byte_or_zero lane) inside ∙ ap (λ (xs : List ℕ). byte_or_zero lane ∷ xs) before.bytes;
     }
 
 pub all-read : (bus : ℕ) (word : List ℕ) (known : ℕ) (lanes : List ℕ) → AreRead bus word 0 bus known lanes
@@ -89,7 +89,7 @@ shown_by-none bus word lane within is =
 
 -- ---- what is written of a lane
 
-pub byte-or : (lane : Option ℕ) → unwrap_or lane 0 ≡ byte_in lane
+pub byte-or : (lane : Option ℕ) → unwrap_or lane 0 ≡ byte_or_zero lane
 byte-or None = refl
 byte-or (Some byte) = refl
 

@@ -17,6 +17,6 @@ HasBus masters ports (Master number) bus = slice_get masters number ≡ Some bus
 HasBus masters ports (Port number) bus = slice_get ports number ≡ Some bus
 
 -- how many bytes the bus of a link has
-abbrev pub bus_of : List Bus → List Bus → Link → ℕ
-bus_of masters ports (Master number) = bus_at masters number
-bus_of masters ports (Port number) = bus_at ports number
+abbrev pub bus_of_link : List Bus → List Bus → Link → ℕ
+bus_of_link masters ports (Master number) = bus_at masters number
+bus_of_link masters ports (Port number) = bus_at ports number

@@ -6,9 +6,9 @@ use Rattle.tl_text.specs.Number.{are_digits}
 use Rattle.check_beats.specs.declared.bus.Bus.{Bus}
 use Rattle.check_watch.specs.declared.beat.Link.{Link}
 use Rattle.check_watch.specs.declared.beat.Link.TheVariants.{Master, Port}
-use Rattle.check_rows.specs.Reading.{◌>>=◌}
-use Rattle.check_rows.specs.declared.columns.Channel.{Channel}
-use Rattle.check_rows.specs.declared.columns.Channel.TheVariants as channel
+use Rattle.tl_text.specs.Reading.{◌>>=◌}
+use Rattle.check_rows.specs.declared.columns.RowChannel.{RowChannel}
+use Rattle.check_rows.specs.declared.columns.RowChannel.TheVariants as channel
 use Rattle.check_rows.specs.declared.fault.RowFault.{RowFault}
 use Rattle.check_rows.specs.declared.fault.RowFault.TheVariants as fault
 
@@ -27,7 +27,7 @@ link_of masters ports (side ∷ digits) =
     else Err fault.Link
 
 -- the channel that a word names
-unfoldable pub channel_of : List ℕ → Result Channel RowFault
+unfoldable pub channel_of : List ℕ → Result RowChannel RowFault
 channel_of word =
     if bytes_eq word (codes "A") then Ok channel.A
     else if bytes_eq word (codes "D") then Ok channel.D

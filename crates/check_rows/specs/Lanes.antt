@@ -16,8 +16,8 @@ abbrev pub is_shown : ℕ → Bool
 is_shown c = is_digit c 16 || is_unknown c
 
 -- what two digits say of a lane: its byte, or that it is unknown
-unfoldable pub lane_of : ℕ → ℕ → Option (Option ℕ)
-lane_of high low =
+unfoldable pub lane_of_digits : ℕ → ℕ → Option (Option ℕ)
+lane_of_digits high low =
     if is_digit high 16 && is_digit low 16 then option_map Some (pair_of high low)
     else if is_shown high && is_shown low then Some None
     else None
@@ -25,7 +25,7 @@ lane_of high low =
 -- what a word says of this lane
 abbrev pub lane_at : ℕ → List ℕ → ℕ → Option (Option ℕ)
 lane_at bus word lane =
-    lane_of (get_or word (2 * (bus - 1 - lane)) 0) (get_or word (2 * (bus - 1 - lane) + 1) 0)
+    lane_of_digits (get_or word (2 * (bus - 1 - lane)) 0) (get_or word (2 * (bus - 1 - lane) + 1) 0)
 
 -- all of them, if each is there
 abbrev pub all_of : {A : Type 0} → List (Option A) → Option (List A)
@@ -33,13 +33,13 @@ all_of [] = Some []
 all_of (first ∷ more) = option_and_then (λ x. option_map (λ xs. x ∷ xs) (all_of more)) first
 
 -- what is seen of lanes: a number whose bit k says whether lane k is known, and the bytes, zero where a lane is unknown
-pub record Lanes : Type 0 where
+pub record SeenLanes : Type 0 where
   pub known : ℕ
   pub bytes : List ℕ
 
-abbrev pub byte_in : Option ℕ → ℕ
-byte_in None = 0
-byte_in (Some byte) = byte
+abbrev pub byte_or_zero : Option ℕ → ℕ
+byte_or_zero None = 0
+byte_or_zero (Some byte) = byte
 
 abbrev pub known_bit : Option ℕ → ℕ
 known_bit None = 0
@@ -49,19 +49,19 @@ abbrev pub known_of : List (Option ℕ) → ℕ
 known_of [] = 0
 known_of (lane ∷ more) = known_bit lane + 2 * known_of more
 
-abbrev pub seen_of : List (Option ℕ) → Lanes
-seen_of lanes = record { known = known_of lanes; bytes = map byte_in lanes }
+abbrev pub seen_of : List (Option ℕ) → SeenLanes
+seen_of lanes = record { known = known_of lanes; bytes = map byte_or_zero lanes }
 
 -- the lanes that two digits for each show, lane 0 first, if all are such digits
-unfoldable pub shown_by : ℕ → List ℕ → Option Lanes
+unfoldable pub shown_by : ℕ → List ℕ → Option SeenLanes
 shown_by bus word = option_map seen_of (all_of (map (lane_at bus word) (range_with_len 0 bus)))
 
 -- known lanes of zero
-abbrev pub zeros : ℕ → Lanes
+abbrev pub zeros : ℕ → SeenLanes
 zeros bus = record { known = 2 ^ bus - 1; bytes = replicate bus 0 }
 
 -- the lanes that a word shows; nothing at all stands for known zeros
-unfoldable pub lanes_of : ℕ → List ℕ → Result Lanes RowFault
+unfoldable pub lanes_of : ℕ → List ℕ → Result SeenLanes RowFault
 lanes_of bus word =
     if length word == 0 then Ok (zeros bus)
     else if length word == 2 * bus then ok_or (shown_by bus word) Number
@@ -70,11 +70,11 @@ lanes_of bus word =
 -- ---- what is read
 
 -- which lanes are known is the answer, and the lanes themselves stand in the first places of a buffer
-abbrev pub lanes_in : ℕ → List ℕ → Result ℕ RowFault → Result Lanes RowFault
+abbrev pub lanes_in : ℕ → List ℕ → Result ℕ RowFault → Result SeenLanes RowFault
 lanes_in bus buffer (Ok known) = Ok (record { known = known; bytes = take bus buffer })
 lanes_in bus buffer (Err fault) = Err fault
 
 -- the same of lanes that fill the buffer
-abbrev pub shown_in : List ℕ → Option ℕ → Option Lanes
+abbrev pub shown_in : List ℕ → Option ℕ → Option SeenLanes
 shown_in buffer None = None
 shown_in buffer (Some known) = Some (record { known = known; bytes = buffer })

@@ -1,4 +1,3 @@
-pub mod Reading
 pub mod Number
 pub mod Lanes
 pub mod Digit

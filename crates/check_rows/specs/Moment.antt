@@ -3,7 +3,7 @@ use Rattle.std.specs.Prelude.{◌≡◌, ℕ, ◌+◌, ◌*◌, ◌<◌, ◌≤�
 use Rattle.std.specs.List.Sorted.{IsPermutation}
 use Rattle.check_beats.specs.Bus.{bus_bytes}
 use Rattle.check_beats.specs.declared.bus.TheConstants.{MAX_LANES}
-use Rattle.check_map.specs.declared.limits.TheConstants.{MAX_MASTERS, MAX_PORTS}
+use Rattle.check_map.specs.declared.limits.TheConstants.{MAX_JUDGED_MASTERS, MAX_JUDGED_PORTS}
 use Rattle.check_watch.specs.declared.beat.Beat.{Beat}
 use Rattle.check_watch.specs.declared.beat.Beat.TheVariants.{A, D}
 use Rattle.check_watch.specs.declared.beat.Link.{Link}
@@ -15,24 +15,24 @@ use Rattle.check_rows.specs.declared.moment.Kept.{Kept}
 
 -- a link that some system has
 abbrev pub IsLink : Link → Type 0
-IsLink (Master number) = number < MAX_MASTERS
-IsLink (Port number) = number < MAX_PORTS
+IsLink (Master number) = number < MAX_JUDGED_MASTERS
+IsLink (Port number) = number < MAX_JUDGED_PORTS
 
 -- where a beat stands among those of one time: channel A of the masters' links, A of the ports', D of the ports', D of
 -- the masters', each by rising number
 abbrev pub place_at : Link → Beat → ℕ
 place_at (Master number) (A beat) = number
-place_at (Port number) (A beat) = MAX_MASTERS + number
-place_at (Port number) (D beat) = MAX_MASTERS + MAX_PORTS + number
-place_at (Master number) (D beat) = MAX_MASTERS + 2 * MAX_PORTS + number
+place_at (Port number) (A beat) = MAX_JUDGED_MASTERS + number
+place_at (Port number) (D beat) = MAX_JUDGED_MASTERS + MAX_JUDGED_PORTS + number
+place_at (Master number) (D beat) = MAX_JUDGED_MASTERS + 2 * MAX_JUDGED_PORTS + number
 
-abbrev pub place_of : SeenRow → ℕ
-place_of row = place_at row.sighting.link row.sighting.beat
+abbrev pub place_of_row : SeenRow → ℕ
+place_of_row row = place_at row.sighting.link row.sighting.beat
 
 -- each row crosses after those before it, and the first stands at `low` or after it
 unfoldable pub Cross : ℕ → List SeenRow → Type 0
 Cross low [] = ⊤
-Cross low (row ∷ more) = (low ≤ place_of row) × Cross (place_of row + 1) more
+Cross low (row ∷ more) = (low ≤ place_of_row row) × Cross (place_of_row row + 1) more
 
 -- the rows of one time, so far
 pub record Moment : Type 0 where
@@ -47,7 +47,7 @@ pub record IsMoment (moment : Moment) : Type 0 where
 
 -- a row of the moment is of the same channel of the same link
 abbrev pub HasBeat : Moment → SeenRow → Type 0
-HasBeat moment row = (other : SeenRow) × Contains moment.rows other × (place_of other ≡ place_of row)
+HasBeat moment row = (other : SeenRow) × Contains moment.rows other × (place_of_row other ≡ place_of_row row)
 
 -- why a row may not follow
 abbrev pub HasFault : Moment → SeenRow → RowFault → Type 0
@@ -80,7 +80,7 @@ abbrev pub moment_of : ℕ → List Kept → List ℕ → Moment
 moment_of time rows lanes = record { time = time; rows = map (kept_row lanes) rows }
 
 -- the lanes of each row are kept, and there is room for those of the others that the moment can have
-pub record IsKept (time : ℕ) (rows : List Kept) (lanes : List ℕ) : Type 0 where
+pub record AreLanesKept (time : ℕ) (rows : List Kept) (lanes : List ℕ) : Type 0 where
   pub moment : IsMoment (moment_of time rows lanes)
   pub inside : All (λ kept. kept.first + bus_bytes kept.row.bus ≤ length lanes) rows
   pub room : length lanes ≤ MAX_LANES * length rows
@@ -88,8 +88,8 @@ pub record IsKept (time : ℕ) (rows : List Kept) (lanes : List ℕ) : Type 0 wh
 -- so many rows cross before a place, the others after it, and none there
 pub record IsGap (rows : List SeenRow) (place i : ℕ) : Type 0 where
   pub inside : i ≤ length rows
-  pub before : (k : ℕ) (row : SeenRow) → k + 1 ≡ i → place_of (get_or rows k row) < place
-  pub behind : (row : SeenRow) → i < length rows → place < place_of (get_or rows i row)
+  pub before : (k : ℕ) (row : SeenRow) → k + 1 ≡ i → place_of_row (get_or rows k row) < place
+  pub behind : (row : SeenRow) → i < length rows → place < place_of_row (get_or rows i row)
 
 -- the same of rows that are kept
 abbrev pub kept_place : Kept → ℕ

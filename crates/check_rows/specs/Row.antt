@@ -5,15 +5,15 @@ use Rattle.check_beats.specs.declared.bus.Bus.{Bus}
 use Rattle.check_watch.specs.Plan.{Sighting, seen_at}
 use Rattle.check_watch.specs.declared.beat.Beat.{Beat}
 use Rattle.check_watch.specs.declared.beat.Beat.TheVariants as beat
-use Rattle.check_rows.specs.Buses.{bus_of}
+use Rattle.check_rows.specs.Buses.{bus_of_link}
 use Rattle.check_rows.specs.Column.{column}
 use Rattle.check_rows.specs.Columns.{link_of, channel_of, flag_of, nothing_of}
 use Rattle.check_rows.specs.declared.column.Column.TheVariants as named
-use Rattle.check_rows.specs.Lanes.{Lanes, lanes_of}
+use Rattle.check_rows.specs.Lanes.{SeenLanes, lanes_of}
 use Rattle.check_rows.specs.Number.{decimal_of, address_of, mask_of}
-use Rattle.check_rows.specs.Reading.{◌>>=◌}
-use Rattle.check_rows.specs.declared.columns.Channel.{Channel}
-use Rattle.check_rows.specs.declared.columns.Channel.TheVariants as channel
+use Rattle.tl_text.specs.Reading.{◌>>=◌}
+use Rattle.check_rows.specs.declared.columns.RowChannel.{RowChannel}
+use Rattle.check_rows.specs.declared.columns.RowChannel.TheVariants as channel
 use Rattle.check_rows.specs.declared.fault.RowFault.{RowFault}
 use Rattle.check_rows.specs.declared.fault.RowFault.TheVariants.{Columns}
 use Rattle.check_rows.specs.declared.row.Row.{Row}
@@ -21,7 +21,7 @@ use Rattle.check_rows.specs.declared.row.Row.{Row}
 -- a beat with its lanes
 pub record SeenBeat : Type 0 where
   pub beat : Beat
-  pub lanes : Lanes
+  pub lanes : SeenLanes
 
 -- a row: the line on which it begins, and what was seen when
 pub record SeenRow : Type 0 where
@@ -30,8 +30,8 @@ pub record SeenRow : Type 0 where
   pub sighting : Sighting
 
 -- a beat of channel A has no flags
-unfoldable pub ask_of : ℕ → List (List ℕ) → Result SeenBeat RowFault
-ask_of bus columns = do
+unfoldable pub ask_of_words : ℕ → List (List ℕ) → Result SeenBeat RowFault
+ask_of_words bus columns = do
   opcode ← decimal_of 255 (column columns named.Opcode)
   param ← decimal_of 255 (column columns named.Param)
   size ← decimal_of 255 (column columns named.Size)
@@ -54,8 +54,8 @@ ask_of bus columns = do
   })
 
 -- a beat of channel D has no parameter, address or mask
-unfoldable pub reply_of : ℕ → List (List ℕ) → Result SeenBeat RowFault
-reply_of bus columns = do
+unfoldable pub reply_of_words : ℕ → List (List ℕ) → Result SeenBeat RowFault
+reply_of_words bus columns = do
   opcode ← decimal_of 255 (column columns named.Opcode)
   _ ← nothing_of (column columns named.Param)
   size ← decimal_of 255 (column columns named.Size)
@@ -77,9 +77,9 @@ reply_of bus columns = do
   })
 
 -- the beat of a row, by the bus of its link and by its channel
-abbrev pub beat_of : ℕ → Channel → List (List ℕ) → Result SeenBeat RowFault
-beat_of bus channel.A columns = ask_of bus columns
-beat_of bus channel.D columns = reply_of bus columns
+abbrev pub beat_of : ℕ → RowChannel → List (List ℕ) → Result SeenBeat RowFault
+beat_of bus channel.A columns = ask_of_words bus columns
+beat_of bus channel.D columns = reply_of_words bus columns
 
 -- the row that twelve columns on this line spell, in a system whose masters' and ports' links have these buses
 unfoldable pub row_of : List Bus → List Bus → ℕ → List (List ℕ) → Result SeenRow RowFault
@@ -88,7 +88,7 @@ row_of masters ports line columns =
       time ← decimal_of (2 ^ 64 - 1) (column columns named.Time)
       link ← link_of masters ports (column columns named.Link)
       channel ← channel_of (column columns named.Channel)
-      seen ← beat_of (bus_of masters ports link) channel columns
+      seen ← beat_of (bus_of_link masters ports link) channel columns
       Ok (record {
         line = line;
         time = time;

@@ -1,7 +1,7 @@
 //! The buses of the links of a system.
 ghost use Rattle.std.specs.Prelude.{◌≡◌};
 ghost use Rattle.check_beats.specs.Bus.{bus_bytes};
-ghost use Rattle.check_rows.specs.Buses.{HasBus, IsLinkOf, bus_of};
+ghost use Rattle.check_rows.specs.Buses.{HasBus, IsLinkOf, bus_of_link};
 
 use check_beats::Bus;
 use check_watch::Link;
@@ -18,7 +18,7 @@ impl Buses<'_> {
     pub fn of(&self, link: Link) -> Bus
         requires { IsLinkOf self.now.masters.now self.now.ports.now link }
         ensures bus { HasBus self.now.masters.now self.now.ports.now link result }
-        ensures bytes { bus_bytes result ≡ bus_of self.now.masters.now self.now.ports.now link }
+        ensures bytes { bus_bytes result ≡ bus_of_link self.now.masters.now self.now.ports.now link }
     {
         match link {
             Link::Master(number) => self.masters[number],

@@ -1,7 +1,7 @@
 //! The columns of a capture.
 ghost use Rattle.std.specs.Prelude.{◌≡◌, ◌≢◌, ◌==◌, ◌≤◌, ◌<◌, ℕ, [], ◌∷◌, true, false, length, map, get_or, IfSome, IfNone};
 ghost use Rattle.csv.specs.Records.{fields_of};
-ghost use Rattle.check_rows.specs.Column.{column, header, name_of, parts_of, place_of, words_of};
+ghost use Rattle.check_rows.specs.Column.{column, header, name_of_column, column_parts, place_of_column, column_words};
 
 use csv::ByteRecord;
 
@@ -28,7 +28,7 @@ pub enum Column {
 impl Column {
     /// Its place in a row, counted from 0.
     fn place(self) -> usize
-        ensures value { result ≡ place_of self }
+        ensures value { result ≡ place_of_column self }
         ensures inside { result < COLUMNS }
     {
         match self {
@@ -49,8 +49,8 @@ impl Column {
 
     /// What stands in it in a row of these columns.
     pub(crate) fn of<'a>(self, columns: &Columns<'a>) -> &'a [u8]
-        ensures value { result.now ≡ column (words_of columns.now) self }
-        ensures count { length (words_of columns.now) ≡ COLUMNS }
+        ensures value { result.now ≡ column (column_words columns.now) self }
+        ensures count { length (column_words columns.now) ≡ COLUMNS }
     {
         columns.words[self.place()]
     }
@@ -64,7 +64,7 @@ pub(crate) struct Columns<'a> {
 
 /// What stands in the columns of a record, if it has as many as a row.
 pub(crate) fn columns_of(found: &ByteRecord) -> Option<Columns<'_>>
-    ensures some { IfSome result (λ columns. words_of columns ≡ fields_of found.now) }
+    ensures some { IfSome result (λ columns. column_words columns ≡ fields_of found.now) }
     ensures none { IfNone result (length (fields_of found.now) ≢ COLUMNS) }
 {
     if found.len() != COLUMNS {
@@ -95,8 +95,8 @@ fn part_length(text: &[u8]) -> usize
 /// What stands before the first comma of a text, and what after it, if it has one.
 #[inline(always)]
 fn cut_part(text: &[u8]) -> Option<(&[u8], &[u8])>
-    ensures some { IfSome result (λ cut. parts_of text.now ≡ cut.0.now ∷ parts_of cut.1.now) }
-    ensures none { IfNone result (parts_of text.now ≡ text.now ∷ []) }
+    ensures some { IfSome result (λ cut. column_parts text.now ≡ cut.0.now ∷ column_parts cut.1.now) }
+    ensures none { IfNone result (column_parts text.now ≡ text.now ∷ []) }
 {
     let length = part_length(text);
     if length == text.len() {
@@ -109,8 +109,8 @@ fn cut_part(text: &[u8]) -> Option<(&[u8], &[u8])>
 // a function of its own, so that its loops have the registers for themselves
 #[inline(never)]
 pub(crate) fn cut_line(line: &[u8]) -> Option<Columns<'_>>
-    ensures some { IfSome result (λ columns. words_of columns ≡ parts_of line.now) }
-    ensures none { IfNone result (length (parts_of line.now) ≢ COLUMNS) }
+    ensures some { IfSome result (λ columns. column_words columns ≡ column_parts line.now) }
+    ensures none { IfNone result (length (column_parts line.now) ≢ COLUMNS) }
 {
     let mut words = [line; COLUMNS];
     let mut rest = line;

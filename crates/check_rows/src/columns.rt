@@ -10,7 +10,7 @@ use check_watch::Link;
 
 /// A channel of a link.
 #[derive(Debug, Clone, Copy, PartialEq, Eq)]
-pub enum Channel {
+pub enum RowChannel {
     A,
     D,
 }
@@ -42,13 +42,13 @@ pub fn read_link(buses: &Buses<'_>, word: &[u8]) -> Result<Link, RowFault>
 
 /// The channel that a word names.
 #[tactic(auto, unfolding(crate::specs::Columns::channel_of))]
-pub fn read_channel(word: &[u8]) -> Result<Channel, RowFault>
+pub fn read_channel(word: &[u8]) -> Result<RowChannel, RowFault>
     ensures { result ≡ channel_of word.now }
 {
     if word == b"A".as_slice() {
-        Ok(Channel::A)
+        Ok(RowChannel::A)
     } else if word == b"D".as_slice() {
-        Ok(Channel::D)
+        Ok(RowChannel::D)
     } else {
         Err(RowFault::Channel)
     }

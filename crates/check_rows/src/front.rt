@@ -4,14 +4,14 @@
 ghost use Rattle.std.specs.Prelude.{◌≡◌, ◌≤◌, ◌<◌, ◌⊎◌, ◌+◌, ◌*◌, [], ◌∷◌, Ok, IfSome, length, take, drop, get_or};
 ghost use Rattle.check_beats.specs.Bus.{bus_bytes};
 ghost use Rattle.check_rows.specs.Buses.{IsLinkOf};
-ghost use Rattle.check_rows.specs.Column.{parts_of};
+ghost use Rattle.check_rows.specs.Column.{column_parts};
 ghost use Rattle.check_rows.specs.Columns.{channel_of, flag_of, index_of, link_of};
-ghost use Rattle.check_rows.specs.Front.{BeginsWith, FirstIsNumber, FirstSpells};
+ghost use Rattle.check_rows.specs.Front.{BeginsWithNumber, FirstIsNumber, FirstSpells};
 ghost use Rattle.check_rows.specs.Lanes.{lanes_of};
 ghost use Rattle.check_rows.specs.Number.{address_of, decimal_of, mask_of};
 
 use crate::buses::Buses;
-use crate::columns::{Channel, read_flag};
+use crate::columns::{RowChannel, read_flag};
 use crate::digit::{UNKNOWN, digit_code};
 use crate::lanes::read_lanes;
 use crate::number::{ADDRESS_DIGITS, all_lanes, mask_digits};
@@ -24,7 +24,7 @@ const NO_ROOM: u64 = u64::MAX / 10;
 /// The number of the decimal digits that a text begins with, and how many they are, if there is room for it.
 #[inline(always)]
 fn front_decimal(text: &[u8]) -> Option<(u64, usize)>
-    ensures { IfSome result (λ it. BeginsWith 10 text.now it.0 it.1) }
+    ensures { IfSome result (λ it. BeginsWithNumber 10 text.now it.0 it.1) }
 {
     let mut value = 0;
     for (count, byte) in text.iter().enumerate() {
@@ -43,7 +43,7 @@ fn front_decimal(text: &[u8]) -> Option<(u64, usize)>
 /// address may have.
 #[inline(always)]
 fn front_hexadecimal(text: &[u8]) -> Option<(u64, usize)>
-    ensures number { IfSome result (λ it. BeginsWith 16 text.now it.0 it.1) }
+    ensures number { IfSome result (λ it. BeginsWithNumber 16 text.now it.0 it.1) }
     ensures few { IfSome result (λ it. it.1 ≤ ADDRESS_DIGITS) }
 {
     let mut value = 0;
@@ -133,7 +133,7 @@ pub(crate) fn take_address(text: &[u8]) -> Option<(u64, &[u8])>
 /// An empty first column of a text: what stands behind it.
 #[inline(always)]
 pub(crate) fn take_nothing(text: &[u8]) -> Option<&[u8]>
-    ensures { IfSome result (λ rest. parts_of text.now ≡ [] ∷ parts_of rest.now) }
+    ensures { IfSome result (λ rest. column_parts text.now ≡ [] ∷ column_parts rest.now) }
 {
     behind_byte(text, b',')
 }
@@ -234,14 +234,14 @@ fn take_byte(text: &[u8], byte: u8) -> Option<&[u8]>
 
 /// The channel in the first column of a text, and what stands behind it.
 #[inline(always)]
-pub(crate) fn take_channel(text: &[u8]) -> Option<(Channel, &[u8])>
+pub(crate) fn take_channel(text: &[u8]) -> Option<(RowChannel, &[u8])>
     ensures { IfSome result (λ it. FirstSpells channel_of text.now it.0 it.1.now) }
 {
     if let Some(rest) = take_byte(text, b'A') {
-        return Some((Channel::A, rest));
+        return Some((RowChannel::A, rest));
     }
     match take_byte(text, b'D') {
-        Some(rest) => Some((Channel::D, rest)),
+        Some(rest) => Some((RowChannel::D, rest)),
         None => None,
     }
 }
@@ -264,7 +264,7 @@ pub(crate) fn take_flag(text: &[u8]) -> Option<(bool, &[u8])>
 #[inline(always)]
 pub(crate) fn last_flag(text: &[u8]) -> Option<bool>
     ensures flag { IfSome result (λ flag. flag_of text.now ≡ Ok flag) }
-    ensures last { IfSome result (λ _. parts_of text.now ≡ text.now ∷ []) }
+    ensures last { IfSome result (λ _. column_parts text.now ≡ text.now ∷ []) }
 {
     match read_flag(text) {
         Ok(flag) => Some(flag),

@@ -2,7 +2,7 @@
 ghost use Rattle.std.specs.Prelude.{◌≡◌, ◌≤◌, ◌*◌, ◌-◌, ◌^◌, true, Some, length};
 ghost use Rattle.check_beats.specs.Bus.{bus_bytes};
 ghost use Rattle.check_beats.specs.declared.bus.TheConstants.{MAX_LANES};
-ghost use Rattle.check_rows.specs.Lanes.{Lanes, lane_of, lanes_in, lanes_of, shown_by, shown_in};
+ghost use Rattle.check_rows.specs.Lanes.{SeenLanes, lane_of_digits, lanes_in, lanes_of, shown_by, shown_in};
 
 use crate::digit::{UNKNOWN, digit_code};
 use crate::fault::RowFault;
@@ -12,7 +12,7 @@ use check_beats::{Bus, MAX_LANES};
 /// What two digits say of a lane, if they are digits: its byte, or that it is unknown.
 #[inline(always)]
 fn read_lane(high: u8, low: u8) -> Option<Option<u8>>
-    ensures { result ≡ lane_of high low }
+    ensures { result ≡ lane_of_digits high low }
 {
     let high = digit_code(high);
     let low = digit_code(low);

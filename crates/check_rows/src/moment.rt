@@ -2,19 +2,19 @@
 ghost use Rattle.std.specs.Prelude.{◌≡◌, ◌≤◌, ◌<◌, ◌-◌, ◌↔◌, [], ◌∷◌, Some, length, get_or, slice_get, All, Contains, IsTrue, IfOk, IfErr, IfSome, OnErr, IfNone};
 ghost use Rattle.std.specs.List.{insert};
 ghost use Rattle.check_beats.specs.Bus.{bus_bytes};
-ghost use Rattle.check_rows.specs.Moment.{HasFault, IsGap, IsKept, IsKeptGap, IsLink, IsMoment, Puts, kept_place, moment_of, place_at, place_of};
+ghost use Rattle.check_rows.specs.Moment.{HasFault, IsGap, AreLanesKept, IsKeptGap, IsLink, IsMoment, Puts, kept_place, moment_of, place_at, place_of_row};
 ghost use Rattle.check_rows.specs.Row.{seen_row};
 
 use crate::fault::RowFault;
 use crate::row::Row;
 use arrayvec::ArrayVec;
 use check_beats::MAX_LANES;
-use check_map::{MAX_MASTERS, MAX_PORTS};
+use check_map::{MAX_JUDGED_MASTERS, MAX_JUDGED_PORTS};
 use check_watch::{Beat, Link};
 use std::marker::Model;
 
 /// The most beats of one time: one for each channel of each link.
-const MAX_ROWS: usize = 2 * (MAX_MASTERS + MAX_PORTS);
+const MAX_ROWS: usize = 2 * (MAX_JUDGED_MASTERS + MAX_JUDGED_PORTS);
 
 /// The most lanes of the beats of one time.
 const MAX_KEPT_LANES: usize = MAX_ROWS * MAX_LANES;
@@ -28,16 +28,16 @@ pub(crate) struct Kept {
 
 /// Where a beat stands among those of its time: channel A of the masters' links, A of the ports', D of the ports', D of
 /// the masters', each by rising number.
-fn place_of(row: &Row) -> usize
+fn place_of_row(row: &Row) -> usize
     requires { IsLink row.now.link }
     ensures value { result ≡ place_at row.now.link row.now.beat }
     ensures inside { result < MAX_ROWS }
 {
     match (row.link, row.beat) {
         (Link::Master(number), Beat::A(_)) => number,
-        (Link::Port(number), Beat::A(_)) => MAX_MASTERS + number,
-        (Link::Port(number), Beat::D(_)) => MAX_MASTERS + MAX_PORTS + number,
-        (Link::Master(number), Beat::D(_)) => MAX_MASTERS + 2 * MAX_PORTS + number,
+        (Link::Port(number), Beat::A(_)) => MAX_JUDGED_MASTERS + number,
+        (Link::Port(number), Beat::D(_)) => MAX_JUDGED_MASTERS + MAX_JUDGED_PORTS + number,
+        (Link::Master(number), Beat::D(_)) => MAX_JUDGED_MASTERS + 2 * MAX_JUDGED_PORTS + number,
     }
 }
 
@@ -50,7 +50,7 @@ fn count_before(rows: &[Kept], place: usize) -> usize
     ensures behind { (kept : Kept) → result < length rows.now → place ≤ kept_place (get_or rows.now result kept) }
 {
     let mut count = rows.len();
-    while count > 0 && place_of(&rows[count - 1].row) >= place {
+    while count > 0 && place_of_row(&rows[count - 1].row) >= place {
         count -= 1;
     }
     count
@@ -63,7 +63,7 @@ fn find_gap(rows: &[Kept], place: usize) -> Option<usize>
     ensures none { IfNone result ((kept : Kept) × Contains rows.now kept × (kept_place kept ≡ place)) }
 {
     let count = count_before(rows, place);
-    if count < rows.len() && place_of(&rows[count].row) == place {
+    if count < rows.len() && place_of_row(&rows[count].row) == place {
         return None;
     }
     Some(count)
@@ -79,14 +79,14 @@ pub struct Moment {
 }
 
 impl Model for Moment {
-    ghost use Rattle.check_rows.specs.Moment.{IsKept, moment_of};
+    ghost use Rattle.check_rows.specs.Moment.{AreLanesKept, moment_of};
     ghost use Rattle.check_rows.specs.Moment.{Moment as Rows};
 
     ghost Value = { Rows };
 
     ghost view = { λ m. moment_of m.time m.rows.items m.lanes.items };
 
-    ghost invariant = { λ m. IsKept m.time m.rows.items m.lanes.items };
+    ghost invariant = { λ m. AreLanesKept m.time m.rows.items m.lanes.items };
 }
 
 impl Moment {
@@ -159,7 +159,7 @@ impl Moment {
         if row.time > self.time {
             return Ok(false);
         }
-        let Some(count) = find_gap(&self.rows, place_of(row)) else {
+        let Some(count) = find_gap(&self.rows, place_of_row(row)) else {
             return Err(RowFault::TwoBeats);
         };
         self.insert(count, row, lanes);

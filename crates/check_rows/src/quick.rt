@@ -5,12 +5,12 @@
 ghost use Rattle.std.specs.Prelude.{◌≡◌, ◌≤◌, Ok, IfSome};
 ghost use Rattle.check_beats.specs.Bus.{bus_bytes};
 ghost use Rattle.check_rows.specs.Buses.{HasBus, IsLinkOf};
-ghost use Rattle.check_rows.specs.Column.{parts_of};
+ghost use Rattle.check_rows.specs.Column.{column_parts};
 ghost use Rattle.check_rows.specs.Front.{LastSpell};
-ghost use Rattle.check_rows.specs.Row.{ask_of, beat_of, reply_of, row_of, seen_beat, seen_row};
+ghost use Rattle.check_rows.specs.Row.{ask_of_words, beat_of, reply_of_words, row_of, seen_beat, seen_row};
 
 use crate::buses::Buses;
-use crate::columns::Channel;
+use crate::columns::RowChannel;
 use crate::front::{
     last_flag, take_address, take_channel, take_decimal, take_flag, take_lanes, take_link,
     take_mask, take_nothing,
@@ -21,7 +21,7 @@ use check_watch::Beat;
 
 /// The beat of channel A in the columns behind the channel, and which of its lanes are known.
 fn quick_ask(bus: Bus, text: &[u8], lanes: &mut [u8; MAX_LANES]) -> Option<(Beat, u64)>
-    ensures { IfSome result (λ it. LastSpell (ask_of (bus_bytes bus)) text.now (seen_beat (bus_bytes bus) lanes.new it)) }
+    ensures { IfSome result (λ it. LastSpell (ask_of_words (bus_bytes bus)) text.now (seen_beat (bus_bytes bus) lanes.new it)) }
 {
     let Some((opcode, rest)) = take_decimal(text, MAX_FIELD) else {
         return None;
@@ -64,7 +64,7 @@ fn quick_ask(bus: Bus, text: &[u8], lanes: &mut [u8; MAX_LANES]) -> Option<(Beat
 /// The beat of channel D in the columns behind the channel, and which of its lanes are known.
 fn quick_reply(bus: Bus, text: &[u8], lanes: &mut [u8; MAX_LANES]) -> Option<(Beat, u64)>
     ensures { IfSome result (λ it.
-        LastSpell (reply_of (bus_bytes bus)) text.now (seen_beat (bus_bytes bus) lanes.new it)) }
+        LastSpell (reply_of_words (bus_bytes bus)) text.now (seen_beat (bus_bytes bus) lanes.new it)) }
 {
     let Some((opcode, rest)) = take_decimal(text, MAX_FIELD) else {
         return None;
@@ -106,7 +106,7 @@ fn quick_reply(bus: Bus, text: &[u8], lanes: &mut [u8; MAX_LANES]) -> Option<(Be
 /// The beat of this channel in the columns behind it, and which of its lanes are known.
 fn quick_beat(
     bus: Bus,
-    channel: Channel,
+    channel: RowChannel,
     text: &[u8],
     lanes: &mut [u8; MAX_LANES],
 ) -> Option<(Beat, u64)>
@@ -114,8 +114,8 @@ fn quick_beat(
         LastSpell (beat_of (bus_bytes bus) channel) text.now (seen_beat (bus_bytes bus) lanes.new it)) }
 {
     match channel {
-        Channel::A => quick_ask(bus, text, lanes),
-        Channel::D => quick_reply(bus, text, lanes),
+        RowChannel::A => quick_ask(bus, text, lanes),
+        RowChannel::D => quick_reply(bus, text, lanes),
     }
 }
 
@@ -128,7 +128,7 @@ pub(crate) fn quick_row(
     lanes: &mut [u8; MAX_LANES],
 ) -> Option<Row>
     ensures value { IfSome result (λ row.
-        row_of buses.now.masters.now buses.now.ports.now line (parts_of text.now) ≡ Ok (seen_row row lanes.new)) }
+        row_of buses.now.masters.now buses.now.ports.now line (column_parts text.now) ≡ Ok (seen_row row lanes.new)) }
     ensures link { IfSome result (λ row. IsLinkOf buses.now.masters.now buses.now.ports.now row.link) }
     ensures bus { IfSome result (λ row. HasBus buses.now.masters.now buses.now.ports.now row.link row.bus) }
 {

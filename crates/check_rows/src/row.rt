@@ -3,12 +3,12 @@ ghost use Rattle.std.specs.Prelude.{◌≡◌, IfOk};
 ghost use Rattle.csv.specs.Records.{fields_of};
 ghost use Rattle.check_beats.specs.Bus.{bus_bytes};
 ghost use Rattle.check_rows.specs.Buses.{HasBus, IsLinkOf};
-ghost use Rattle.check_rows.specs.Column.{parts_of, words_of};
-ghost use Rattle.check_rows.specs.Row.{ask_of, beat_in, beat_of, reply_of, row_in, row_of};
+ghost use Rattle.check_rows.specs.Column.{column_parts, column_words};
+ghost use Rattle.check_rows.specs.Row.{ask_of_words, beat_in, beat_of, reply_of_words, row_in, row_of};
 
 use crate::buses::Buses;
 use crate::column::{Column, Columns, columns_of, cut_line};
-use crate::columns::{Channel, read_channel, read_flag, read_link, read_nothing};
+use crate::columns::{RowChannel, read_channel, read_flag, read_link, read_nothing};
 use crate::fault::RowFault;
 use crate::lanes::read_lanes;
 use crate::number::{read_address, read_decimal, read_mask};
@@ -49,13 +49,13 @@ impl Default for Row {
 }
 
 /// The beat of channel A that the columns spell, and which of its lanes are known.
-#[tactic(auto, unfolding(crate::specs::Row::ask_of))]
+#[tactic(auto, unfolding(crate::specs::Row::ask_of_words))]
 fn read_ask(
     bus: Bus,
     columns: &Columns<'_>,
     lanes: &mut [u8; MAX_LANES],
 ) -> Result<(Beat, u64), RowFault>
-    ensures { beat_in (bus_bytes bus) lanes.new result ≡ ask_of (bus_bytes bus) (words_of columns.now) }
+    ensures { beat_in (bus_bytes bus) lanes.new result ≡ ask_of_words (bus_bytes bus) (column_words columns.now) }
 {
     let opcode = read_decimal(Column::Opcode.of(columns), MAX_FIELD)?;
     let param = read_decimal(Column::Param.of(columns), MAX_FIELD)?;
@@ -78,13 +78,13 @@ fn read_ask(
 }
 
 /// The beat of channel D that the columns spell, and which of its lanes are known.
-#[tactic(auto, unfolding(crate::specs::Row::reply_of))]
+#[tactic(auto, unfolding(crate::specs::Row::reply_of_words))]
 fn read_reply(
     bus: Bus,
     columns: &Columns<'_>,
     lanes: &mut [u8; MAX_LANES],
 ) -> Result<(Beat, u64), RowFault>
-    ensures { beat_in (bus_bytes bus) lanes.new result ≡ reply_of (bus_bytes bus) (words_of columns.now) }
+    ensures { beat_in (bus_bytes bus) lanes.new result ≡ reply_of_words (bus_bytes bus) (column_words columns.now) }
 {
     let opcode = read_decimal(Column::Opcode.of(columns), MAX_FIELD)?;
     read_nothing(Column::Param.of(columns))?;
@@ -108,16 +108,16 @@ fn read_reply(
 /// The beat of this channel that the columns spell.
 fn read_beat(
     bus: Bus,
-    channel: Channel,
+    channel: RowChannel,
     columns: &Columns<'_>,
     lanes: &mut [u8; MAX_LANES],
 ) -> Result<(Beat, u64), RowFault>
     ensures { beat_in (bus_bytes bus) lanes.new result
-        ≡ beat_of (bus_bytes bus) channel (words_of columns.now) }
+        ≡ beat_of (bus_bytes bus) channel (column_words columns.now) }
 {
     match channel {
-        Channel::A => read_ask(bus, columns, lanes),
-        Channel::D => read_reply(bus, columns, lanes),
+        RowChannel::A => read_ask(bus, columns, lanes),
+        RowChannel::D => read_reply(bus, columns, lanes),
     }
 }
 
@@ -131,7 +131,7 @@ fn read_columns(
     lanes: &mut [u8; MAX_LANES],
 ) -> Result<Row, RowFault>
     ensures value { row_in lanes.new result
-        ≡ row_of buses.now.masters.now buses.now.ports.now line (words_of columns.now) }
+        ≡ row_of buses.now.masters.now buses.now.ports.now line (column_words columns.now) }
     ensures link { IfOk result (λ row.
         IsLinkOf buses.now.masters.now buses.now.ports.now row.link) }
     ensures bus { IfOk result (λ row.
@@ -184,7 +184,7 @@ pub fn read_bare_row(
     lanes: &mut [u8; MAX_LANES],
 ) -> Result<Row, RowFault>
     ensures value { row_in lanes.new result
-        ≡ row_of buses.now.masters.now buses.now.ports.now line (parts_of text.now) }
+        ≡ row_of buses.now.masters.now buses.now.ports.now line (column_parts text.now) }
     ensures link { IfOk result (λ row.
         IsLinkOf buses.now.masters.now buses.now.ports.now row.link) }
     ensures bus { IfOk result (λ row.

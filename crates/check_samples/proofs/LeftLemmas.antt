@@ -9,9 +9,9 @@ use Rattle.check_vcd.specs.declared.fault.DumpFault.{DumpFault}
 use Rattle.check_vcd.specs.declared.fault.DumpFault.TheVariants as dump
 use Rattle.check_vcd.specs.declared.fault.Mistake.{Mistake}
 use Rattle.check_samples.specs.Faults.{of_dump, of_sample}
-use Rattle.check_samples.specs.Left.{GoesOn, Stops, Whole, end_by, end_of, left_of, risen_behind}
+use Rattle.check_samples.specs.Left.{RowsGoOn, Stops, Whole, end_by, end_of, left_of, risen_behind}
 use Rattle.check_samples.specs.Rows.{Writes}
-use Rattle.check_samples.specs.Sampling.{Leads, Sampling, at_time, behind, is_at, rises_in, rises_now, rows_from, rows_now}
+use Rattle.check_samples.specs.Sampling.{LeadsToRows, Sampling, at_time, behind, is_at, rises_in, rises_now, rows_from, rows_now}
 use Rattle.std.specs.Result.{IfErr, IsErrAnd}
 use Rattle.check_samples.specs.declared.rows.Progress.TheVariants.{More, Over}
 use Rattle.check_samples.specs.declared.rows.RowsFault.{RowsFault}
@@ -47,9 +47,9 @@ ends-on (event.Time time) digits rest = refl
 ends-on (event.Change slot) digits rest = refl
 
 left-on : (rest : List Happens) (old new : Sampling) (t t' : List ℕ) (done : Unit {0}) (risen : Bool) (next : Event)
-    (digits : List ℕ) → Leads (Ok done) t t' (rows_from (happens_of next digits ∷ rest) old) (rows_from rest new)
+    (digits : List ℕ) → LeadsToRows (Ok done) t t' (rows_from (happens_of next digits ∷ rest) old) (rows_from rest new)
     → new ≡ behind (happens_of next digits) old
-    → GoesOn More t t' (left_of (happens_of next digits ∷ rest) old risen)
+    → RowsGoOn More t t' (left_of (happens_of next digits ∷ rest) old risen)
     (left_of rest new (risen_behind risen old next))
 left-on rest old new t t' done risen next digits leads is = (
   leads.0,
@@ -60,14 +60,14 @@ left-on rest old new t t' done risen next digits leads is = (
 
 pub goes-on : (a b : Option (List Happens)) (old new : Sampling) (t t' : List ℕ) (done : Unit {0}) (risen : Bool)
     (next : Event) (digits : List ℕ) → Both a b (λ from to. from ≡ happens_of next digits ∷ to)
-    → ((rest : List Happens) → Leads (Ok done) t t' (rows_from (happens_of next digits ∷ rest) old) (rows_from rest new))
+    → ((rest : List Happens) → LeadsToRows (Ok done) t t' (rows_from (happens_of next digits ∷ rest) old) (rows_from rest new))
     → new ≡ behind (happens_of next digits) old
     → Both (option_map (λ h. left_of h old risen) a)
-    (option_map (λ h. left_of h new (risen_behind risen old next)) b) (GoesOn More t t')
+    (option_map (λ h. left_of h new (risen_behind risen old next)) b) (RowsGoOn More t t')
 goes-on None b old new t t' done risen next digits both leads is = tt
 goes-on (Some x) None old new t t' done risen next digits both leads is = absurd both
 goes-on (Some x) (Some y) old new t t' done risen next digits both leads is =
-    subst (λ h. GoesOn More t t' (left_of h old risen) (left_of y new (risen_behind risen old next))) (sym both)
+    subst (λ h. RowsGoOn More t t' (left_of h old risen) (left_of y new (risen_behind risen old next))) (sym both)
     (left-on y old new t t' done risen next digits (leads y) is)
 
 -- ---- the end
@@ -76,12 +76,12 @@ goes-on (Some x) (Some y) old new t t' done risen next digits both leads is =
 pub ends : (a b : Option (List Happens)) (s : Sampling) (t t' : List ℕ) (done : Unit {0}) (risen : Bool)
     → Both a b (λ from to. (from ≡ []) × (to ≡ [])) → Writes (Ok done) t t' (rows_now s)
     → Both (option_map (λ h. left_of h s risen) a) (option_map (λ h. left_of h s risen) b)
-    (GoesOn (Over (risen || rises_now s)) t t')
+    (RowsGoOn (Over (risen || rises_now s)) t t')
 unfolding rows_from rises_in
 ends None b s t t' done risen both writes = tt
 ends (Some x) None s t t' done risen both writes = absurd both
 ends (Some x) (Some y) s t t' done risen both writes =
-    subst (λ h. GoesOn (Over (risen || rises_now s)) t t' (left_of h s risen) (left_of y s risen)) (sym both.0)
+    subst (λ h. RowsGoOn (Over (risen || rises_now s)) t t' (left_of h s risen) (left_of y s risen)) (sym both.0)
     (writes.0, ap (λ f. end_by f Whole) writes.1, refl)
 
 pub stops-ending : (a b : Option (List Happens)) (s : Sampling) (t t' : List ℕ) (fault : SampleFault) (risen : Bool)

@@ -2,14 +2,14 @@
 use Rattle.std.proofs.Common.{◌≡◌, ℕ, true, false, List, ◌∷◌, ◌++◌, Some, Ok, Err, refl, ap, ◌∙◌, append_assoc}
 use Rattle.check_vcd.specs.Body.{Happens, At, Sets}
 use Rattle.check_samples.specs.Rows.{Writes, and_then}
-use Rattle.check_samples.specs.Sampling.{Leads, Sampling, at_time, is_at, rows_from, rows_now, with_value}
+use Rattle.check_samples.specs.Sampling.{LeadsToRows, Sampling, at_time, is_at, rows_from, rows_now, with_value}
 use Rattle.check_samples.specs.declared.sampler.SampleFault.{SampleFault}
 use Rattle.check_samples.specs.declared.sampler.SampleFault.TheVariants.{Unknown, Memory}
 
 -- a value changes
 pub takes-value : (text : List ℕ) (old new : Sampling) (slot : ℕ) (digits : List ℕ) (rest : List Happens)
     → new ≡ with_value old slot digits
-    → Leads (Ok tt) text text (rows_from (Sets slot digits ∷ rest) old) (rows_from rest new)
+    → LeadsToRows (Ok tt) text text (rows_from (Sets slot digits ∷ rest) old) (rows_from rest new)
 unfolding rows_from
 takes-value text old new slot digits rest is = (
   ap (λ (s : Sampling). text ++ (rows_from rest s).text) is,
@@ -18,7 +18,7 @@ takes-value text old new slot digits rest is = (
 
 -- the present time begins again
 pub takes-same : (text : List ℕ) (old : Sampling) (time : ℕ) (rest : List Happens) → is_at old time ≡ true
-    → Leads (Ok tt) text text (rows_from (At time ∷ rest) old) (rows_from rest old)
+    → LeadsToRows (Ok tt) text text (rows_from (At time ∷ rest) old) (rows_from rest old)
 unfolding rows_from
 takes-same text old time rest same = rw same (refl, refl)
 
@@ -30,7 +30,7 @@ another old time rest not = rw not refl
 
 pub takes-time : (start text : List ℕ) (old new : Sampling) (time : ℕ) (rest : List Happens)
     → is_at old time ≡ false → Writes (Ok tt) start text (rows_now old) → new ≡ at_time old time
-    → Leads (Ok tt) start text (rows_from (At time ∷ rest) old) (rows_from rest new)
+    → LeadsToRows (Ok tt) start text (rows_from (At time ∷ rest) old) (rows_from rest new)
 takes-time start text old new time rest not writes is =
     let all = rows_now old in
     let whole = another old time rest not in
@@ -47,7 +47,7 @@ takes-time start text old new time rest not writes is =
 -- a beat of the time that is over is none
 pub takes-none : (start text : List ℕ) (old new : Sampling) (time : ℕ) (rest : List Happens) (fault : SampleFault)
     → is_at old time ≡ false → Writes (Err fault) start text (rows_now old)
-    → Leads (Err fault) start text (rows_from (At time ∷ rest) old) (rows_from rest new)
+    → LeadsToRows (Err fault) start text (rows_from (At time ∷ rest) old) (rows_from rest new)
 takes-none start text old new time rest (Unknown fault) not writes =
     let all = rows_now old in
     let whole = another old time rest not in

@@ -32,19 +32,19 @@ end_by None end = end
 end_by (Some unknown) end = BeforeBeat unknown
 
 -- rows, how they end, and whether the clock rises at some time of the dump
-pub record Left : Type 0 where
+pub record RowsLeft : Type 0 where
   pub text : List ℕ
   pub end : End
   pub rises : Bool
 
-abbrev pub left_by : Rows → End → Bool → Left
+abbrev pub left_by : Rows → End → Bool → RowsLeft
 left_by rows end rises = record { text = rows.text; end = end_by rows.fault end; rises = rises }
 
 -- those of what is left to happen, if it is known whether the clock rose before
-abbrev pub left_of : List Happens → Sampling → Bool → Left
+abbrev pub left_of : List Happens → Sampling → Bool → RowsLeft
 left_of happens s risen = left_by (rows_from happens s) (end_of happens) (risen || rises_in happens s)
 
-abbrev pub left_in : Dumping → Sampling → Bool → Option Left
+abbrev pub left_in : Dumping → Sampling → Bool → Option RowsLeft
 left_in dump s risen = option_map (λ happens. left_of happens s risen) (happens_in dump)
 
 -- ---- what calls answer
@@ -56,13 +56,13 @@ risen_behind risen s (event.Change slot) = risen
 
 -- the rows that were to come are those that were appended and those that are left to come, which end so too; or all were
 -- appended, they end with the dump, and so it is with the clock
-abbrev pub GoesOn : Progress → List ℕ → List ℕ → Left → Left → Type 0
-GoesOn More old new from to =
+abbrev pub RowsGoOn : Progress → List ℕ → List ℕ → RowsLeft → RowsLeft → Type 0
+RowsGoOn More old new from to =
     (new ++ to.text ≡ old ++ from.text) × (to.end ≡ from.end) × (to.rises ≡ from.rises)
-GoesOn (Over risen) old new from to = (new ≡ old ++ from.text) × (from.end ≡ Whole) × (from.rises ≡ risen)
+RowsGoOn (Over risen) old new from to = (new ≡ old ++ from.text) × (from.end ≡ Whole) × (from.rises ≡ risen)
 
 -- all rows were appended, and this is what they end before; or a read failed, and none was; unless memory ran out
-abbrev pub Stops : RowsFault → List ℕ → List ℕ → Left → Type 0
+abbrev pub Stops : RowsFault → List ℕ → List ℕ → RowsLeft → Type 0
 Stops (fault.Unknown unknown) old new from = (new ≡ old ++ from.text) × (from.end ≡ BeforeBeat unknown)
 Stops (fault.Dump line mistake) old new from = (new ≡ old ++ from.text) × (from.end ≡ BeforeLine line mistake)
 Stops fault.Read old new from = new ≡ old

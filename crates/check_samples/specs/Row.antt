@@ -1,6 +1,7 @@
 -- The row of a beat, as the format of captures has it. This project's own.
 use Rattle.std.specs.Prelude.{ℕ, ◌==◌, ◌%◌, false, List, [], ◌∷◌, ◌++◌, length, take, drop, Option, None, Some, Result, Ok, Err, if◌then◌else◌, ok_or}
 use Rattle.std.specs.Fmt.{decimal, digit_glyph, digits}
+use Rattle.tl_text.specs.Reading.{◌>>=◌}
 use Rattle.tl_text.specs.Number.{number_of}
 use Rattle.check_watch.specs.declared.beat.Link.{Link}
 use Rattle.check_watch.specs.declared.beat.Link.TheVariants.{Master, Port}
@@ -13,15 +14,9 @@ use Rattle.check_samples.specs.declared.row.TheConstants.{MAX_BITS}
 use Rattle.check_samples.specs.declared.signal.Signal.{Signal}
 use Rattle.check_samples.specs.declared.signal.Signal.TheVariants as signal
 
-infixl 10 ◌>>=◌
--- the first, and if no bit of it is unknown, the second on what it gave
-abbrev pub ◌>>=◌ : {A B : Type 0} → Result A Signal → (A → Result B Signal) → Result B Signal
-(Ok x) >>= f = f x
-(Err e) >>= f = Err e
-
 -- the number that bits spell, the highest first, if each is known
-abbrev pub known : Signal → List ℕ → Result ℕ Signal
-known which bits = ok_or (number_of 2 MAX_BITS bits) which
+abbrev pub known_number : Signal → List ℕ → Result ℕ Signal
+known_number which bits = ok_or (number_of 2 MAX_BITS bits) which
 
 -- the hexadecimal digit of at most four bits; x if one is unknown
 abbrev pub digit_by : Option ℕ → ℕ
@@ -49,21 +44,21 @@ link_text (Port number) = 112 ∷ decimal number
 -- the numbers of a beat, or the first of its signals with an unknown bit
 abbrev pub cells_of_ask : List (List ℕ) → AskTaps → Result AskCells Signal
 cells_of_ask values taps = do
-  opcode ← known signal.AOpcode (bits_of values taps.opcode)
-  param ← known signal.AParam (bits_of values taps.param)
-  size ← known signal.ASize (bits_of values taps.size)
-  source ← known signal.ASource (bits_of values taps.source)
-  address ← known signal.AAddress (bits_of values taps.address)
-  _ ← known signal.AMask (bits_of values taps.mask)
+  opcode ← known_number signal.AOpcode (bits_of values taps.opcode)
+  param ← known_number signal.AParam (bits_of values taps.param)
+  size ← known_number signal.ASize (bits_of values taps.size)
+  source ← known_number signal.ASource (bits_of values taps.source)
+  address ← known_number signal.AAddress (bits_of values taps.address)
+  _ ← known_number signal.AMask (bits_of values taps.mask)
   Ok (record { opcode = opcode; param = param; size = size; source = source; address = address })
 
 abbrev pub cells_of_reply : List (List ℕ) → ReplyTaps → Result ReplyCells Signal
 cells_of_reply values taps = do
-  opcode ← known signal.DOpcode (bits_of values taps.opcode)
-  size ← known signal.DSize (bits_of values taps.size)
-  source ← known signal.DSource (bits_of values taps.source)
-  denied ← known signal.DDenied (bits_of values taps.denied)
-  corrupt ← known signal.DCorrupt (bits_of values taps.corrupt)
+  opcode ← known_number signal.DOpcode (bits_of values taps.opcode)
+  size ← known_number signal.DSize (bits_of values taps.size)
+  source ← known_number signal.DSource (bits_of values taps.source)
+  denied ← known_number signal.DDenied (bits_of values taps.denied)
+  corrupt ← known_number signal.DCorrupt (bits_of values taps.corrupt)
   Ok (record { opcode = opcode; size = size; source = source; denied = denied; corrupt = corrupt })
 
 -- the columns up to the channel

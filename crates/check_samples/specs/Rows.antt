@@ -1,8 +1,9 @@
 -- The rows of a time: those of the beats that cross at a rising edge of the clock. This project's own.
 use Rattle.std.specs.Prelude.{◌≡◌, ℕ, ◌&&◌, Bool, false, not, List, [], ◌∷◌, ◌++◌, codes, Option, None, Some, Result, Ok, Err, if◌then◌else◌}
 use Rattle.std.specs.Str.{bytes_eq}
+use Rattle.tl_text.specs.Reading.{◌>>=◌}
 use Rattle.check_samples.specs.Digits.{bits_of}
-use Rattle.check_samples.specs.Row.{ask_text, cells_of_ask, cells_of_reply, ◌>>=◌, reply_text}
+use Rattle.check_samples.specs.Row.{ask_text, cells_of_ask, cells_of_reply, reply_text}
 use Rattle.check_samples.specs.declared.channel.BeatTaps.{BeatTaps}
 use Rattle.check_samples.specs.declared.channel.BeatTaps.TheVariants.{A, D}
 use Rattle.check_samples.specs.declared.channel.Channel.{Channel}

@@ -75,7 +75,7 @@ rises_in (Wrong line mistake ∷ happens) s = false
 
 -- the rows that were to come are those that were appended and those that are left to come; or the first beat that is
 -- none was met, after all rows before it; unless memory ran out
-abbrev pub Leads : Result Unit SampleFault → List ℕ → List ℕ → Rows → Rows → Type 0
-Leads (Ok done) old new before left = (new ++ left.text ≡ old ++ before.text) × (left.fault ≡ before.fault)
-Leads (Err (Unknown fault)) old new before left = (new ≡ old ++ before.text) × (before.fault ≡ Some fault)
-Leads (Err Memory) old new before left = Unit {0}
+abbrev pub LeadsToRows : Result Unit SampleFault → List ℕ → List ℕ → Rows → Rows → Type 0
+LeadsToRows (Ok done) old new before left = (new ++ left.text ≡ old ++ before.text) × (left.fault ≡ before.fault)
+LeadsToRows (Err (Unknown fault)) old new before left = (new ≡ old ++ before.text) × (before.fault ≡ Some fault)
+LeadsToRows (Err Memory) old new before left = Unit {0}

@@ -3,7 +3,7 @@ ghost use Rattle.std.specs.Prelude.{[], ◌≡◌, ◌++◌, ◌∷◌, OnOk};
 ghost use Rattle.std.specs.Fmt.{decimal};
 ghost use Rattle.tl_text.specs.Number.{number_of};
 ghost use Rattle.check_samples.specs.Values.{all_before};
-ghost use Rattle.check_samples.specs.Row.{ask_lanes, ask_numbers, ask_text, cells_of_ask, cells_of_reply, digit_of, head_text, hex_text, hexes, known, link_text, reply_lanes, reply_numbers, reply_text};
+ghost use Rattle.check_samples.specs.Row.{ask_lanes, ask_numbers, ask_text, cells_of_ask, cells_of_reply, digit_of, head_text, hex_text, hexes, known_number, link_text, reply_lanes, reply_numbers, reply_text};
 
 use crate::channel::{AskTaps, ReplyTaps};
 use crate::signal::Signal;
@@ -55,8 +55,8 @@ fn read_bits(bits: &[u8]) -> Option<u64>
 }
 
 /// The number that bits spell, if each is known.
-fn known(signal: Signal, bits: &[u8]) -> Result<u64, Signal>
-    ensures { result ≡ known signal bits.now }
+fn known_number(signal: Signal, bits: &[u8]) -> Result<u64, Signal>
+    ensures { result ≡ known_number signal bits.now }
 {
     match read_bits(bits) {
         Some(number) => Ok(number),
@@ -150,12 +150,12 @@ fn push_number(text: &mut Vec<u8>, number: u64) -> Result<(), AllocError>
 pub(crate) fn ask_cells(values: &Values, taps: &AskTaps) -> Result<AskCells, Signal>
     ensures { result ≡ cells_of_ask (all_before values.now) taps.now }
 {
-    let opcode = known(Signal::AOpcode, values.before(taps.opcode))?;
-    let param = known(Signal::AParam, values.before(taps.param))?;
-    let size = known(Signal::ASize, values.before(taps.size))?;
-    let source = known(Signal::ASource, values.before(taps.source))?;
-    let address = known(Signal::AAddress, values.before(taps.address))?;
-    known(Signal::AMask, values.before(taps.mask))?;
+    let opcode = known_number(Signal::AOpcode, values.before(taps.opcode))?;
+    let param = known_number(Signal::AParam, values.before(taps.param))?;
+    let size = known_number(Signal::ASize, values.before(taps.size))?;
+    let source = known_number(Signal::ASource, values.before(taps.source))?;
+    let address = known_number(Signal::AAddress, values.before(taps.address))?;
+    known_number(Signal::AMask, values.before(taps.mask))?;
     Ok(AskCells {
         opcode,
         param,
@@ -169,11 +169,11 @@ pub(crate) fn ask_cells(values: &Values, taps: &AskTaps) -> Result<AskCells, Sig
 pub(crate) fn reply_cells(values: &Values, taps: &ReplyTaps) -> Result<ReplyCells, Signal>
     ensures { result ≡ cells_of_reply (all_before values.now) taps.now }
 {
-    let opcode = known(Signal::DOpcode, values.before(taps.opcode))?;
-    let size = known(Signal::DSize, values.before(taps.size))?;
-    let source = known(Signal::DSource, values.before(taps.source))?;
-    let denied = known(Signal::DDenied, values.before(taps.denied))?;
-    let corrupt = known(Signal::DCorrupt, values.before(taps.corrupt))?;
+    let opcode = known_number(Signal::DOpcode, values.before(taps.opcode))?;
+    let size = known_number(Signal::DSize, values.before(taps.size))?;
+    let source = known_number(Signal::DSource, values.before(taps.source))?;
+    let denied = known_number(Signal::DDenied, values.before(taps.denied))?;
+    let corrupt = known_number(Signal::DCorrupt, values.before(taps.corrupt))?;
     Ok(ReplyCells {
         opcode,
         size,

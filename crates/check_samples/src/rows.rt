@@ -1,7 +1,7 @@
 //! The rows of a dump, one thing that happens in it after the other.
 ghost use Rattle.std.specs.Prelude.{◌≡◌, ◌||◌, IfErr, IfOk, IfSome, Some, false};
 ghost use Rattle.check_vcd.specs.Words.{Both};
-ghost use Rattle.check_samples.specs.Left.{GoesOn, Stops, left_in, risen_behind};
+ghost use Rattle.check_samples.specs.Left.{RowsGoOn, Stops, left_in, risen_behind};
 ghost use Rattle.check_samples.specs.Sampling.{rises_now};
 
 use crate::channel::UnknownBit;
@@ -67,9 +67,9 @@ pub struct Rows<R: Read + Drop> {
 
 impl<R: Read + Drop> Model for Rows<R> {
     ghost use Rattle.std.specs.Prelude.{Option};
-    ghost use Rattle.check_samples.specs.Left.{Left, left_in};
+    ghost use Rattle.check_samples.specs.Left.{RowsLeft, left_in};
 
-    ghost Value = { Option Left };
+    ghost Value = { Option RowsLeft };
 
     ghost view = { λ rows. left_in rows.dump rows.sampler rows.has_risen };
 }
@@ -112,7 +112,7 @@ impl<R: Read + Drop> Rows<R> {
     /// Reads on to what happens next, and appends the rows that are then due. After the end or a fault it is called no
     /// more.
     pub fn read(&mut self, text: &mut Vec<u8>) -> Result<Progress, RowsFault>
-        ensures ok { IfOk result (λ progress. Both self.old self.new (GoesOn progress text.old.items text.new.items)) }
+        ensures ok { IfOk result (λ progress. Both self.old self.new (RowsGoOn progress text.old.items text.new.items)) }
         ensures fault { IfErr result (λ fault. IfSome self.old (Stops fault text.old.items text.new.items)) }
     {
         match self.dump.read() {

@@ -184,7 +184,7 @@ impl Model for Sampler {
 
 impl Sampler {
     ghost use Rattle.check_vcd.specs.Body.{Happens, happens_of};
-    ghost use Rattle.check_samples.specs.Sampling.{Leads, at_time, behind, is_at, rises_now, rows_from, rows_now, with_value};
+    ghost use Rattle.check_samples.specs.Sampling.{LeadsToRows, at_time, behind, is_at, rises_now, rows_from, rows_now, with_value};
 
     /// Before anything has happened: each value is unknown, save those that are given.
     pub fn new(probes: Probes, values: Values) -> Sampler
@@ -244,7 +244,7 @@ impl Sampler {
         event: Event,
         digits: &[u8],
     ) -> Result<(), SampleFault>
-        ensures rows { (rest : List Happens) → Leads result text.old.items text.new.items
+        ensures rows { (rest : List Happens) → LeadsToRows result text.old.items text.new.items
             (rows_from (happens_of event digits.now ∷ rest) self.old) (rows_from rest self.new) }
         ensures state { OnOk result (self.new ≡ behind (happens_of event digits.now) self.old) }
     {

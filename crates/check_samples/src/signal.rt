@@ -1,6 +1,6 @@
 //! The signals of a link, by the names of the TileLink specification.
 ghost use Rattle.std.specs.Prelude.{◌≡◌, Some};
-ghost use Rattle.check_samples.specs.Signal.{name_of};
+ghost use Rattle.check_samples.specs.Signal.{signal_name};
 
 use std::fmt;
 
@@ -29,7 +29,7 @@ pub enum Signal {
 impl Signal {
     /// Its name.
     pub fn name(self) -> &'static str
-        ensures { result.now ≡ name_of self }
+        ensures { result.now ≡ signal_name self }
     {
         match self {
             Signal::AValid => "a_valid",
@@ -54,7 +54,7 @@ impl Signal {
 }
 
 impl fmt::Display for Signal {
-    ghost output = { λ signal. Some (name_of signal) };
+    ghost output = { λ signal. Some (signal_name signal) };
 
     fn fmt<W: fmt::Write>(&self, f: &mut fmt::Formatter<W>) -> fmt::Result {
         f.write_str(self.name())

@@ -12,20 +12,20 @@ use Rattle.tl_ops.specs.Store.{Store}
 use Rattle.tl_ops.specs.declared.bank.TheConstants.{MAX_LENGTH}
 use Rattle.tl_ops.specs.declared.kind.Kind as kind_of_slave
 use Rattle.tl_ops.specs.declared.kind.Kind.TheVariants.{Ram, Rom, Regs, ClearRegs}
-use Rattle.tl_script.specs.Port.{kind_of, pairs_of, filled, kind_at as old_kind_at, reset_at as old_reset_at, reset_text as old_reset_text, last_base, port_of as old_port_of}
+use Rattle.tl_script.specs.Port.{script_kind_of, pairs_of, filled, kind_at as old_kind_at, reset_at as old_reset_at, reset_text as old_reset_text, last_base, port_of as old_port_of}
 use Rattle.tl_script.specs.System.{range_of}
-use Rattle.tl_script.specs.Value.{in_range as old_in_range, number_at as old_number_at, value_at as old_value_at}
-use Rattle.tl_script.specs.Key.{key_name as old_key_name}
-use Rattle.tl_script.specs.declared.fault.Key as old_key
-use Rattle.tl_script.specs.declared.fault.Key.TheVariants.{Kind as OldKind, Base as OldBase, Length as OldLength, Reset as OldReset}
+use Rattle.tl_script.specs.Value.{script_in_range as old_in_range, script_number_at as old_number_at, script_value_at as old_value_at}
+use Rattle.tl_script.specs.Key.{script_key_name as old_key_name}
+use Rattle.tl_script.specs.declared.fault.ScriptKey as old_key
+use Rattle.tl_script.specs.declared.fault.ScriptKey.TheVariants.{Kind as OldKind, Base as OldBase, Length as OldLength, Reset as OldReset}
 use Rattle.tl_script.specs.declared.fault.ScriptFault.{ScriptFault}
 use Rattle.tl_script.specs.declared.fault.ScriptFault.TheVariants.{Missing as OldMissing, WrongType as OldWrongType, OutOfRange as OldOutOfRange}
 use Rattle.tl_script.proofs.Resets.{pairs_of-length}
 use Rattle.check_keys.specs.Key.{key_name}
 use Rattle.check_scripts.specs.Instance.{ArePortsOf, IsPlainPort, IsPortOf}
 use Rattle.check_keys.specs.Name.{name_at}
-use Rattle.check_description.specs.Contents.{contents_at, image_at, reset_at, reset_of}
-use Rattle.check_description.specs.Kind.{kind_at, kind_of as new_kind_of}
+use Rattle.check_description.specs.Contents.{contents_at, image_name_at, reset_at, reset_of}
+use Rattle.check_description.specs.Kind.{kind_at, port_kind_of as new_kind_of}
 use Rattle.check_description.specs.Order.{order_at}
 use Rattle.check_description.specs.Port.{Port, port_of}
 use Rattle.check_description.specs.Ranges.{plain_ranges, ranges_at}
@@ -33,9 +33,9 @@ use Rattle.check_description.specs.Sizes.{sizes_at}
 use Rattle.check_description.specs.declared.kind.PortKind.{PortKind}
 use Rattle.check_description.specs.declared.kind.PortKind.TheVariants.{Memory, Device}
 use Rattle.check_beats.specs.declared.bus.Bus.TheVariants.{Eight}
-use Rattle.check_keys.specs.Bus.{bus_at}
-use Rattle.check_keys.specs.Reading as new
-use Rattle.check_keys.specs.Value.{flag_at, in_range, last_integer, number_at, number_if_any, number_of, text_if_any, text_of, value_at}
+use Rattle.check_keys.specs.Bus.{bus_in_table}
+use Rattle.tl_text.specs.Reading as steps
+use Rattle.check_keys.specs.Value.{flag_at, in_range, last_integer, number_at, number_if_any, number_in_value, text_if_any, text_of, value_at}
 use Rattle.check_keys.specs.declared.fault.Key.{Key}
 use Rattle.check_keys.specs.declared.fault.Key.TheVariants.{Kind, Base, Length, Reset}
 use Rattle.check_keys.specs.declared.fault.SystemFault.{SystemFault}
@@ -48,13 +48,13 @@ ok_or_same None e e' x is = absurd cc
 ok_or_same (Some y) e e' x is = let same : y ≡ x = cc in ap Ok same
 
 pub step_to : {A B C F G : Type 0} (o : Option A) (e : F) (e' : G) (f : A → Result B F) (g : A → Result C G) (y : B)
-    (z : C) → ((x : A) → f x ≡ Ok y → g x ≡ Ok z) → (new.◌>>=◌ (ok_or o e) f) ≡ Ok y
-    → (new.◌>>=◌ (ok_or o e') g) ≡ Ok z
+    (z : C) → ((x : A) → f x ≡ Ok y → g x ≡ Ok z) → (steps.◌>>=◌ (ok_or o e) f) ≡ Ok y
+    → (steps.◌>>=◌ (ok_or o e') g) ≡ Ok z
 step_to None e e' f g y z same is = absurd cc
 step_to (Some x) e e' f g y z same is = same x is
 
 pub step_same : {A B F G : Type 0} (o : Option A) (e : F) (e' : G) (f : A → Result B F) (g : A → Result B G) (y : B)
-    → ((x : A) → f x ≡ Ok y → g x ≡ Ok y) → (new.◌>>=◌ (ok_or o e) f) ≡ Ok y → (new.◌>>=◌ (ok_or o e') g) ≡ Ok y
+    → ((x : A) → f x ≡ Ok y → g x ≡ Ok y) → (steps.◌>>=◌ (ok_or o e) f) ≡ Ok y → (steps.◌>>=◌ (ok_or o e') g) ≡ Ok y
 step_same o e e' f g y same is = step_to o e e' f g y y same is
 
 -- ---- numbers
@@ -63,21 +63,21 @@ pub kept : {F : Type 0} (b : Bool) (m n : ℕ) (e : F) → (if b then Ok m else 
 kept true m n e is = cc
 kept false m n e is = absurd cc
 
-in_range_same : (old_k : old_key.Key) (key : Key) (low high low' high' n : ℕ) (z : ℤ)
+in_range_same : (old_k : old_key.ScriptKey) (key : Key) (low high low' high' n : ℕ) (z : ℤ)
     → old_in_range old_k low high z ≡ Ok n → low' ≤ n → n ≤ high' → in_range key low' high' z ≡ Ok n
 in_range_same old_k key low high low' high' n (pos m) is from to =
     let same : m ≡ n = kept (nat_le low m && nat_le m high) m n (OldOutOfRange old_k) is in
     rw (same, both_true (le-leb low' n from) (le-leb n high' to)) refl
 in_range_same old_k key low high low' high' n (negsuc m) is from to = absurd cc
 
-pub number_at_same : (old_k : old_key.Key) (key : Key) (low high low' high' n : ℕ) (members : Members)
+pub number_at_same : (old_k : old_key.ScriptKey) (key : Key) (low high low' high' n : ℕ) (members : Members)
     → old_key_name old_k ≡ key_name key → old_number_at old_k low high members ≡ Ok n → low' ≤ n → n ≤ high'
     → number_at key low' high' members ≡ Ok n
-unfolding old_number_at old_value_at number_at number_of value_at
+unfolding old_number_at old_value_at number_at number_in_value value_at
 number_at_same old_k key low high low' high' n members named is from to =
     rw (← named) (step_same (get_member (old_key_name old_k) members) (OldMissing old_k) (Missing key)
-    (λ value. new.◌>>=◌ (ok_or (as_integer value) (OldWrongType old_k)) (old_in_range old_k low high))
-    (λ value. new.◌>>=◌ (ok_or (as_integer value) (WrongType key)) (in_range key low' high')) n
+    (λ value. steps.◌>>=◌ (ok_or (as_integer value) (OldWrongType old_k)) (old_in_range old_k low high))
+    (λ value. steps.◌>>=◌ (ok_or (as_integer value) (WrongType key)) (in_range key low' high')) n
     (λ value. step_same (as_integer value) (OldWrongType old_k) (WrongType key) (old_in_range old_k low high)
     (in_range key low' high') n (λ z within. in_range_same old_k key low high low' high' n z within from to)) is)
 
@@ -89,7 +89,7 @@ pub passes : {F : Type 0} (b : Bool) (m n : ℕ) (e : F) → (if b then Ok m els
 passes true m n e is = refl
 passes false m n e is = absurd cc
 
-in_range_within : (old_k : old_key.Key) (low high n : ℕ) (z : ℤ) → old_in_range old_k low high z ≡ Ok n
+in_range_within : (old_k : old_key.ScriptKey) (low high n : ℕ) (z : ℤ) → old_in_range old_k low high z ≡ Ok n
     → (low ≤ n) × (n ≤ high)
 in_range_within old_k low high n (pos m) is =
     let same : m ≡ n = kept (nat_le low m && nat_le m high) m n (OldOutOfRange old_k) is in
@@ -99,16 +99,16 @@ in_range_within old_k low high n (pos m) is =
 in_range_within old_k low high n (negsuc m) is = absurd cc
 
 pub step_shows : {A B F : Type 0} (o : Option A) (e : F) (f : A → Result B F) (y : B) (P : Type 0)
-    → ((x : A) → f x ≡ Ok y → P) → (new.◌>>=◌ (ok_or o e) f) ≡ Ok y → P
+    → ((x : A) → f x ≡ Ok y → P) → (steps.◌>>=◌ (ok_or o e) f) ≡ Ok y → P
 step_shows None e f y P shows is = absurd cc
 step_shows (Some x) e f y P shows is = shows x is
 
-pub number_at_within : (old_k : old_key.Key) (low high n : ℕ) (members : Members)
+pub number_at_within : (old_k : old_key.ScriptKey) (low high n : ℕ) (members : Members)
     → old_number_at old_k low high members ≡ Ok n → (low ≤ n) × (n ≤ high)
 unfolding old_number_at old_value_at
 number_at_within old_k low high n members is =
     step_shows (get_member (old_key_name old_k) members) (OldMissing old_k)
-    (λ value. new.◌>>=◌ (ok_or (as_integer value) (OldWrongType old_k)) (old_in_range old_k low high)) n
+    (λ value. steps.◌>>=◌ (ok_or (as_integer value) (OldWrongType old_k)) (old_in_range old_k low high)) n
     ((low ≤ n) × (n ≤ high))
     (λ value. step_shows (as_integer value) (OldWrongType old_k) (old_in_range old_k low high) n
     ((low ≤ n) × (n ≤ high)) (in_range_within old_k low high n)) is
@@ -139,10 +139,10 @@ ok_or_is : {A F : Type 0} (o : Option A) (e : F) (x : A) → ok_or o e ≡ Ok x 
 ok_or_is None e x is = absurd cc
 ok_or_is (Some y) e x is = let same : y ≡ x = cc in ap (λ z. Some z) same
 
-kind_word_same : (word : List ℕ) (kind : kind_of_slave.Kind) → ok_or (kind_of word) (OldOutOfRange OldKind) ≡ Ok kind
+kind_word_same : (word : List ℕ) (kind : kind_of_slave.Kind) → ok_or (script_kind_of word) (OldOutOfRange OldKind) ≡ Ok kind
     → ok_or (new_kind_of word) (OutOfRange Kind) ≡ Ok (Memory kind)
 kind_word_same word kind is =
-    let old = ok_or_is (kind_of word) (OldOutOfRange OldKind) kind is in
+    let old = ok_or_is (script_kind_of word) (OldOutOfRange OldKind) kind is in
     let named : new_kind_of word ≡ Some (Memory kind) =
     kind_by (bytes_eq word (codes "ram")) (bytes_eq word (codes "rom")) (bytes_eq word (codes "regs"))
     (bytes_eq word (codes "w1c")) (bytes_eq word (codes "device")) kind old in
@@ -153,12 +153,12 @@ pub kind_at_same : (members : Members) (kind : kind_of_slave.Kind) → old_kind_
 unfolding old_kind_at old_value_at kind_at value_at
 kind_at_same members kind is =
     step_to (get_member (key_name Kind) members) (OldMissing OldKind) (Missing Kind)
-    (λ value. new.◌>>=◌ (ok_or (as_str value) (OldWrongType OldKind))
-    (λ word. ok_or (kind_of word) (OldOutOfRange OldKind)))
-    (λ value. new.◌>>=◌ (ok_or (as_str value) (WrongType Kind)) (λ word. ok_or (new_kind_of word) (OutOfRange Kind))) kind
+    (λ value. steps.◌>>=◌ (ok_or (as_str value) (OldWrongType OldKind))
+    (λ word. ok_or (script_kind_of word) (OldOutOfRange OldKind)))
+    (λ value. steps.◌>>=◌ (ok_or (as_str value) (WrongType Kind)) (λ word. ok_or (new_kind_of word) (OutOfRange Kind))) kind
     (Memory kind)
     (λ value. step_to (as_str value) (OldWrongType OldKind) (WrongType Kind)
-    (λ word. ok_or (kind_of word) (OldOutOfRange OldKind))
+    (λ word. ok_or (script_kind_of word) (OldOutOfRange OldKind))
     (λ word. ok_or (new_kind_of word) (OutOfRange Kind)) kind (Memory kind)
     (λ word. kind_word_same word kind)) is
 
@@ -170,7 +170,7 @@ record IsFilled (read : Result (List ℕ) SystemFault) (count : ℕ) (bytes : Li
   pub filled_is : bytes ≡ given ++ replicate (count - length given) 0
 
 found : {F : Type 0} (o : Option (List ℕ)) (e : F) (count : ℕ) (bytes : List ℕ)
-    → (new.◌>>=◌ (ok_or o e) (λ given. Ok (given ++ replicate (count - length given) 0))) ≡ Ok bytes
+    → (steps.◌>>=◌ (ok_or o e) (λ given. Ok (given ++ replicate (count - length given) 0))) ≡ Ok bytes
     → (given : List ℕ) × (o ≡ Some given) × (given ++ replicate (count - length given) 0 ≡ bytes)
 found None e count bytes is = absurd cc
 found (Some given) e count bytes is = (given, refl, cc)
@@ -181,7 +181,7 @@ reset_of-given count text given read few = rw (read, few) refl
 
 filled_by : (b : Bool) (count : ℕ) (text bytes : List ℕ) → nat_lt (2 * count) (length text) ≡ b
     → (if b then Err (OldOutOfRange OldReset)
-    else (new.◌>>=◌ (ok_or (pairs_of text) (OldOutOfRange OldReset))
+    else (steps.◌>>=◌ (ok_or (pairs_of text) (OldOutOfRange OldReset))
     (λ given. Ok (given ++ replicate (count - length given) 0))))
     ≡ Ok bytes
     → IsFilled (reset_of count text) count bytes
@@ -204,22 +204,22 @@ reset_of_same : (count : ℕ) (text bytes : List ℕ) → filled count text ≡ 
 unfolding filled
 reset_of_same count text bytes is = filled_by (nat_lt (2 * count) (length text)) count text bytes refl is
 
-unless_gives : {A F : Type 0} (fails : Bool) (fault : F) (x y : A) → new.unless fails fault x ≡ Ok y → x ≡ y
+unless_gives : {A F : Type 0} (fails : Bool) (fault : F) (x y : A) → steps.unless fails fault x ≡ Ok y → x ≡ y
 unless_gives true fault x y is = absurd cc
 unless_gives false fault x y is = cc
 
 reset_text_same : (count : ℕ) (text : Option (List ℕ)) (bytes : List ℕ)
-    → (new.◌>>=◌ (ok_or text (OldWrongType OldReset)) (filled count)) ≡ Ok bytes
-    → IsFilled (new.◌>>=◌ (new.◌>>=◌ (new.◌>>=◌ (ok_or text (WrongType Reset)) (λ y. Ok (Some y)))
-    (new.if_any (reset_of count))) (λ given. Ok (unwrap_or given []))) count bytes
+    → (steps.◌>>=◌ (ok_or text (OldWrongType OldReset)) (filled count)) ≡ Ok bytes
+    → IsFilled (steps.◌>>=◌ (steps.◌>>=◌ (steps.◌>>=◌ (ok_or text (WrongType Reset)) (λ y. Ok (Some y)))
+    (steps.if_any (reset_of count))) (λ given. Ok (unwrap_or given []))) count bytes
 reset_text_same count None bytes is = absurd cc
 reset_text_same count (Some text) bytes is =
     let read = reset_of_same count text bytes is in
     record { given = read.given; read_is = rw read.read_is refl; short = read.short; filled_is = read.filled_is }
 
 reset_value_same : (count : ℕ) (value : Option Data) (bytes : List ℕ)
-    → (new.◌>>=◌ (old_reset_text value) (filled count)) ≡ Ok bytes
-    → IsFilled (new.◌>>=◌ (new.◌>>=◌ (new.if_any (text_of Reset) value) (new.if_any (reset_of count)))
+    → (steps.◌>>=◌ (old_reset_text value) (filled count)) ≡ Ok bytes
+    → IsFilled (steps.◌>>=◌ (steps.◌>>=◌ (steps.if_any (text_of Reset) value) (steps.if_any (reset_of count)))
     (λ given. Ok (unwrap_or given []))) count bytes
 reset_value_same count None bytes is =
     let read = reset_of_same count [] bytes is in
@@ -244,7 +244,7 @@ record IsRead (kind : Result kind_of_slave.Kind ScriptFault) (base count : Resul
   pub bytes_are : reset many ≡ Ok store.bytes
 
 read_last : (reset : Result (List ℕ) ScriptFault) (kind : kind_of_slave.Kind) (base : ℕ) (store : Store)
-    → (new.◌>>=◌ reset (λ bytes. Ok (record { kind = kind; base = base; bytes = bytes }))) ≡ Ok store
+    → (steps.◌>>=◌ reset (λ bytes. Ok (record { kind = kind; base = base; bytes = bytes }))) ≡ Ok store
     → (kind ≡ store.kind) × (base ≡ store.base) × (reset ≡ Ok store.bytes)
 read_last (Err e) kind base store is = absurd cc
 read_last (Ok bytes) kind base store is =
@@ -253,8 +253,8 @@ read_last (Ok bytes) kind base store is =
 
 read_keys : (kind : Result kind_of_slave.Kind ScriptFault) (base count : Result ℕ ScriptFault)
     (reset : ℕ → Result (List ℕ) ScriptFault) (store : Store)
-    → (new.◌>>=◌ kind (λ k. new.◌>>=◌ base (λ b. new.◌>>=◌ count (λ c.
-    new.◌>>=◌ (reset c) (λ bytes. Ok (record { kind = k; base = b; bytes = bytes }))))))
+    → (steps.◌>>=◌ kind (λ k. steps.◌>>=◌ base (λ b. steps.◌>>=◌ count (λ c.
+    steps.◌>>=◌ (reset c) (λ bytes. Ok (record { kind = k; base = b; bytes = bytes }))))))
     ≡ Ok store → IsRead kind base count reset store
 read_keys (Err e) base count reset store is = absurd cc
 read_keys (Ok k) (Err e) count reset store is = absurd cc
@@ -271,7 +271,7 @@ pub record ReadsPort (members : Members) (store : Store) : Type 0 where
 
 pub port_same : (members : Members) (store : Store) → IsPlainPort members → (IsEmpty (range_of store) → ⊥)
     → old_port_of members ≡ Ok store → ReadsPort members store
-unfolding old_port_of port_of name_at ranges_at plain_ranges contents_at image_at flag_at sizes_at order_at bus_at text_if_any number_if_any
+unfolding old_port_of port_of name_at ranges_at plain_ranges contents_at image_name_at flag_at sizes_at order_at bus_in_table text_if_any number_if_any
 port_same members store plain some is =
     let read = read_keys (old_kind_at members) (old_number_at OldBase 0 last_base members)
     (old_number_at OldLength 0 MAX_LENGTH members) (λ count. old_reset_at count members) store is in
@@ -334,7 +334,7 @@ port_same members store plain some is =
 -- ---- each port
 
 pub each_first : {B F : Type 0} (a : Result B F) (rest : Result (List B) F) (b : B) (more : List B)
-    → (new.◌>>=◌ a (λ y. new.◌>>=◌ rest (λ ys. Ok (y ∷ ys)))) ≡ Ok (b ∷ more) → (a ≡ Ok b) × (rest ≡ Ok more)
+    → (steps.◌>>=◌ a (λ y. steps.◌>>=◌ rest (λ ys. Ok (y ∷ ys)))) ≡ Ok (b ∷ more) → (a ≡ Ok b) × (rest ≡ Ok more)
 each_first (Err e) rest b more is = absurd cc
 each_first (Ok y) (Err e) b more is = absurd cc
 each_first (Ok y) (Ok ys) b more is =
@@ -343,7 +343,7 @@ each_first (Ok y) (Ok ys) b more is =
     (ap Ok first, ap Ok others)
 
 pub each_none : {B F : Type 0} (a : Result B F) (rest : Result (List B) F)
-    → (new.◌>>=◌ a (λ y. new.◌>>=◌ rest (λ ys. Ok (y ∷ ys)))) ≡ Ok [] → ⊥
+    → (steps.◌>>=◌ a (λ y. steps.◌>>=◌ rest (λ ys. Ok (y ∷ ys)))) ≡ Ok [] → ⊥
 each_none (Err e) rest is = cc
 each_none (Ok y) (Err e) is = cc
 each_none (Ok y) (Ok ys) is = cc
@@ -351,19 +351,19 @@ each_none (Ok y) (Ok ys) is = cc
 -- the ports that the tables of a script are
 pub record ReadsPorts (tables : List Members) (stores : List Store) : Type 0 where
   pub ports : List Port
-  pub read : new.each (port_of Eight) tables ≡ Ok ports
+  pub read : steps.each (port_of Eight) tables ≡ Ok ports
   pub are : ArePortsOf stores ports
   pub names : filter_map (λ (port : Port). port.name) ports ≡ []
 
 pub ports_same : (tables : List Members) (stores : List Store) → AllByRecursion IsPlainPort tables
-    → AllByRecursion (λ store. IsEmpty (range_of store) → ⊥) stores → new.each old_port_of tables ≡ Ok stores
+    → AllByRecursion (λ store. IsEmpty (range_of store) → ⊥) stores → steps.each old_port_of tables ≡ Ok stores
     → ReadsPorts tables stores
 ports_same [] [] plain some is = record { ports = []; read = refl; are = tt; names = refl }
 ports_same [] (store ∷ stores) plain some is = absurd cc
 ports_same (table ∷ tables) [] plain some is =
-    absurd (each_none (old_port_of table) (new.each old_port_of tables) is)
+    absurd (each_none (old_port_of table) (steps.each old_port_of tables) is)
 ports_same (table ∷ tables) (store ∷ stores) plain some is =
-    let both = each_first (old_port_of table) (new.each old_port_of tables) store stores is in
+    let both = each_first (old_port_of table) (steps.each old_port_of tables) store stores is in
     let first = port_same table store plain.0 some.0 both.0 in
     let rest = ports_same tables stores plain.1 some.1 both.1 in
     record {

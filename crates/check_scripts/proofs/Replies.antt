@@ -7,7 +7,7 @@ use Rattle.tl_types.specs.Response.{Response}
 use Rattle.tl_beats.specs.Replies as narrow_reply
 use Rattle.tl_beats.specs.declared.beat.DBeat.{DBeat}
 use Rattle.check_cells.specs.Pattern.{seen_as}
-use Rattle.check_beats.specs.Bus.{lane_of}
+use Rattle.check_beats.specs.Bus.{lane_on_bus}
 use Rattle.check_beats.specs.Spelling.{IsReplyBeatOf, StandsAt}
 use Rattle.check_scripts.specs.Beats.{all_lanes, reply_beat_of, ReplySpelledAlike}
 use Rattle.check_scripts.proofs.Mapped.{from_map, in_map}
@@ -24,7 +24,7 @@ lane_known (suc (suc (suc (suc (suc (suc zero)))))) within = refl
 lane_known (suc (suc (suc (suc (suc (suc (suc zero))))))) within = refl
 lane_known (suc (suc (suc (suc (suc (suc (suc (suc lane)))))))) within = absurd (omega (arith, within))
 
-lane_below : (address size j : ℕ) → lane_of 8 address size j < 8
+lane_below : (address size j : ℕ) → lane_on_bus 8 address size j < 8
 lane_below address size j = omega (arith)
 
 -- what stands at a lane, all of which are known
@@ -43,7 +43,7 @@ beat_alike reply address b beat = (
       of_denied = λ set. subst (λ (d : Bool). IsTrue d) (sym (some_same s.fields.denied)) (s.corrupt.of_denied set);
     };
     bytes = λ granted j byte at row.
-        byte_of_pattern beat.lanes (lane_of 8 address reply.size j) (Some byte) byte refl
+        byte_of_pattern beat.lanes (lane_on_bus 8 address reply.size j) (Some byte) byte refl
         (s.bytes (sym (some_same s.fields.denied) ∙ granted) j (Some byte)
         (in_map (λ (x : ℕ). Some x) reply.bytes j byte at) row);
   }),
@@ -55,9 +55,9 @@ beat_alike reply address b beat = (
     };
     bytes = λ granted j byte at row.
         from_map (λ (x : ℕ). Some x)
-        (λ (x : Option ℕ). StandsAt all_lanes beat.lanes (lane_of 8 address reply.size j) x) reply.bytes j
+        (λ (x : Option ℕ). StandsAt all_lanes beat.lanes (lane_on_bus 8 address reply.size j) x) reply.bytes j
         (λ x there. (
-          lane_known (lane_of 8 address reply.size j) (lane_below address reply.size j),
+          lane_known (lane_on_bus 8 address reply.size j) (lane_below address reply.size j),
           s.bytes (sym s.fields.denied ∙ granted) j x there row,
         )) byte at;
   }),

@@ -5,7 +5,7 @@ use Rattle.std.proofs.lemmas.List.{length-map}
 use Rattle.tl_types.specs.Request.{Request}
 use Rattle.tl_beats.specs.Beats as narrow
 use Rattle.tl_beats.specs.declared.beat.ABeat.{ABeat}
-use Rattle.check_beats.specs.Bus.{lane_of}
+use Rattle.check_beats.specs.Bus.{lane_on_bus}
 use Rattle.check_beats.specs.Spelling.{StandsAt, IsBeatOf}
 use Rattle.check_scripts.specs.Beats.{ask_beat_of, AskSpelledAlike, BusIsThatOfEight, MaskIsThatOfEight}
 use Rattle.check_scripts.proofs.Mapped.{from_map, in_map}
@@ -28,12 +28,12 @@ beat_alike ask b beat = (
   (λ s. record {
     fields = record { opcode = s.fields.opcode; param = s.fields.param; size = s.fields.size; source = s.fields.source; address = s.fields.address };
     mask = (mask_alike ask.op ask.size ask.address beat.mask).0 s.mask;
-    bytes = λ j given at row. (stands_alike beat.mask beat.lanes (lane_of 8 ask.address ask.size j) given).0 (s.bytes j given at row);
+    bytes = λ j given at row. (stands_alike beat.mask beat.lanes (lane_on_bus 8 ask.address ask.size j) given).0 (s.bytes j given at row);
   }),
   (λ s. record {
     fields = record { opcode = s.fields.opcode; param = s.fields.param; size = s.fields.size; source = s.fields.source; address = s.fields.address };
     mask = (mask_alike ask.op ask.size ask.address beat.mask).1 s.mask;
-    bytes = λ j given at row. (stands_alike beat.mask beat.lanes (lane_of 8 ask.address ask.size j) given).1 (s.bytes j given at row);
+    bytes = λ j given at row. (stands_alike beat.mask beat.lanes (lane_on_bus 8 ask.address ask.size j) given).1 (s.bytes j given at row);
   }),
 )
 

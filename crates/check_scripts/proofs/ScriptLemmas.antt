@@ -12,16 +12,16 @@ use Rattle.tl_map.specs.Map.{IsLawfulMap}
 use Rattle.tl_map.specs.Range.{IsEmpty}
 use Rattle.tl_map.specs.Sources.{AreLawfulCounts}
 use Rattle.tl_ops.specs.Store.{Store}
-use Rattle.tl_script.specs.Master.{Master as OldMaster, jobs_from, lines_at as old_lines_at, master_of as old_master_of, masters_of as old_masters_of}
-use Rattle.tl_script.specs.Port.{port_of as old_port_of, port_tables as old_port_tables, ports_of as old_ports_of}
-use Rattle.tl_script.specs.Key.{key_name as old_key_name}
-use Rattle.tl_script.specs.Script.{Parts as OldParts, Spells as OldSpells, counts_of as old_counts_of, document_of as old_document_of, parts_in as old_parts_in, parts_of as old_parts_of, ranges_of as old_ranges_of}
+use Rattle.tl_script.specs.Master.{ScriptMaster as OldMaster, jobs_from, lines_at as old_lines_at, master_of as old_master_of, script_masters as old_masters_of}
+use Rattle.tl_script.specs.Port.{port_of as old_port_of, script_port_tables as old_port_tables, script_ports as old_ports_of}
+use Rattle.tl_script.specs.Key.{script_key_name as old_key_name}
+use Rattle.tl_script.specs.Script.{ScriptParts as OldParts, Spells as OldSpells, counts_of as old_counts_of, script_document as old_document_of, parts_in as old_parts_in, script_parts as old_parts_of, script_ranges as old_ranges_of}
 use Rattle.tl_script.specs.System.{System as OldSystem, range_of}
 use Rattle.tl_script.specs.declared.operation.Job.{Job}
 use Rattle.tl_types.specs.declared.limits.TheConstants.{MAX_SLOTS}
-use Rattle.tl_script.specs.Value.{list_of, list_at as old_list_at, number_at as old_number_at, some_of as old_some_of, table_of as old_table_of, tables_of as old_tables_of, value_at as old_value_at}
-use Rattle.tl_script.specs.declared.fault.Key as old_key
-use Rattle.tl_script.specs.declared.fault.Key.TheVariants.{Slots as OldSlots, Port as OldPort, Master as OldMasterKey, Sources as OldSources}
+use Rattle.tl_script.specs.Value.{list_of, list_at as old_list_at, script_number_at as old_number_at, some_of as old_some_of, script_table_of as old_table_of, script_tables_of as old_tables_of, script_value_at as old_value_at}
+use Rattle.tl_script.specs.declared.fault.ScriptKey as old_key
+use Rattle.tl_script.specs.declared.fault.ScriptKey.TheVariants.{Slots as OldSlots, Port as OldPort, Master as OldMasterKey, Sources as OldSources}
 use Rattle.tl_script.specs.declared.fault.ScriptFault.{ScriptFault}
 use Rattle.tl_script.specs.declared.fault.ScriptFault.TheVariants.{Missing as OldMissing, WrongType as OldWrongType, NotToml as OldNotToml, TooLong as OldTooLong}
 use Rattle.check_description.specs.File.{Parts, document_of, parts_in, parts_of}
@@ -31,47 +31,47 @@ use Rattle.check_map.specs.declared.sources.Owner.{Owner}
 use Rattle.check_description.specs.Master.{HasOwners, IsInBlocks, Master, counts_of, said_owners, first_at, has_first, master_of, master_tables, masters_of, stride_at}
 use Rattle.check_keys.specs.Name.{name_at}
 use Rattle.check_description.specs.Port.{Port, port_tables, ports_of, tables_by}
-use Rattle.check_keys.specs.Reading as new
+use Rattle.tl_text.specs.Reading as steps
 use Rattle.check_beats.specs.declared.bus.Bus.TheVariants.{Eight}
-use Rattle.check_keys.specs.Bus.{bus_at}
+use Rattle.check_keys.specs.Bus.{bus_in_table}
 use Rattle.check_keys.specs.Value.{array_of, number_at, number_if_any, table_of, tables_of, text_if_any, up_to, value_at}
 use Rattle.check_keys.specs.declared.fault.Key.{Key}
 use Rattle.check_keys.specs.declared.fault.Key.TheVariants.{Bus, Port as PortKey, Master as MasterKey, Sources}
 use Rattle.check_keys.specs.declared.fault.SystemFault.{SystemFault}
 use Rattle.check_keys.specs.declared.fault.SystemFault.TheVariants.{Missing, NotToml, TooLong, WrongType}
-use Rattle.check_map.specs.declared.limits.TheConstants.{MAX_MASTERS, MAX_PORTS, MAX_SOURCES}
+use Rattle.check_map.specs.declared.limits.TheConstants.{MAX_JUDGED_MASTERS, MAX_JUDGED_PORTS, MAX_JUDGED_SOURCES}
 use Rattle.check_description.specs.declared.read.TheConstants.{MAX_SYSTEM}
 use Rattle.check_scripts.proofs.Ports.{ReadsPorts, each_first, each_none, number_at_same, number_at_within, ok_or_same, ports_same}
 
 -- what a step gave, and what the next made of it
-pub taken : {A B F : Type 0} (read : Result A F) (f : A → Result B F) (y : B) → new.◌>>=◌ read f ≡ Ok y
+pub taken : {A B F : Type 0} (read : Result A F) (f : A → Result B F) (y : B) → steps.◌>>=◌ read f ≡ Ok y
     → (x : A) × (read ≡ Ok x) × (f x ≡ Ok y)
 taken (Ok x) f y is = (x, refl, is)
 taken (Err e) f y is = absurd cc
 
 -- ---- tables
 
-each_table_same : (old_k : old_key.Key) (key : Key) (values : List Data) (tables : List Members)
-    → new.each (old_table_of old_k) values ≡ Ok tables → new.each (table_of key) values ≡ Ok tables
+each_table_same : (old_k : old_key.ScriptKey) (key : Key) (values : List Data) (tables : List Members)
+    → steps.each (old_table_of old_k) values ≡ Ok tables → steps.each (table_of key) values ≡ Ok tables
 each_table_same old_k key [] [] is = refl
 each_table_same old_k key [] (table ∷ tables) is = absurd cc
 each_table_same old_k key (value ∷ values) [] is =
-    absurd (each_none (old_table_of old_k value) (new.each (old_table_of old_k) values) is)
+    absurd (each_none (old_table_of old_k value) (steps.each (old_table_of old_k) values) is)
 each_table_same old_k key (value ∷ values) (table ∷ tables) is =
-    let both = each_first (old_table_of old_k value) (new.each (old_table_of old_k) values) table tables is in
+    let both = each_first (old_table_of old_k value) (steps.each (old_table_of old_k) values) table tables is in
     let first = ok_or_same (as_table value) (OldWrongType old_k) (WrongType key) table both.0 in
     let rest = each_table_same old_k key values tables both.1 in
     rw (first, rest) refl
 
-items_same : (old_k : old_key.Key) (key : Key) (items : Option Items) (tables : List Members)
-    → (new.◌>>=◌ (new.◌>>=◌ (ok_or items (OldWrongType old_k)) (λ items. Ok (list_of items)))
-    (new.each (old_table_of old_k))) ≡ Ok tables
-    → (new.◌>>=◌ (new.◌>>=◌ (ok_or items (WrongType key)) (λ items. Ok (list_of items))) (new.each (table_of key)))
+items_same : (old_k : old_key.ScriptKey) (key : Key) (items : Option Items) (tables : List Members)
+    → (steps.◌>>=◌ (steps.◌>>=◌ (ok_or items (OldWrongType old_k)) (λ items. Ok (list_of items)))
+    (steps.each (old_table_of old_k))) ≡ Ok tables
+    → (steps.◌>>=◌ (steps.◌>>=◌ (ok_or items (WrongType key)) (λ items. Ok (list_of items))) (steps.each (table_of key)))
     ≡ Ok tables
 items_same old_k key None tables is = absurd cc
 items_same old_k key (Some items) tables is = each_table_same old_k key (list_of items) tables is
 
-tables_of_same : (old_k : old_key.Key) (key : Key) (value : Data) (tables : List Members)
+tables_of_same : (old_k : old_key.ScriptKey) (key : Key) (value : Data) (tables : List Members)
     → old_tables_of old_k value ≡ Ok tables → tables_of key value ≡ Ok tables
 unfolding old_list_at array_of
 tables_of_same old_k key value tables is = items_same old_k key (as_array value) tables is
@@ -79,9 +79,9 @@ tables_of_same old_k key value tables is = items_same old_k key (as_array value)
 -- ---- ports
 
 few_ports : (tables : List Members) (read : Result (List Members) SystemFault) → read ≡ Ok tables
-    → length tables ≤ MAX_PORTS → new.◌>>=◌ read (up_to PortKey MAX_PORTS) ≡ Ok tables
+    → length tables ≤ MAX_JUDGED_PORTS → steps.◌>>=◌ read (up_to PortKey MAX_JUDGED_PORTS) ≡ Ok tables
 few_ports tables read is few =
-    let not_more : nat_lt MAX_PORTS (length tables) ≡ false = le-ltb MAX_PORTS (length tables) few in
+    let not_more : nat_lt MAX_JUDGED_PORTS (length tables) ≡ false = le-ltb MAX_JUDGED_PORTS (length tables) few in
     rw (is, not_more) refl
 
 -- the ports that the value at the key is
@@ -90,23 +90,23 @@ pub record ReadsValue (value : Option Data) (stores : List Store) : Type 0 where
   pub tables_are : tables_by value ≡ Ok tables
   pub same : ReadsPorts tables stores
 
-each_counted : (tables : List Members) (stores : List Store) → new.each old_port_of tables ≡ Ok stores
+each_counted : (tables : List Members) (stores : List Store) → steps.each old_port_of tables ≡ Ok stores
     → length tables ≡ length stores
 each_counted [] [] is = refl
 each_counted [] (store ∷ stores) is = absurd cc
-each_counted (table ∷ tables) [] is = absurd (each_none (old_port_of table) (new.each old_port_of tables) is)
+each_counted (table ∷ tables) [] is = absurd (each_none (old_port_of table) (steps.each old_port_of tables) is)
 each_counted (table ∷ tables) (store ∷ stores) is =
-    let both = each_first (old_port_of table) (new.each old_port_of tables) store stores is in
+    let both = each_first (old_port_of table) (steps.each old_port_of tables) store stores is in
     ap suc (each_counted tables stores both.1)
 
-ports_of_same : (value : Option Data) (stores : List Store) → length stores ≤ MAX_PORTS
+ports_of_same : (value : Option Data) (stores : List Store) → length stores ≤ MAX_JUDGED_PORTS
     → ((tables : List Members) → tables_by value ≡ Ok tables → AllByRecursion IsPlainPort tables)
     → AllByRecursion (λ store. IsEmpty (range_of store) → ⊥) stores
-    → (new.◌>>=◌ (old_port_tables value) (new.each old_port_of)) ≡ Ok stores → ReadsValue value stores
+    → (steps.◌>>=◌ (old_port_tables value) (steps.each old_port_of)) ≡ Ok stores → ReadsValue value stores
 ports_of_same None stores few plain some is =
     record { tables = []; tables_are = refl; same = ports_same [] stores (plain [] refl) some is }
 ports_of_same (Some value) stores few plain some is =
-    let read = taken (old_tables_of OldPort value) (new.each old_port_of) stores is in
+    let read = taken (old_tables_of OldPort value) (steps.each old_port_of) stores is in
     let counted : length read.0 ≡ length stores = each_counted read.0 stores read.2 in
     let tables_are = few_ports read.0 (tables_of PortKey value) (tables_of_same OldPort PortKey value read.0 read.1)
     (omega (arith, counted, few)) in
@@ -118,14 +118,14 @@ ports_of_same (Some value) stores few plain some is =
 
 -- ---- masters
 
-value_at_same : (old_k : old_key.Key) (key : Key) (members : Members) (value : Data)
+value_at_same : (old_k : old_key.ScriptKey) (key : Key) (members : Members) (value : Data)
     → old_key_name old_k ≡ key_name key → old_value_at old_k members ≡ Ok value → value_at key members ≡ Ok value
 unfolding old_value_at value_at
 value_at_same old_k key members value named is =
     rw (← named) (ok_or_same (get_member (old_key_name old_k) members) (OldMissing old_k) (Missing key) value is)
 
 sources_read : (sources : Result ℕ ScriptFault) (lines : Result (List (List ℕ)) ScriptFault) (master : OldMaster)
-    → (new.◌>>=◌ sources (λ count. new.◌>>=◌ lines (λ ls. Ok (record { sources = count; lines = ls })))) ≡ Ok master
+    → (steps.◌>>=◌ sources (λ count. steps.◌>>=◌ lines (λ ls. Ok (record { sources = count; lines = ls })))) ≡ Ok master
     → sources ≡ Ok master.sources
 sources_read (Err e) lines master is = absurd cc
 sources_read (Ok count) (Err e) master is = absurd cc
@@ -135,12 +135,12 @@ sources_read (Ok count) (Ok ls) master is =
 
 master_same : (members : Members) (master : OldMaster) → IsPlainMaster members → 0 < master.sources
     → old_master_of members ≡ Ok master → master_of Eight false members ≡ Ok (plain_master master.sources)
-unfolding old_master_of master_of name_at first_at stride_at bus_at text_if_any number_if_any
+unfolding old_master_of master_of name_at first_at stride_at bus_in_table text_if_any number_if_any
 master_same members master plain some is =
     let read = sources_read (old_number_at OldSources 0 65535 members) (old_lines_at members) master is in
     let few = (number_at_within OldSources 0 65535 master.sources members read).1 in
-    let sources : number_at Sources 1 MAX_SOURCES members ≡ Ok master.sources =
-    number_at_same OldSources Sources 0 65535 1 MAX_SOURCES master.sources members refl read (omega (arith, some))
+    let sources : number_at Sources 1 MAX_JUDGED_SOURCES members ≡ Ok master.sources =
+    number_at_same OldSources Sources 0 65535 1 MAX_JUDGED_SOURCES master.sources members refl read (omega (arith, some))
     (omega (arith, few)) in
     rw (plain.name, sources, plain.stride, plain.bus) refl
 
@@ -149,26 +149,26 @@ abbrev pub counts_in : List OldMaster → List ℕ
 counts_in masters = map (λ (master : OldMaster). master.sources) masters
 
 masters_same : (tables : List Members) (masters : List OldMaster) → AllByRecursion IsPlainMaster tables
-    → AllByRecursion (λ count. 0 < count) (counts_in masters) → new.each old_master_of tables ≡ Ok masters
-    → new.each (master_of Eight false) tables ≡ Ok (map plain_master (counts_in masters))
+    → AllByRecursion (λ count. 0 < count) (counts_in masters) → steps.each old_master_of tables ≡ Ok masters
+    → steps.each (master_of Eight false) tables ≡ Ok (map plain_master (counts_in masters))
 masters_same [] [] plain some is = refl
 masters_same [] (master ∷ masters) plain some is = absurd cc
 masters_same (table ∷ tables) [] plain some is =
-    absurd (each_none (old_master_of table) (new.each old_master_of tables) is)
+    absurd (each_none (old_master_of table) (steps.each old_master_of tables) is)
 masters_same (table ∷ tables) (master ∷ masters) plain some is =
-    let both = each_first (old_master_of table) (new.each old_master_of tables) master masters is in
+    let both = each_first (old_master_of table) (steps.each old_master_of tables) master masters is in
     let first = master_same table master plain.0 some.0 both.0 in
     let rest = masters_same tables masters plain.1 some.1 both.1 in
     rw (first, rest) refl
 
-masters_counted : (tables : List Members) (masters : List OldMaster) → new.each old_master_of tables ≡ Ok masters
+masters_counted : (tables : List Members) (masters : List OldMaster) → steps.each old_master_of tables ≡ Ok masters
     → length tables ≡ length masters
 masters_counted [] [] is = refl
 masters_counted [] (master ∷ masters) is = absurd cc
 masters_counted (table ∷ tables) [] is =
-    absurd (each_none (old_master_of table) (new.each old_master_of tables) is)
+    absurd (each_none (old_master_of table) (steps.each old_master_of tables) is)
 masters_counted (table ∷ tables) (master ∷ masters) is =
-    let both = each_first (old_master_of table) (new.each old_master_of tables) master masters is in
+    let both = each_first (old_master_of table) (steps.each old_master_of tables) master masters is in
     ap suc (masters_counted tables masters both.1)
 
 none_has_first : (tables : List Members) → AllByRecursion IsPlainMaster tables → list_any has_first tables ≡ false
@@ -182,33 +182,33 @@ some_is (table ∷ tables) some is = (cc, le-ltb (length (table ∷ tables)) 1 (
 
 tables_read : (members : Members) (value : Data) (tables : List Members) → value_at MasterKey members ≡ Ok value
     → tables_of MasterKey value ≡ Ok tables → nat_lt (length tables) 1 ≡ false
-    → nat_lt MAX_MASTERS (length tables) ≡ false → master_tables members ≡ Ok tables
+    → nat_lt MAX_JUDGED_MASTERS (length tables) ≡ false → master_tables members ≡ Ok tables
 unfolding master_tables
 tables_read fields value tables value_is tables_are some few = rw (value_is, tables_are, some, few) refl
 
 masters_read : (members : Members) (tables : List Members) (masters : List Master) → master_tables members ≡ Ok tables
-    → list_any has_first tables ≡ false → new.each (master_of Eight false) tables ≡ Ok masters
+    → list_any has_first tables ≡ false → steps.each (master_of Eight false) tables ≡ Ok masters
     → masters_of Eight members ≡ Ok masters
 unfolding masters_of
 masters_read fields tables masters tables_are none read = rw (tables_are, none) read
 
-pub masters_of_same : (members : Members) (masters : List OldMaster) → length masters ≤ MAX_MASTERS
+pub masters_of_same : (members : Members) (masters : List OldMaster) → length masters ≤ MAX_JUDGED_MASTERS
     → ((tables : List Members) → master_tables members ≡ Ok tables → AllByRecursion IsPlainMaster tables)
     → AllByRecursion (λ count. 0 < count) (counts_in masters) → old_masters_of members ≡ Ok masters
     → masters_of Eight members ≡ Ok (map plain_master (counts_in masters))
 unfolding old_masters_of
 masters_of_same members masters few plain some is =
     let value = taken (old_value_at OldMasterKey members)
-    (λ value. new.◌>>=◌ (old_tables_of OldMasterKey value)
-    (λ tables. new.◌>>=◌ (old_some_of OldMasterKey tables) (new.each old_master_of))) masters is in
+    (λ value. steps.◌>>=◌ (old_tables_of OldMasterKey value)
+    (λ tables. steps.◌>>=◌ (old_some_of OldMasterKey tables) (steps.each old_master_of))) masters is in
     let tables = taken (old_tables_of OldMasterKey value.0)
-    (λ tables. new.◌>>=◌ (old_some_of OldMasterKey tables) (new.each old_master_of)) masters value.2 in
-    let kept = taken (old_some_of OldMasterKey tables.0) (new.each old_master_of) masters tables.2 in
+    (λ tables. steps.◌>>=◌ (old_some_of OldMasterKey tables) (steps.each old_master_of)) masters value.2 in
+    let kept = taken (old_some_of OldMasterKey tables.0) (steps.each old_master_of) masters tables.2 in
     let same = some_is tables.0 kept.0 kept.1 in
-    let read : new.each old_master_of tables.0 ≡ Ok masters = rw same.0 kept.2 in
+    let read : steps.each old_master_of tables.0 ≡ Ok masters = rw same.0 kept.2 in
     let counted = masters_counted tables.0 masters read in
-    let not_more : nat_lt MAX_MASTERS (length tables.0) ≡ false =
-    le-ltb MAX_MASTERS (length tables.0) (omega (arith, counted, few)) in
+    let not_more : nat_lt MAX_JUDGED_MASTERS (length tables.0) ≡ false =
+    le-ltb MAX_JUDGED_MASTERS (length tables.0) (omega (arith, counted, few)) in
     let tables_are = tables_read members value.0 tables.0
     (value_at_same OldMasterKey MasterKey members value.0 refl value.1)
     (tables_of_same OldMasterKey MasterKey value.0 tables.0 tables.1) same.1 not_more in
@@ -221,13 +221,13 @@ masters_some : (members : Members) (masters : List OldMaster) → old_masters_of
 unfolding old_masters_of
 masters_some members masters is =
     let value = taken (old_value_at OldMasterKey members)
-    (λ value. new.◌>>=◌ (old_tables_of OldMasterKey value)
-    (λ tables. new.◌>>=◌ (old_some_of OldMasterKey tables) (new.each old_master_of))) masters is in
+    (λ value. steps.◌>>=◌ (old_tables_of OldMasterKey value)
+    (λ tables. steps.◌>>=◌ (old_some_of OldMasterKey tables) (steps.each old_master_of))) masters is in
     let tables = taken (old_tables_of OldMasterKey value.0)
-    (λ tables. new.◌>>=◌ (old_some_of OldMasterKey tables) (new.each old_master_of)) masters value.2 in
-    let kept = taken (old_some_of OldMasterKey tables.0) (new.each old_master_of) masters tables.2 in
+    (λ tables. steps.◌>>=◌ (old_some_of OldMasterKey tables) (steps.each old_master_of)) masters value.2 in
+    let kept = taken (old_some_of OldMasterKey tables.0) (steps.each old_master_of) masters tables.2 in
     let same = some_is tables.0 kept.0 kept.1 in
-    let read : new.each old_master_of tables.0 ≡ Ok masters = rw same.0 kept.2 in
+    let read : steps.each old_master_of tables.0 ≡ Ok masters = rw same.0 kept.2 in
     let counted = masters_counted tables.0 masters read in
     omega (arith, counted, ltb-false (length tables.0) 1 same.1)
 
@@ -253,11 +253,11 @@ by_map : {A B : Type 0} (P : B → Type 0) (f : A → B) (xs : List A) → AllBy
 by_map P f [] all = all
 by_map P f (x ∷ xs) all = (all.0, by_map P f xs all.1)
 
-bus_read : (members : Members) → IsAbsent Bus members → bus_at Eight members ≡ Ok Eight
-unfolding bus_at number_if_any
+bus_read : (members : Members) → IsAbsent Bus members → bus_in_table Eight members ≡ Ok Eight
+unfolding bus_in_table number_if_any
 bus_read members absent = rw absent refl
 
-parts_read : (members : Members) (ports : List Port) (masters : List Master) → bus_at Eight members ≡ Ok Eight
+parts_read : (members : Members) (ports : List Port) (masters : List Master) → bus_in_table Eight members ≡ Ok Eight
     → ports_of Eight members ≡ Ok ports → masters_of Eight members ≡ Ok masters
     → parts_in members ≡ Ok (record { ports = ports; masters = masters })
 unfolding parts_in
@@ -276,7 +276,7 @@ record IsReadOf (members : Members) (parts : OldParts) : Type 0 where
 
 parts_split : (slots : Result ℕ ScriptFault) (ports : Result (List Store) ScriptFault)
     (masters : Result (List OldMaster) ScriptFault) (parts : OldParts)
-    → (new.◌>>=◌ slots (λ n. new.◌>>=◌ ports (λ ss. new.◌>>=◌ masters
+    → (steps.◌>>=◌ slots (λ n. steps.◌>>=◌ ports (λ ss. steps.◌>>=◌ masters
     (λ ms. Ok (record { slots = n; stores = ss; masters = ms }))))) ≡ Ok parts
     → (ports ≡ Ok parts.stores) × (masters ≡ Ok parts.masters)
 parts_split (Err e) ports masters parts is = absurd cc
@@ -293,7 +293,7 @@ parts_in_split members parts is =
     (old_masters_of members) parts is in
     record { ports = both.0; masters = both.1 }
 
-ports_of_read : (members : Members) (stores : List Store) → length stores ≤ MAX_PORTS
+ports_of_read : (members : Members) (stores : List Store) → length stores ≤ MAX_JUDGED_PORTS
     → ((tables : List Members) → port_tables members ≡ Ok tables → AllByRecursion IsPlainPort tables)
     → AllByRecursion (λ store. IsEmpty (range_of store) → ⊥) stores → old_ports_of members ≡ Ok stores
     → ReadsValue (get_member (key_name PortKey) members) stores
@@ -303,7 +303,7 @@ ports_of_read members stores few plain some is =
 
 -- the system has the parts' slaves and counts
 made_of : (jobs : Result (List (List Job)) ScriptFault) (parts : OldParts) (system : OldSystem)
-    → (new.◌>>=◌ jobs (λ js. Ok (record {
+    → (steps.◌>>=◌ jobs (λ js. Ok (record {
       slots = parts.slots;
       stores = parts.stores;
       counts = old_counts_of parts;
@@ -344,14 +344,14 @@ parts_of_same bytes parts plain ranges counts is =
     let members = document.0 in
     let document_is = document_of_same bytes members document.1 in
     let read = parts_in_split members parts document.2 in
-    let few_ports : length parts.stores ≤ MAX_PORTS =
+    let few_ports : length parts.stores ≤ MAX_JUDGED_PORTS =
     omega (arith, ranges.in_limit, length-map parts.stores range_of) in
     let some_bytes : AllByRecursion (λ store. IsEmpty (range_of store) → ⊥) parts.stores =
     by_map (λ range. IsEmpty range → ⊥) range_of parts.stores
     (recursion_from_All (λ range. IsEmpty range → ⊥) (old_ranges_of parts) ranges.some) in
     let ports = ports_of_read members parts.stores few_ports (λ tables. plain.ports members tables document_is)
     some_bytes read.ports in
-    let few_masters : length parts.masters ≤ MAX_MASTERS =
+    let few_masters : length parts.masters ≤ MAX_JUDGED_MASTERS =
     omega (arith, counts.masters, length-map parts.masters (λ (master : OldMaster). master.sources)) in
     let masters = masters_of_same members parts.masters few_masters (λ tables. plain.masters members tables document_is)
     (recursion_from_All (λ count. 0 < count) (old_counts_of parts) counts.some) read.masters in

@@ -8,17 +8,17 @@ use Rattle.tl_beats.specs.Replies as narrow_reply
 use Rattle.tl_beats.specs.declared.beat.ABeat.{ABeat}
 use Rattle.tl_beats.specs.declared.beat.DBeat.{DBeat}
 use Rattle.check_cells.specs.Pattern.{seen_as}
-use Rattle.check_beats.specs.Bus.{active_mask, beat_count, lane_of}
-use Rattle.check_beats.specs.Form.{IsLawfulMask}
-use Rattle.check_beats.specs.Spelling.{AskBeat, ReplyBeat, SpellsAsk, SpellsReply}
+use Rattle.check_beats.specs.Bus.{active_mask_on_bus, beat_count_on_bus, lane_on_bus}
+use Rattle.check_beats.specs.Form.{IsLawfulMaskOnBus}
+use Rattle.check_beats.specs.Spelling.{AskBeat, ReplyBeat, SpellsAskOnBus, SpellsReplyOnBus}
 
 pub record BusIsThatOfEight : Type 0 where
-  pub lane : (address size j : ℕ) → lane_of 8 address size j ≡ narrow.lane_of address size j
-  pub beats : (carries : Bool) (size : ℕ) → beat_count 8 carries size ≡ narrow.beat_count carries size
-  pub active : (address size : ℕ) → active_mask 8 address size ≡ narrow.active_mask address size
+  pub lane : (address size j : ℕ) → lane_on_bus 8 address size j ≡ narrow.lane_of address size j
+  pub beats : (carries : Bool) (size : ℕ) → beat_count_on_bus 8 carries size ≡ narrow.beat_count carries size
+  pub active : (address size : ℕ) → active_mask_on_bus 8 address size ≡ narrow.active_mask address size
 
 abbrev pub MaskIsThatOfEight : Type 0
-MaskIsThatOfEight = (op : AskOp) (size address mask : ℕ) → IsLawfulMask 8 op size address mask ↔ narrow.IsLawfulMask op size address mask
+MaskIsThatOfEight = (op : AskOp) (size address mask : ℕ) → IsLawfulMaskOnBus 8 op size address mask ↔ narrow.IsLawfulMask op size address mask
 
 -- ---- messages
 
@@ -44,10 +44,10 @@ reply_beat_of beat = record {
 -- beats spell a request exactly if they do in `tl_beats`
 abbrev pub AskSpelledAlike : Type 0
 AskSpelledAlike =
-    (ask : Request) (beats : List ABeat) → SpellsAsk 8 ask (map ask_beat_of beats) ↔ narrow.SpellsAsk ask beats
+    (ask : Request) (beats : List ABeat) → SpellsAskOnBus 8 ask (map ask_beat_of beats) ↔ narrow.SpellsAsk ask beats
 
 -- and a reply, which is wholly known
 abbrev pub ReplySpelledAlike : Type 0
 ReplySpelledAlike =
     (reply : Response) (address : ℕ) (beats : List DBeat)
-    → SpellsReply 8 (seen_as reply) address (map reply_beat_of beats) ↔ narrow_reply.SpellsReply reply address beats
+    → SpellsReplyOnBus 8 (seen_as reply) address (map reply_beat_of beats) ↔ narrow_reply.SpellsReply reply address beats

@@ -9,7 +9,7 @@ use Rattle.check_beats.specs.declared.bus.Bus.TheVariants.{Eight}
 use Rattle.check_keys.specs.Key.{key_name}
 use Rattle.check_keys.specs.declared.fault.Key.{Key}
 use Rattle.check_keys.specs.declared.fault.Key.TheVariants.{Bus, Name, Ranges, Image, Unknown, Sizes, Order, First, Stride}
-use Rattle.check_description.specs.Laws.{IsPlainMemory, store_of}
+use Rattle.check_description.specs.Laws.{IsPlainMemory, store_at_reset}
 use Rattle.check_description.specs.Port.{Port, port_tables}
 use Rattle.check_description.specs.Description.{Description, Makes}
 use Rattle.check_description.specs.File.{Parts, document_of, parts_of}
@@ -52,7 +52,7 @@ pub record SaysNothingNew (bytes : List ℕ) : Type 0 where
 -- the store holds, and nothing more is said of it
 pub record IsPortOf (store : Store) (port : Port) : Type 0 where
   pub plain : IsPlainMemory store.kind (range_of store) port
-  pub holds : store_of store.kind (range_of store) port [] ≡ store
+  pub holds : store_at_reset store.kind (range_of store) port [] ≡ store
   pub name : port.name ≡ None
   pub image : port.contents.image ≡ None
   pub order : port.order ≡ None

@@ -5,7 +5,7 @@ use Rattle.check_beats.specs.declared.bus.Bus.{Bus}
 use Rattle.check_flight.specs.PortSlave.{PortSlave}
 use Rattle.check_flight.specs.Side.{bus_at}
 use Rattle.check_watch.specs.Past.{slave_at}
-use Rattle.check_watch.specs.Plan.{IsPlan as IsGroupPlan}
+use Rattle.check_watch.specs.Plan.{IsGroupPlan}
 use Rattle.check_watch.specs.View as group_view
 use Rattle.check_sides.specs.declared.links.Links.{Links}
 use Rattle.check_sides.specs.declared.links.Links.TheVariants.{Both, Masters, Ports, Each}
@@ -50,13 +50,13 @@ pub shared_is_plan : (plan : Plan) → IsPlan plan → IsGroupPlan (shared_plan 
 shared_is_plan plan is = record { owners = is.owners; wide = is.wide; route = is.route }
 
 pub fresh_keeps : (plan : Plan) (view : View) → IsPlan plan → view.layout ≡ plan.layout
-    → group_view.Keeps (shared_plan plan) [] view.shared
+    → group_view.KeepsGroup (shared_plan plan) [] view.shared
     → (IsTrue (are_apart plan.layout.links) → view.ports ≡ fresh_links plan.layout.port_buses plan.resets)
     → Keeps plan [] view
 fresh_keeps plan view lawful layout shared ports = record {
   suits = record { lawful = lawful; layout = layout };
   lawful = tt;
-  shared = subst (λ p. group_view.Keeps (shared_plan plan) p view.shared) (sym (shared_none plan.layout.links)) shared;
+  shared = subst (λ p. group_view.KeepsGroup (shared_plan plan) p view.shared) (sym (shared_none plan.layout.links)) shared;
   ports = λ apart port link found. fresh_port port link
       (ap (λ l. slice_get l port) (sym (ports apart)) ∙ found);
 }

@@ -5,7 +5,7 @@ use Rattle.std.proofs.lemmas.Bool.{eqb-false}
 use Rattle.check_watch.specs.declared.beat.Link.{Link}
 use Rattle.check_watch.specs.declared.beat.Link.TheVariants.{Master, Port}
 use Rattle.check_watch.specs.declared.beat.Beat.{Beat}
-use Rattle.check_watch.specs.Plan.{Plan as GroupPlan, Sighting, number_of, seen_at}
+use Rattle.check_watch.specs.Plan.{GroupPlan, Sighting, link_number, seen_at}
 use Rattle.check_sides.specs.declared.links.Links.{Links}
 use Rattle.check_sides.specs.declared.links.Links.TheVariants.{Both, Masters, Ports, Each}
 use Rattle.check_sides.specs.Groups.{are_apart, is_alone, shared_plan, shared_past, port_plan, port_past, plan_at, past_at}
@@ -71,7 +71,7 @@ module _ (plan : Plan) (past : List Sighting) (link : Link) (P : GroupPlan → L
   abbrev said_by : Bool → Type 0
   said_by alone =
       P (if alone then port_plan plan else shared_plan plan)
-      (if alone then port_past (number_of link) past else shared_past plan.layout.links past)
+      (if alone then port_past (link_number link) past else shared_past plan.layout.links past)
 
   pub of_group : (alone : Bool) → is_alone plan.layout.links link ≡ alone → said_by alone
       → P (plan_at plan link) (past_at plan.layout.links link past)

@@ -11,10 +11,10 @@ use Rattle.check_watch.specs.declared.beat.Link.{Link}
 use Rattle.check_watch.specs.declared.beat.Link.TheVariants.{Port}
 use Rattle.check_watch.specs.Lawful as group_lawful
 use Rattle.check_watch.specs.Lawful.{IsAllowed}
-use Rattle.check_watch.specs.Past.{scene}
+use Rattle.check_watch.specs.Past.{scene_in_group}
 use Rattle.check_watch.specs.Plan.{Sighting, seen_at}
 use Rattle.check_watch.specs.View as group_view
-use Rattle.check_watch.specs.View.{View as GroupView}
+use Rattle.check_watch.specs.View.{GroupView}
 use Rattle.check_sides.specs.Groups.{are_apart, everybody, is_alone, shared_past, shared_plan, port_plan, port_past, past_at}
 use Rattle.check_sides.specs.Lawful.{IsFirstRequest, IsLawful, SlaveMayNeedMemory, MayNeedMemory}
 use Rattle.check_sides.specs.Plan.{HasLink, Layout, Plan, bus_of}
@@ -78,22 +78,22 @@ module _ (plan : Plan) (past : List Sighting) (view : View) (port : ℕ) (beat :
       → KeepsPort (port_plan plan) port (port_past port past) link
   kept_here link found = keeps.ports (apart_from plan.layout.links (Port port) alone) port link found
 
-  pub alone_lawful : group_lawful.IsLawful (port_plan plan) (at_alone ∷ port_past port past)
+  pub alone_lawful : group_lawful.IsLawfulGroup (port_plan plan) (at_alone ∷ port_past port past)
       → IsLawful plan (at_alone ∷ past)
   alone_lawful here = (
     keeps.lawful,
-    of_group plan past (Port port) (λ p l. IsAllowed p (scene p l at_alone) at_alone) true alone here.1,
+    of_group plan past (Port port) (λ p l. IsAllowed p (scene_in_group p l at_alone) at_alone) true alone here.1,
   )
 
   pub alone_allowed : (link : PortView) → slice_get view.ports port ≡ Some link → IsLawful plan (at_alone ∷ past)
-      → group_lawful.IsLawful (port_plan plan) (at_alone ∷ port_past port past)
+      → group_lawful.IsLawfulGroup (port_plan plan) (at_alone ∷ port_past port past)
   alone_allowed link found lawful = (
     (kept_here link found).lawful,
-    in_group plan past (Port port) (λ p l. IsAllowed p (scene p l at_alone) at_alone) true alone lawful.1,
+    in_group plan past (Port port) (λ p l. IsAllowed p (scene_in_group p l at_alone) at_alone) true alone lawful.1,
   )
 
   pub alone_there : (link : PortView) → slice_get view.ports port ≡ Some link → (P : Type 0)
-      → (P ↔ group_lawful.IsLawful (port_plan plan) (at_alone ∷ port_past port past))
+      → (P ↔ group_lawful.IsLawfulGroup (port_plan plan) (at_alone ∷ port_past port past))
       → (P ↔ IsLawful plan (at_alone ∷ past))
   alone_there link found P is = (λ p. alone_lawful (is.0 p), λ lawful. is.1 (alone_allowed link found lawful))
 
@@ -103,7 +103,7 @@ module _ (plan : Plan) (past : List Sighting) (view : View) (port : ℕ) (beat :
   alone_kept link new found here = record {
     suits = record { lawful = keeps.suits.lawful; layout = keeps.suits.layout };
     lawful = alone_lawful here.lawful;
-    shared = subst (λ p. group_view.Keeps (shared_plan plan) p view.shared)
+    shared = subst (λ p. group_view.KeepsGroup (shared_plan plan) p view.shared)
         (sym (shared_same beat known lanes past plan.layout.links (Port port) alone)) keeps.shared;
     ports = λ apart other one is. each apart other one is (port == other) refl;
   }
@@ -152,34 +152,34 @@ sized_with view port link new sized found same = record {
 
 module _ (plan : Plan) (past : List Sighting) (view : View) (x : Sighting) (keeps : Keeps plan past view)
     (shared : is_alone plan.layout.links x.link ≡ false) where
-  pub shared_lawful : group_lawful.IsLawful (shared_plan plan) (x ∷ shared_past plan.layout.links past)
+  pub shared_lawful : group_lawful.IsLawfulGroup (shared_plan plan) (x ∷ shared_past plan.layout.links past)
       → IsLawful plan (x ∷ past)
   shared_lawful here = (
     keeps.lawful,
-    of_group plan past x.link (λ p l. IsAllowed p (scene p l x) x) false shared here.1,
+    of_group plan past x.link (λ p l. IsAllowed p (scene_in_group p l x) x) false shared here.1,
   )
 
   pub shared_allowed : IsLawful plan (x ∷ past)
-      → group_lawful.IsLawful (shared_plan plan) (x ∷ shared_past plan.layout.links past)
+      → group_lawful.IsLawfulGroup (shared_plan plan) (x ∷ shared_past plan.layout.links past)
   shared_allowed lawful = (
     keeps.shared.lawful,
-    in_group plan past x.link (λ p l. IsAllowed p (scene p l x) x) false shared lawful.1,
+    in_group plan past x.link (λ p l. IsAllowed p (scene_in_group p l x) x) false shared lawful.1,
   )
 
   pub shared_kept : (new : GroupView) (layout : Layout) → layout ≡ plan.layout
-      → group_view.Keeps (shared_plan plan) (x ∷ shared_past plan.layout.links past) new
+      → group_view.KeepsGroup (shared_plan plan) (x ∷ shared_past plan.layout.links past) new
       → Keeps plan (x ∷ past) (record { layout = layout; shared = new; ports = view.ports })
   shared_kept new layout is here = record {
     suits = record { lawful = keeps.suits.lawful; layout = is };
     lawful = shared_lawful here.lawful;
-    shared = subst (λ p. group_view.Keeps (shared_plan plan) p new)
+    shared = subst (λ p. group_view.KeepsGroup (shared_plan plan) p new)
         (sym (shared_more x.beat x.known x.lanes past plan.layout.links x.link shared)) here;
     ports = λ apart port one found. subst (λ p. KeepsPort (port_plan plan) port p one)
         (sym (port_same x.beat x.known x.lanes past plan.layout.links x.link port shared apart))
         (keeps.ports apart port one found);
   }
 
-  pub lawful_there : (P : Type 0) → (P ↔ group_lawful.IsLawful (shared_plan plan)
+  pub lawful_there : (P : Type 0) → (P ↔ group_lawful.IsLawfulGroup (shared_plan plan)
       (x ∷ shared_past plan.layout.links past)) → (P ↔ IsLawful plan (x ∷ past))
   lawful_there P is = (λ p. shared_lawful (is.0 p), λ lawful. is.1 (shared_allowed lawful))
 

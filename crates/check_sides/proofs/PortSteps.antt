@@ -8,10 +8,10 @@ use Rattle.check_flight.specs.PortSlave.{PortSlave, accepting}
 use Rattle.check_watch.specs.declared.beat.Beat.{Beat}
 use Rattle.check_watch.specs.declared.beat.Beat.TheVariants.{A, D}
 use Rattle.check_watch.specs.declared.beat.Link.TheVariants.{Port}
-use Rattle.check_watch.specs.Lawful.{IsLawful}
-use Rattle.check_watch.specs.Past.{found_in, state, scene}
-use Rattle.check_watch.specs.Plan.{Plan, Sighting, seen_at, source_of}
-use Rattle.check_watch.specs.Plan.Side.{AtMasters, AtPorts}
+use Rattle.check_watch.specs.Lawful.{IsLawfulGroup}
+use Rattle.check_watch.specs.Past.{scene_found, state, scene_in_group}
+use Rattle.check_watch.specs.Plan.{GroupPlan, Sighting, seen_at, source_of}
+use Rattle.check_watch.specs.Plan.LinkSide.{AtMasters, AtPorts}
 use Rattle.check_watch.specs.Scene.{Scene, accepted, flight_after, once_answered, under_after}
 use Rattle.check_sides.specs.View.{Beyond, IsAfter, KeepsPort, PortView, flight_in, port_scene}
 
@@ -23,7 +23,7 @@ if_here {X} k p q = go (k == k) refl
     go true is = refl
     go false is = absurd (eqb-false k k is refl)
 
-module _ (plan : Plan) (port : ℕ) (past : List Sighting) (view : PortView) (known : ℕ) (lanes : List ℕ)
+module _ (plan : GroupPlan) (port : ℕ) (past : List Sighting) (view : PortView) (known : ℕ) (lanes : List ℕ)
     (keeps : KeepsPort plan port past view) where
   abbrev pub beyond_of : ℕ → Beyond
   beyond_of source = record {
@@ -46,7 +46,7 @@ module _ (plan : Plan) (port : ℕ) (past : List Sighting) (view : PortView) (kn
     slave = view.slave;
   }
 
-  found_is : (beat : Beat) → found_in plan (state plan past) (Port port) beat ≡ found_here beat
+  found_is : (beat : Beat) → scene_found plan (state plan past) (Port port) beat ≡ found_here beat
   found_is beat =
       let s = state plan past in
       let source = source_of beat in
@@ -65,15 +65,15 @@ module _ (plan : Plan) (port : ℕ) (past : List Sighting) (view : PortView) (kn
       ∙ ap (λ (v : PortSlave). found view.under (flight_in view source) v) keeps.slave
 
   pub scene_is : (beat : Beat)
-      → scene plan past (at_port beat) ≡ port_scene plan.layout port (beyond_of (source_of beat)) view beat
+      → scene_in_group plan past (at_port beat) ≡ port_scene plan.layout port (beyond_of (source_of beat)) view beat
   scene_is beat = ap (λ (s : Scene). once_answered plan.layout (Port port) s beat) (found_is beat)
 
   pub carried : (beat : Beat) (Q : Scene → Type 0)
-      → Q (port_scene plan.layout port (beyond_of (source_of beat)) view beat) → Q (scene plan past (at_port beat))
+      → Q (port_scene plan.layout port (beyond_of (source_of beat)) view beat) → Q (scene_in_group plan past (at_port beat))
   carried beat Q here = subst Q (sym (scene_is beat)) here
 
   -- the same the other way
-  pub found : (beat : Beat) (Q : Scene → Type 0) → Q (scene plan past (at_port beat))
+  pub found : (beat : Beat) (Q : Scene → Type 0) → Q (scene_in_group plan past (at_port beat))
       → Q (port_scene plan.layout port (beyond_of (source_of beat)) view beat)
   found beat Q there = subst Q (scene_is beat) there
 
@@ -83,7 +83,7 @@ module _ (plan : Plan) (port : ℕ) (past : List Sighting) (view : PortView) (kn
     flights_after : (beat : Beat) → IsAfter plan.layout port (beyond_of (source_of beat)) view new beat known lanes
         → (source : ℕ)
         → (if source_of beat == source
-        then flight_after plan.layout (Port port) (scene plan past (at_port beat)) beat lanes
+        then flight_after plan.layout (Port port) (scene_in_group plan past (at_port beat)) beat lanes
         else (state plan past).flights AtPorts source)
         ≡ flight_in new source
     flights_after beat after source =
@@ -94,14 +94,14 @@ module _ (plan : Plan) (port : ℕ) (past : List Sighting) (view : PortView) (kn
         ∙ sym (after.flights source)
 
     slave_after : (beat : Beat) → IsAfter plan.layout port (beyond_of (source_of beat)) view new beat known lanes
-        → accepting (scene plan past (at_port beat)).slave (scene plan past (at_port beat)).wide
-        (accepted plan.layout (Port port) (scene plan past (at_port beat)) beat lanes) ≡ new.slave
+        → accepting (scene_in_group plan past (at_port beat)).slave (scene_in_group plan past (at_port beat)).wide
+        (accepted plan.layout (Port port) (scene_in_group plan past (at_port beat)) beat lanes) ≡ new.slave
     slave_after beat after =
         ap (λ (s : Scene). accepting s.slave s.wide (accepted plan.layout (Port port) s beat lanes)) (scene_is beat)
         ∙ sym after.slave
 
     pub kept : (beat : Beat) → IsAfter plan.layout port (beyond_of (source_of beat)) view new beat known lanes
-        → IsLawful plan (at_port beat ∷ past) → KeepsPort plan port (at_port beat ∷ past) new
+        → IsLawfulGroup plan (at_port beat ∷ past) → KeepsPort plan port (at_port beat ∷ past) new
     kept (A beat) after lawful = record {
       lawful = lawful;
       under = if_here port _ _ ∙ ap (λ (u : Under). under_after u (A beat) known lanes) keeps.under ∙ sym after.under;

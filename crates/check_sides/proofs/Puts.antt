@@ -8,7 +8,7 @@ use Rattle.std.specs.declared.cmp.Ordering.TheVariants.{Less, Equal, Greater}
 use Rattle.std.specs.Ordering.{is_eq, match_ordering, nat_cmp}
 use Rattle.std.proofs.lemmas.Bool.Decides.{nat_tests}
 use Rattle.check_flight.specs.Flight.{Flight}
-use Rattle.check_sides.specs.Flights.{IsChanged, IsKept, IsPut, kept_of}
+use Rattle.check_sides.specs.Flights.{IsChanged, IsFlightKept, IsPut, flight_kept}
 
 same_key : (x y : ℕ) → is_eq (nat_cmp x y) ≡ (x == y)
 same_key x y = go (nat_lt x y) refl (x == y) refl
@@ -27,9 +27,9 @@ chosen false false now before is = refl
 
 -- a map that has this at a source from then on
 pub kept_through : (m n : BTreeMap ℕ Flight) (before : List (ℕ × Flight)) (source : ℕ) (now : Option Flight)
-    → m.entries ≡ before → UpdatesBy nat_cmp (nat_cmp source) m n now → IsKept before n.entries source now
+    → m.entries ≡ before → UpdatesBy nat_cmp (nat_cmp source) m n now → IsFlightKept before n.entries source now
 kept_through m n before source now is updates =
-    subst (λ (b : List (ℕ × Flight)). IsKept b n.entries source now) is
+    subst (λ (b : List (ℕ × Flight)). IsFlightKept b n.entries source now) is
     (λ q. updates.0 q ∙ chosen (is_eq (nat_cmp source q)) (source == q) now (get nat_cmp m q) (same_key source q))
 
 -- the same of a flight that is equal to another
@@ -42,20 +42,20 @@ put_through m n before source flight other is same updates =
 
 -- the latter of two writes at a source stands
 pub kept_twice : (before between after : List (ℕ × Flight)) (source : ℕ) (first last : Option Flight)
-    → IsKept before between source first → IsKept between after source last → IsKept before after source last
+    → IsFlightKept before between source first → IsFlightKept between after source last → IsFlightKept before after source last
 kept_twice before between after source first last once again other =
     again other ∙ go (source == other) refl
   where
     go : (same : Bool) → (source == other) ≡ same
-        → (if same then last else kept_of between other) ≡ (if same then last else kept_of before other)
+        → (if same then last else flight_kept between other) ≡ (if same then last else flight_kept before other)
     go true is = refl
-    go false is = once other ∙ ap (λ (b : Bool). if b then first else kept_of before other) is
+    go false is = once other ∙ ap (λ (b : Bool). if b then first else flight_kept before other) is
 
 pub changed_some : (before after : List (ℕ × Flight)) (source : ℕ) (f : Flight → Flight) (was now : Flight)
-    → kept_of before source ≡ Some was → now ≡ f was → IsPut before after source now
+    → flight_kept before source ≡ Some was → now ≡ f was → IsPut before after source now
     → IsChanged before after source f
 changed_some before after source f was now is made put =
-    subst (λ (o : Option Flight). IsKept before after source o)
+    subst (λ (o : Option Flight). IsFlightKept before after source o)
     (ap (λ (x : Flight). Some x) made ∙ sym (ap (λ (o : Option Flight). option_map f o) is)) put
 
 -- ---- room that is taken back
@@ -64,7 +64,7 @@ own_key : (source : ℕ) → is_eq (nat_cmp source source) ≡ true
 own_key source = grind (arith, nat_tests, same_key source source)
 
 -- the room that was made of a source, whatever was written there, is taken back
-pub taken_back : (es : List (ℕ × Flight)) (source : ℕ) (first last : Flight) → kept_of es source ≡ None
+pub taken_back : (es : List (ℕ × Flight)) (source : ℕ) (first last : Flight) → flight_kept es source ≡ None
     → remove_entry (is_at (nat_cmp source)) (set_value (is_at (nat_cmp source))
     (insert_entry nat_cmp es source first) last)
     ≡ es
@@ -73,8 +73,8 @@ taken_back (e ∷ es) source first last none =
     go (nat_cmp source e.0) refl none (taken_back es source first last)
   where
     go : (o : Ordering) → nat_cmp source e.0 ≡ o
-        → cond (is_eq o) (Some e.1) (kept_of es source) ≡ None
-        → (kept_of es source ≡ None
+        → cond (is_eq o) (Some e.1) (flight_kept es source) ≡ None
+        → (flight_kept es source ≡ None
         → remove_entry (is_at (nat_cmp source)) (set_value (is_at (nat_cmp source))
         (insert_entry nat_cmp es source first) last) ≡ es)
         → remove_entry (is_at (nat_cmp source)) (set_value (is_at (nat_cmp source))
@@ -85,13 +85,13 @@ taken_back (e ∷ es) source first last none =
     go Greater is none rest = rw (is, is) (ap (λ (l : List (ℕ × Flight)). e ∷ l) (rest none))
 
 -- what stands, written where it stands, changes nothing
-set_own : (es : List (ℕ × Flight)) (source : ℕ) (flight : Flight) → kept_of es source ≡ Some flight
+set_own : (es : List (ℕ × Flight)) (source : ℕ) (flight : Flight) → flight_kept es source ≡ Some flight
     → set_value (is_at (nat_cmp source)) es flight ≡ es
 set_own [] source flight is = refl
 set_own (e ∷ es) source flight is = go (is_eq (nat_cmp source e.0)) is (set_own es source flight)
   where
-    go : (same : Bool) → cond same (Some e.1) (kept_of es source) ≡ Some flight
-        → (kept_of es source ≡ Some flight → set_value (is_at (nat_cmp source)) es flight ≡ es)
+    go : (same : Bool) → cond same (Some e.1) (flight_kept es source) ≡ Some flight
+        → (flight_kept es source ≡ Some flight → set_value (is_at (nat_cmp source)) es flight ≡ es)
         → cond same ((e.0, flight) ∷ es) (e ∷ set_value (is_at (nat_cmp source)) es flight) ≡ e ∷ es
     go true is rest =
         let own : flight ≡ e.1 = cc in

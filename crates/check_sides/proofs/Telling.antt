@@ -10,9 +10,9 @@ use Rattle.check_watch.specs.declared.fault.Fault.TheVariants as faults
 use Rattle.check_watch.specs.declared.fault.Reason.{Reason}
 use Rattle.check_watch.specs.declared.fault.Reason.TheVariants.{WrongReply}
 use Rattle.check_watch.specs.Faults.{IsFirstReplyReason, IsWrongReply, reason_of}
-use Rattle.check_watch.specs.Lawful.{IsFirstFault, IsFirstReason, TellsReplies}
-use Rattle.check_watch.specs.Past.{scene}
-use Rattle.check_watch.specs.Plan.{Plan, Sighting}
+use Rattle.check_watch.specs.Lawful.{IsFirstGroupFault, IsFirstReason, TellsReplies}
+use Rattle.check_watch.specs.Past.{scene_in_group}
+use Rattle.check_watch.specs.Plan.{GroupPlan, Sighting}
 use Rattle.check_watch.specs.Scene.{Scene}
 use Rattle.check_sides.specs.View.{KeepsPort, PortView, port_scene}
 use Rattle.check_sides.proofs.PortSteps.{at_port, beyond_of, carried, found}
@@ -32,7 +32,7 @@ wrong_reason here beat known lanes faults.UnknownData is = absurd is
 wrong_reason here beat known lanes faults.NotSent is = absurd is
 wrong_reason here beat known lanes faults.NotGiven is = absurd is
 
-module _ (plan : Plan) (port : ℕ) (past : List Sighting) (view : PortView) (known : ℕ) (lanes : List ℕ)
+module _ (plan : GroupPlan) (port : ℕ) (past : List Sighting) (view : PortView) (known : ℕ) (lanes : List ℕ)
     (keeps : KeepsPort plan port past view) (fault : Fault) where
   abbrev x_of : Beat → Sighting
   x_of beat = at_port plan port past view known lanes keeps beat
@@ -43,7 +43,7 @@ module _ (plan : Plan) (port : ℕ) (past : List Sighting) (view : PortView) (kn
       beat known lanes WrongReply
       → IsWrongReply (port_scene plan.layout port (beyond_of plan port past view known lanes keeps beat.source) view
       (D beat)) beat known lanes fault)
-      → IsFirstReason plan past (x_of (D beat)) WrongReply → IsFirstFault plan past (x_of (D beat)) fault
+      → IsFirstReason plan past (x_of (D beat)) WrongReply → IsFirstGroupFault plan past (x_of (D beat)) fault
   tells_wrong beat says first =
       let wrong = carried plan port past view known lanes keeps (D beat)
       (λ (s : Scene). IsWrongReply s beat known lanes fault)
@@ -51,20 +51,20 @@ module _ (plan : Plan) (port : ℕ) (past : List Sighting) (view : PortView) (kn
       (λ (s : Scene). IsFirstReplyReason plan.layout (Port port) s beat known lanes WrongReply) first)) in
       record {
         reason = subst (λ (r : Reason). IsFirstReason plan past (x_of (D beat)) r)
-            (sym (wrong_reason (scene plan past (x_of (D beat))) beat known lanes fault wrong)) first;
+            (sym (wrong_reason (scene_in_group plan past (x_of (D beat))) beat known lanes fault wrong)) first;
         replies = λ is. wrong;
       }
 
   -- a request has no wrong reply
   pub asks_tell : (beat : AskHead) → IsFirstReason plan past (x_of (A beat)) WrongReply
-      → IsFirstFault plan past (x_of (A beat)) fault
+      → IsFirstGroupFault plan past (x_of (A beat)) fault
   asks_tell beat first = absurd first.applies
 
   pub tells_other : (beat : Beat) (reason : Reason) → (reason ≡ WrongReply → ⊥) → reason_of fault ≡ reason
-      → IsFirstReason plan past (x_of beat) reason → IsFirstFault plan past (x_of beat) fault
+      → IsFirstReason plan past (x_of beat) reason → IsFirstGroupFault plan past (x_of beat) fault
   tells_other beat reason other is first = record {
     reason = subst (λ (r : Reason). IsFirstReason plan past (x_of beat) r) (sym is) first;
-    replies = none beat (scene plan past (x_of beat));
+    replies = none beat (scene_in_group plan past (x_of beat));
   }
     where
       none : (b : Beat) (here : Scene) → TellsReplies here (x_of beat) b fault

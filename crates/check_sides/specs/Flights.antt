@@ -5,22 +5,22 @@ use Rattle.std.specs.Ordering.{is_eq, nat_cmp}
 use Rattle.check_flight.specs.Flight.{Flight, idle}
 
 -- what is kept of a source, if something is
-abbrev pub kept_of : List (ℕ × Flight) → ℕ → Option Flight
-kept_of kept source = lookup (λ key. is_eq (nat_cmp source key)) kept
+abbrev pub flight_kept : List (ℕ × Flight) → ℕ → Option Flight
+flight_kept kept source = lookup (λ key. is_eq (nat_cmp source key)) kept
 
 -- nothing is in flight of a source of which nothing is kept
 abbrev pub flight_of : List (ℕ × Flight) → ℕ → Flight
-flight_of kept source = unwrap_or (kept_of kept source) idle
+flight_of kept source = unwrap_or (flight_kept kept source) idle
 
 -- this is kept of a source from then on, and of each other what was
-abbrev pub IsKept : List (ℕ × Flight) → List (ℕ × Flight) → ℕ → Option Flight → Type 0
-IsKept before after source now =
-    (other : ℕ) → kept_of after other ≡ (if source == other then now else kept_of before other)
+abbrev pub IsFlightKept : List (ℕ × Flight) → List (ℕ × Flight) → ℕ → Option Flight → Type 0
+IsFlightKept before after source now =
+    (other : ℕ) → flight_kept after other ≡ (if source == other then now else flight_kept before other)
 
 -- this is in flight of a source from then on
 abbrev pub IsPut : List (ℕ × Flight) → List (ℕ × Flight) → ℕ → Flight → Type 0
-IsPut before after source flight = IsKept before after source (Some flight)
+IsPut before after source flight = IsFlightKept before after source (Some flight)
 
 -- this is made of what is in flight of a source, if something is kept of it
 abbrev pub IsChanged : List (ℕ × Flight) → List (ℕ × Flight) → ℕ → (Flight → Flight) → Type 0
-IsChanged before after source f = IsKept before after source (option_map f (kept_of before source))
+IsChanged before after source f = IsFlightKept before after source (option_map f (flight_kept before source))

@@ -5,10 +5,10 @@ use Rattle.std.specs.Prelude.{ℕ, Bool, true, false, if◌then◌else◌, List,
 use Rattle.check_map.specs.declared.sources.Owner.{Owner}
 use Rattle.check_watch.specs.declared.beat.Link.{Link}
 use Rattle.check_watch.specs.declared.beat.Link.TheVariants.{Master, Port}
-use Rattle.check_watch.specs.declared.links.Links.{Links as Together}
-use Rattle.check_watch.specs.declared.links.Links.TheVariants as together
-use Rattle.check_watch.specs.Plan.{Layout as GroupLayout, Plan as GroupPlan, Sighting, number_of, is_link}
-use Rattle.check_watch.specs.Plan.Side.{AtPorts}
+use Rattle.check_watch.specs.declared.links.GroupLinks.{GroupLinks as Together}
+use Rattle.check_watch.specs.declared.links.GroupLinks.TheVariants as together
+use Rattle.check_watch.specs.Plan.{GroupLayout, GroupPlan, Sighting, link_number, is_link}
+use Rattle.check_watch.specs.Plan.LinkSide.{AtPorts}
 use Rattle.check_sides.specs.declared.links.Links.{Links}
 use Rattle.check_sides.specs.declared.links.Links.TheVariants.{Both, Masters, Ports, Each}
 use Rattle.check_sides.specs.Plan.{Layout, Plan}
@@ -37,8 +37,8 @@ together_of Ports = together.Ports
 together_of Each = together.Masters
 
 -- the same system, where these links are watched
-abbrev pub layout_of : Links → GroupLayout → Layout
-layout_of links layout = record {
+abbrev pub layout_with : Links → GroupLayout → Layout
+layout_with links layout = record {
   links = links;
   owners = layout.owners;
   ports = layout.ports;
@@ -107,4 +107,4 @@ abbrev pub plan_at : Plan → Link → GroupPlan
 plan_at plan link = if is_alone plan.layout.links link then port_plan plan else shared_plan plan
 
 abbrev pub past_at : Links → Link → List Sighting → List Sighting
-past_at links link past = if is_alone links link then port_past (number_of link) past else shared_past links past
+past_at links link past = if is_alone links link then port_past (link_number link) past else shared_past links past

@@ -2,8 +2,8 @@
 -- which addresses, which bus each link has, and the slave of each port at reset. It is this project's own.
 use Rattle.std.specs.Prelude.{◌≡◌, ℕ, ◌<◌, List, length}
 use Rattle.tl_map.specs.declared.map.Range.{Range}
-use Rattle.check_map.specs.Owner.{IsWide}
-use Rattle.check_map.specs.Ranges.{RoutesBytes}
+use Rattle.check_map.specs.Owner.{IsWideSource}
+use Rattle.check_map.specs.Ranges.{RoutesBytesByRanges}
 use Rattle.check_map.specs.Sources.{AreLawfulOwners}
 use Rattle.check_map.specs.declared.sources.Owner.{Owner}
 use Rattle.check_beats.specs.declared.bus.Bus.{Bus}
@@ -11,8 +11,8 @@ use Rattle.check_flight.specs.PortSlave.{PortSlave}
 use Rattle.check_flight.specs.Side.{bus_at}
 use Rattle.check_watch.specs.declared.beat.Link.{Link}
 use Rattle.check_watch.specs.declared.beat.Link.TheVariants.{Master, Port}
-use Rattle.check_watch.specs.Plan.{Side, side_of, number_of}
-use Rattle.check_watch.specs.Plan.Side.{AtMasters, AtPorts}
+use Rattle.check_watch.specs.Plan.{LinkSide, side_of, link_number}
+use Rattle.check_watch.specs.Plan.LinkSide.{AtMasters, AtPorts}
 use Rattle.check_sides.specs.declared.links.Links.{Links}
 use Rattle.check_sides.specs.declared.links.Links.TheVariants.{Both, Masters, Ports, Each}
 
@@ -36,8 +36,8 @@ pub record Plan : Type 0 where
 -- no two masters have a wide source in common, and the functions are those of the layout
 pub record IsPlan (plan : Plan) : Type 0 where
   pub owners : AreLawfulOwners plan.layout.owners
-  pub wide : (master source wide : ℕ) → IsWide plan.layout.owners master source wide → plan.wide master source ≡ wide
-  pub route : (address size : ℕ) → RoutesBytes plan.layout.ports address size (plan.route address size)
+  pub wide : (master source wide : ℕ) → IsWideSource plan.layout.owners master source wide → plan.wide master source ≡ wide
+  pub route : (address size : ℕ) → RoutesBytesByRanges plan.layout.ports address size (plan.route address size)
 
 -- the system has the link
 abbrev pub HasLink : Layout → Link → Type 0
@@ -53,10 +53,10 @@ IsWatched Ports (Master m) = ⊥
 IsWatched Ports (Port p) = Unit {0}
 IsWatched Each link = Unit {0}
 
-abbrev pub buses_of : Layout → Side → List Bus
+abbrev pub buses_of : Layout → LinkSide → List Bus
 buses_of layout AtMasters = layout.master_buses
 buses_of layout AtPorts = layout.port_buses
 
 -- how many bytes the bus of a link has
 abbrev pub bus_of : Layout → Link → ℕ
-bus_of layout link = bus_at (buses_of layout (side_of link)) (number_of link)
+bus_of layout link = bus_at (buses_of layout (side_of link)) (link_number link)

@@ -16,15 +16,15 @@ use Rattle.check_flight.specs.PortSlave.{PortSlave, accepting, due_answering, ma
 use Rattle.check_flight.specs.Side.{bus_at}
 use Rattle.check_watch.specs.declared.beat.Beat.{Beat}
 use Rattle.check_watch.specs.declared.beat.Link.TheVariants.{Port}
-use Rattle.check_watch.specs.declared.links.Links.TheVariants as together
+use Rattle.check_watch.specs.declared.links.GroupLinks.TheVariants as together
 use Rattle.check_watch.specs.Lawful as group_lawful
 use Rattle.check_watch.specs.Past as group
-use Rattle.check_watch.specs.Plan.{Layout as GroupLayout, Plan as GroupPlan, Sighting, source_of}
-use Rattle.check_watch.specs.Plan.Side.{AtPorts}
+use Rattle.check_watch.specs.Plan.{GroupLayout, GroupPlan, Sighting, source_of}
+use Rattle.check_watch.specs.Plan.LinkSide.{AtPorts}
 use Rattle.check_watch.specs.Scene.{Scene, accepted, ask_if, begins_reply, captured, flight_after, once_answered, under_after}
 use Rattle.check_watch.specs.View as group_view
-use Rattle.check_watch.specs.View.{View as GroupView}
-use Rattle.check_sides.specs.Flights.{flight_of, kept_of}
+use Rattle.check_watch.specs.View.{GroupView}
+use Rattle.check_sides.specs.Flights.{flight_of, flight_kept}
 use Rattle.check_sides.specs.Groups.{are_apart, together_of, shared_plan, shared_past, port_plan, port_past}
 use Rattle.check_sides.specs.Lawful.{IsAskOf, IsLawful, IsNew}
 use Rattle.check_sides.specs.Plan.{Layout, Plan, IsPlan}
@@ -92,16 +92,16 @@ pub record IsAfter (layout : GroupLayout) (port : ℕ) (beyond : Beyond) (old ne
       else flight_in old source)
   pub slave : let here = port_scene layout port beyond old beat in
       new.slave ≡ accepting here.slave here.wide (accepted layout (Port port) here beat lanes)
-  pub unkept : (source : ℕ) → kept_of new.flights source ≡ None
-      → (kept_of old.flights source ≡ None) × (IsAskOf beat source → ⊥)
+  pub unkept : (source : ℕ) → flight_kept new.flights source ≡ None
+      → (flight_kept old.flights source ≡ None) × (IsAskOf beat source → ⊥)
 
 -- the beats of a port's link are lawful, and this is kept of them: something of each source that has made a request
 pub record KeepsPort (plan : GroupPlan) (port : ℕ) (past : List Sighting) (view : PortView) : Type 0 where
-  pub lawful : group_lawful.IsLawful plan past
+  pub lawful : group_lawful.IsLawfulGroup plan past
   pub under : (group.state plan past).links AtPorts port ≡ view.under
   pub flights : (source : ℕ) → (group.state plan past).flights AtPorts source ≡ flight_in view source
   pub slave : (group.state plan past).slaves port ≡ view.slave
-  pub unkept : (source : ℕ) → kept_of view.flights source ≡ None → IsNew past source
+  pub unkept : (source : ℕ) → flight_kept view.flights source ≡ None → IsNew past source
 
 -- ---- all links
 
@@ -139,7 +139,7 @@ pub record Suits (plan : Plan) (view : View) : Type 0 where
 pub record Keeps (plan : Plan) (past : List Sighting) (view : View) : Type 0 where
   pub suits : Suits plan view
   pub lawful : IsLawful plan past
-  pub shared : group_view.Keeps (shared_plan plan) (shared_past plan.layout.links past) view.shared
+  pub shared : group_view.KeepsGroup (shared_plan plan) (shared_past plan.layout.links past) view.shared
   pub ports : IsTrue (are_apart plan.layout.links) → (port : ℕ) (link : PortView)
       → slice_get view.ports port ≡ Some link
       → KeepsPort (port_plan plan) port (port_past port past) link

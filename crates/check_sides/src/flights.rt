@@ -5,10 +5,10 @@ ghost use Rattle.check_beats.specs.State.{ask_of, ends_ask, first_ask};
 ghost use Rattle.check_flight.specs.Flight.Turn.{Asking, Asked};
 ghost use Rattle.check_flight.specs.Flight.{asked, flight_due, idle};
 ghost use Rattle.check_flight.specs.PortSlave.{accepting, answering, due_accepting, due_answering, may_need_to_accept, may_need_to_answer};
-ghost use Rattle.check_sides.specs.Flights.{IsChanged, IsPut, flight_of, kept_of};
+ghost use Rattle.check_sides.specs.Flights.{IsChanged, IsPut, flight_of, flight_kept};
 
 use check_beats::{AskHead, UnderWay};
-use check_flight::{Flight, Place, PortSlave};
+use check_flight::{Flight, FlightPlace, PortSlave};
 use std::alloc::{AllocError, Global};
 use std::collections::BTreeMap;
 use std::marker::Model;
@@ -33,10 +33,10 @@ impl Model for Flights {
 }
 
 /// The place of what is in flight of a source at a port's own link.
-fn place_at(port: usize, source: u16) -> Place
+fn place_at(port: usize, source: u16) -> FlightPlace
     ensures { result ≡ record { link = port; wide = source; port = port } }
 {
-    Place {
+    FlightPlace {
         link: port,
         wide: usize::from(source),
         port,
@@ -68,7 +68,7 @@ impl Flights {
     pub fn begin(&mut self, source: u16, number: usize) -> Result<(), AllocError>
         ensures begun { OnOk result
             (IsPut self.old self.new source (record { turn = Asking number; due = None })) }
-        ensures refused { OnErr result (kept_of self.old source ≡ None) }
+        ensures refused { OnErr result (flight_kept self.old source ≡ None) }
         ensures err { OnErr result (self.new ≡ self.old) }
     {
         if let Some(flight) = self.kept.get_mut(&source) {
@@ -103,7 +103,7 @@ impl Flights {
         ensures slave { let ask = ask_of under.now.bus under.now.asking beat.now lanes.now in
             OnOk result (slave.new ≡ accepting slave.old beat.now.source (Some ask)) }
         ensures needed { let ask = ask_of under.now.bus under.now.asking beat.now lanes.now in
-            OnErr result ((kept_of self.old beat.now.source ≡ None) ⊎ IsTrue (may_need_to_accept slave.old ask)) }
+            OnErr result ((flight_kept self.old beat.now.source ≡ None) ⊎ IsTrue (may_need_to_accept slave.old ask)) }
         ensures err { OnErr result (self.new ≡ self.old) }
         ensures slave_err { OnErr result (slave.new ≡ slave.old) }
     {
@@ -125,7 +125,7 @@ impl Flights {
         lanes: &[u8],
         slave: &mut PortSlave,
     ) -> Result<(), AllocError>
-        requires first { kept_of self.old beat.now.source ≡ None }
+        requires first { flight_kept self.old beat.now.source ≡ None }
         requires fits { FitsAsk under.now.bus (first_ask under.now.asking) beat.now }
         requires ends { IsTrue (ends_ask under.now.bus under.now.asking beat.now) }
         requires lanes { under.now.bus ≤ length lanes.now }
@@ -137,7 +137,7 @@ impl Flights {
         ensures slave { let ask = ask_of under.now.bus under.now.asking beat.now lanes.now in
             OnOk result (slave.new ≡ accepting slave.old beat.now.source (Some ask)) }
         ensures needed { let ask = ask_of under.now.bus under.now.asking beat.now lanes.now in
-            OnErr result ((kept_of self.old beat.now.source ≡ None) ⊎ IsTrue (may_need_to_accept slave.old ask)) }
+            OnErr result ((flight_kept self.old beat.now.source ≡ None) ⊎ IsTrue (may_need_to_accept slave.old ask)) }
         ensures err { OnErr result (self.new ≡ self.old) }
         ensures slave_err { OnErr result (slave.new ≡ slave.old) }
     {

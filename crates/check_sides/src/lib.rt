@@ -23,6 +23,8 @@ mod port_steps;
 mod steps;
 mod watch;
 
-pub use check_watch::{Beat, Change, Ended, Entry, Fault, Link, Origin, Reason, Seen, StepError};
+pub use check_watch::{
+    Beat, Change, Ended, Fault, Link, Origin, Reason, Seen, SeenEntry, StepError,
+};
 pub use links::Links;
 pub use watch::Watch;

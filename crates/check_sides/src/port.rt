@@ -10,8 +10,8 @@ ghost use Rattle.check_watch.specs.declared.beat.Link.TheVariants.{Port};
 ghost use Rattle.check_watch.specs.declared.fault.Reason.TheVariants.{WrongReply};
 ghost use Rattle.check_watch.specs.Allowed.{IsAllowedAsk, IsAllowedReply, IsMust};
 ghost use Rattle.check_watch.specs.Faults.{HasEndReason, IsFirstAskReason, IsFirstReplyReason, IsWrongReply};
-ghost use Rattle.check_watch.specs.Lawful.{IsFirstFault, IsFirstReason, IsLawful, what_is_seen};
-ghost use Rattle.check_watch.specs.Plan.{Layout, Plan, Sighting, seen_at};
+ghost use Rattle.check_watch.specs.Lawful.{IsFirstGroupFault, IsFirstReason, IsLawfulGroup, seen_in_group};
+ghost use Rattle.check_watch.specs.Plan.{GroupLayout, GroupPlan, Sighting, seen_at};
 ghost use Rattle.check_watch.specs.Scene.{seen};
 ghost use Rattle.check_watch.specs.View.{FitsBeat};
 ghost use Rattle.check_sides.specs.View.{Beyond, IsOwnPort, KeepsPort, captured_in, due_in, fresh_link, port_scene};
@@ -20,8 +20,8 @@ use crate::flights::Flights;
 use check_beats::{AskHead, Bus, ReplyHead, UnderWay};
 use check_cells::Pattern;
 use check_flight::{Answer, PortSlave};
-use check_map::Map;
-use check_watch::{Beat, Entry, Fault, Reason, Seen, answer_reason, due_reason, fault_of};
+use check_map::AddressMap;
+use check_watch::{Beat, Fault, Reason, Seen, SeenEntry, answer_reason, due_reason, fault_of};
 use std::alloc::Global;
 use std::marker::Model;
 
@@ -99,11 +99,17 @@ impl PortLink {
     }
 
     /// The first reason why a beat of a request is not lawful, whatever its lanes.
-    fn ask_reason(&self, port: usize, map: &Map, beat: &AskHead, known: u64) -> Option<Reason>
-        ensures reason { (layout : Layout) (beyond : Beyond) (lanes : List ℕ) → IsOwnPort layout map.now
+    fn ask_reason(
+        &self,
+        port: usize,
+        map: &AddressMap,
+        beat: &AskHead,
+        known: u64,
+    ) -> Option<Reason>
+        ensures reason { (layout : GroupLayout) (beyond : Beyond) (lanes : List ℕ) → IsOwnPort layout map.now
             → IfSome result (IsFirstAskReason layout (Port port)
             (port_scene layout port beyond self.now (A beat.now)) beat.now known lanes) }
-        ensures allowed { (layout : Layout) (beyond : Beyond) (lanes : List ℕ) → IsOwnPort layout map.now
+        ensures allowed { (layout : GroupLayout) (beyond : Beyond) (lanes : List ℕ) → IsOwnPort layout map.now
             → IfNone result (IsAllowedAsk layout (Port port)
             (port_scene layout port beyond self.now (A beat.now)) beat.now known lanes) }
         ensures fits { IfNone result
@@ -152,10 +158,10 @@ impl PortLink {
         lanes: &[u8],
     ) -> Option<Reason>
         requires lanes { self.now.under.bus ≤ length lanes.now }
-        ensures reason { (layout : Layout) (beyond : Beyond) (map : List (List Range))
+        ensures reason { (layout : GroupLayout) (beyond : Beyond) (map : List (List Range))
             → IsOwnPort layout map → IfSome result (IsFirstReplyReason layout (Port port)
             (port_scene layout port beyond self.now (D beat.now)) beat.now known lanes.now) }
-        ensures allowed { (layout : Layout) (beyond : Beyond) (map : List (List Range))
+        ensures allowed { (layout : GroupLayout) (beyond : Beyond) (map : List (List Range))
             → IsOwnPort layout map → IfNone result (IsAllowedReply layout (Port port)
             (port_scene layout port beyond self.now (D beat.now)) beat.now known lanes.now) }
         ensures fits { IfNone result (FitsReply (first_reply self.now.under.replying) beat.now) }
@@ -179,18 +185,18 @@ impl PortLink {
     pub(crate) fn reason(
         &self,
         port: usize,
-        map: &Map,
+        map: &AddressMap,
         beat: &Beat,
         known: u64,
         lanes: &[u8],
     ) -> Option<Reason>
         requires lanes { self.now.under.bus ≤ length lanes.now }
-        ensures reason { (plan : Plan) (past : List Sighting) → IsOwnPort plan.layout map.now
+        ensures reason { (plan : GroupPlan) (past : List Sighting) → IsOwnPort plan.layout map.now
             → KeepsPort plan port past self.now
             → IfSome result (IsFirstReason plan past (seen_at (Port port) beat.now known lanes.now)) }
-        ensures allowed { (plan : Plan) (past : List Sighting) → IsOwnPort plan.layout map.now
+        ensures allowed { (plan : GroupPlan) (past : List Sighting) → IsOwnPort plan.layout map.now
             → KeepsPort plan port past self.now
-            → IfNone result (IsLawful plan (seen_at (Port port) beat.now known lanes.now ∷ past)) }
+            → IfNone result (IsLawfulGroup plan (seen_at (Port port) beat.now known lanes.now ∷ past)) }
         ensures fits { IfNone result (FitsBeat self.now.under beat.now) }
     {
         match beat {
@@ -202,7 +208,7 @@ impl PortLink {
     /// The wrong reply that a beat ends: what the slave expects, and what was captured.
     fn wrong_reply(&self, port: usize, beat: &ReplyHead, known: u64, lanes: &[u8]) -> Fault
         requires lanes { self.now.under.bus ≤ length lanes.now }
-        ensures { (layout : Layout) (beyond : Beyond)
+        ensures { (layout : GroupLayout) (beyond : Beyond)
             → IsFirstReplyReason layout (Port port)
             (port_scene layout port beyond self.now (D beat.now)) beat.now known lanes.now WrongReply
             → IsWrongReply (port_scene layout port beyond self.now (D beat.now))
@@ -233,9 +239,9 @@ impl PortLink {
         reason: Reason,
     ) -> Fault
         requires lanes { self.now.under.bus ≤ length lanes.now }
-        ensures { (plan : Plan) (past : List Sighting) → KeepsPort plan port past self.now
+        ensures { (plan : GroupPlan) (past : List Sighting) → KeepsPort plan port past self.now
             → IsFirstReason plan past (seen_at (Port port) beat.now known lanes.now) reason
-            → IsFirstFault plan past (seen_at (Port port) beat.now known lanes.now) result }
+            → IsFirstGroupFault plan past (seen_at (Port port) beat.now known lanes.now) result }
     {
         match reason {
             Reason::WrongReply => match beat {
@@ -250,7 +256,7 @@ impl PortLink {
     fn seen_reply(&self, port: usize, beat: &ReplyHead, known: u64, lanes: &[u8]) -> Seen
         requires fits { FitsReply (first_reply self.now.under.replying) beat.now }
         requires lanes { self.now.under.bus ≤ length lanes.now }
-        ensures { (layout : Layout) (beyond : Beyond)
+        ensures { (layout : GroupLayout) (beyond : Beyond)
             → result ≡ seen layout (Port port)
             (port_scene layout port beyond self.now (D beat.now)) (D beat.now) known lanes.now }
     {
@@ -265,7 +271,7 @@ impl PortLink {
             Some(answer) => {
                 let mut reply = Pattern::blank();
                 self.capture(beat, known, lanes, &mut reply);
-                Seen::WholeReply(Entry {
+                Seen::WholeReply(SeenEntry {
                     ask: ask.copy(),
                     reply,
                     port: answer.port,
@@ -280,8 +286,8 @@ impl PortLink {
     pub(crate) fn seen(&self, port: usize, beat: &Beat, known: u64, lanes: &[u8]) -> Seen
         requires fits { FitsBeat self.now.under beat.now }
         requires lanes { self.now.under.bus ≤ length lanes.now }
-        ensures { (plan : Plan) (past : List Sighting) → KeepsPort plan port past self.now
-            → result ≡ what_is_seen plan past (seen_at (Port port) beat.now known lanes.now) }
+        ensures { (plan : GroupPlan) (past : List Sighting) → KeepsPort plan port past self.now
+            → result ≡ seen_in_group plan past (seen_at (Port port) beat.now known lanes.now) }
     {
         match beat {
             Beat::A(beat) => {

@@ -7,17 +7,17 @@ ghost use Rattle.check_flight.specs.Flight.{flight_due};
 ghost use Rattle.check_flight.specs.PortSlave.{accepting, answering, due_accepting, due_answering, may_need_to_accept};
 ghost use Rattle.check_watch.specs.declared.beat.Beat.TheVariants.{A, D};
 ghost use Rattle.check_watch.specs.declared.beat.Link.TheVariants.{Port};
-ghost use Rattle.check_watch.specs.Lawful.{IsFirstFault, IsLawful, OfFault, SlaveMayNeedMemory, what_is_seen};
-ghost use Rattle.check_watch.specs.Plan.{Layout, Plan, Sighting, seen_at};
-ghost use Rattle.check_watch.specs.Scene.{ask_by, ended};
+ghost use Rattle.check_watch.specs.Lawful.{IsFirstGroupFault, IsLawfulGroup, OfFault, GroupMayNeedMemory, seen_in_group};
+ghost use Rattle.check_watch.specs.Plan.{GroupLayout, GroupPlan, Sighting, seen_at};
+ghost use Rattle.check_watch.specs.Scene.{ask_by, ended_by};
 ghost use Rattle.check_watch.specs.View.{FitsBeat};
-ghost use Rattle.check_sides.specs.Flights.{IsChanged, IsPut, kept_of};
+ghost use Rattle.check_sides.specs.Flights.{IsChanged, IsPut, flight_kept};
 ghost use Rattle.check_sides.specs.Lawful.{IsFirstRequest};
 ghost use Rattle.check_sides.specs.View.{Beyond, IsAfter, IsOwnPort, KeepsPort, MayNeedToAnswer, answered_in};
 
 use crate::port::PortLink;
 use check_beats::{AskHead, ReplyHead};
-use check_map::Map;
+use check_map::AddressMap;
 use check_watch::{Beat, Ended, Seen, StepError};
 use std::alloc::{AllocError, Global};
 
@@ -41,7 +41,7 @@ impl PortLink {
         ensures slave { let ask = ask_of self.old.under.bus self.old.under.asking beat.now lanes.now in
             OnOk result (self.new.slave ≡ accepting self.old.slave beat.now.source (Some ask)) }
         ensures needed { let ask = ask_of self.old.under.bus self.old.under.asking beat.now lanes.now in
-            OnErr result ((kept_of self.old.flights beat.now.source ≡ None)
+            OnErr result ((flight_kept self.old.flights beat.now.source ≡ None)
             ⊎ IsTrue (may_need_to_accept self.old.slave ask)) }
         ensures err { OnErr result (self.new ≡ self.old) }
     {
@@ -60,11 +60,11 @@ impl PortLink {
     ) -> Result<bool, AllocError>
         requires fits { FitsAsk self.old.under.bus (first_ask self.old.under.asking) beat.now }
         requires lanes { self.old.under.bus ≤ length lanes.now }
-        ensures after { (layout : Layout) (beyond : Beyond) (known : ℕ)
+        ensures after { (layout : GroupLayout) (beyond : Beyond) (known : ℕ)
             → OnOk result (IsAfter layout port beyond self.old self.new (A beat.now) known lanes.now) }
         ensures ends { IfOk result (λ ends.
             ends ≡ ends_ask self.old.under.bus self.old.under.asking beat.now) }
-        ensures needed { OnErr result ((kept_of self.old.flights beat.now.source ≡ None)
+        ensures needed { OnErr result ((flight_kept self.old.flights beat.now.source ≡ None)
             ⊎ IsSomeAnd (ask_by self.old.under beat.now lanes.now)
             (λ ask. IsTrue (may_need_to_accept self.old.slave ask))) }
         ensures err { OnErr result (self.new ≡ self.old) }
@@ -108,7 +108,7 @@ impl PortLink {
     ) -> Result<bool, AllocError>
         requires fits { FitsReply (first_reply self.old.under.replying) beat.now }
         requires lanes { self.old.under.bus ≤ length lanes.now }
-        ensures after { (layout : Layout) (beyond : Beyond)
+        ensures after { (layout : GroupLayout) (beyond : Beyond)
             → OnOk result (IsAfter layout port beyond self.old self.new (D beat.now) known lanes.now) }
         ensures ends { IfOk result (λ ends.
             ends ≡ ends_reply self.old.under.bus self.old.under.replying beat.now) }
@@ -138,17 +138,17 @@ impl PortLink {
     ) -> Result<Ended, AllocError>
         requires fits { FitsBeat self.old.under beat.now }
         requires lanes { self.old.under.bus ≤ length lanes.now }
-        ensures keeps { (plan : Plan) (past : List Sighting) → KeepsPort plan port past self.old
-            → IsLawful plan (seen_at (Port port) beat.now known lanes.now ∷ past)
+        ensures keeps { (plan : GroupPlan) (past : List Sighting) → KeepsPort plan port past self.old
+            → IsLawfulGroup plan (seen_at (Port port) beat.now known lanes.now ∷ past)
             → OnOk result
             (KeepsPort plan port (seen_at (Port port) beat.now known lanes.now ∷ past) self.new) }
-        ensures ended { (plan : Plan) (past : List Sighting) → KeepsPort plan port past self.old
-            → IsLawful plan (seen_at (Port port) beat.now known lanes.now ∷ past)
+        ensures ended { (plan : GroupPlan) (past : List Sighting) → KeepsPort plan port past self.old
+            → IsLawfulGroup plan (seen_at (Port port) beat.now known lanes.now ∷ past)
             → IfOk result (λ e.
-            e ≡ ended (what_is_seen plan past (seen_at (Port port) beat.now known lanes.now))) }
-        ensures needed { (plan : Plan) (past : List Sighting) → KeepsPort plan port past self.old
-            → IsLawful plan (seen_at (Port port) beat.now known lanes.now ∷ past)
-            → OnErr result (SlaveMayNeedMemory plan past (seen_at (Port port) beat.now known lanes.now)
+            e ≡ ended_by (seen_in_group plan past (seen_at (Port port) beat.now known lanes.now))) }
+        ensures needed { (plan : GroupPlan) (past : List Sighting) → KeepsPort plan port past self.old
+            → IsLawfulGroup plan (seen_at (Port port) beat.now known lanes.now ∷ past)
+            → OnErr result (GroupMayNeedMemory plan past (seen_at (Port port) beat.now known lanes.now)
             ⊎ IsFirstRequest past beat.now) }
         ensures err { OnErr result (self.new ≡ self.old) }
         ensures bus { self.new.under.bus ≡ self.old.under.bus }
@@ -171,31 +171,31 @@ impl PortLink {
         &mut self,
         alloc: Global,
         port: usize,
-        map: &Map,
+        map: &AddressMap,
         beat: &Beat,
         known: u64,
         lanes: &[u8],
     ) -> Result<Option<Ended>, AllocError>
         requires lanes { self.old.under.bus ≤ length lanes.now }
-        ensures lawful { (plan : Plan) (past : List Sighting) → IsOwnPort plan.layout map.now
+        ensures lawful { (plan : GroupPlan) (past : List Sighting) → IsOwnPort plan.layout map.now
             → KeepsPort plan port past self.old
             → IfOk result (λ end.
-            IsSome end ↔ IsLawful plan (seen_at (Port port) beat.now known lanes.now ∷ past)) }
-        ensures keeps { (plan : Plan) (past : List Sighting) → IsOwnPort plan.layout map.now
+            IsSome end ↔ IsLawfulGroup plan (seen_at (Port port) beat.now known lanes.now ∷ past)) }
+        ensures keeps { (plan : GroupPlan) (past : List Sighting) → IsOwnPort plan.layout map.now
             → KeepsPort plan port past self.old
             → IfOk result (λ end. OnSome end
             (KeepsPort plan port (seen_at (Port port) beat.now known lanes.now ∷ past) self.new)) }
-        ensures ended { (plan : Plan) (past : List Sighting) → IsOwnPort plan.layout map.now
+        ensures ended { (plan : GroupPlan) (past : List Sighting) → IsOwnPort plan.layout map.now
             → KeepsPort plan port past self.old
             → IfOk result (λ end. IfSome end (λ e.
-            e ≡ ended (what_is_seen plan past (seen_at (Port port) beat.now known lanes.now)))) }
+            e ≡ ended_by (seen_in_group plan past (seen_at (Port port) beat.now known lanes.now)))) }
         ensures none { IfOk result (λ end. IfNone end (self.new ≡ self.old)) }
-        ensures memory { (plan : Plan) (past : List Sighting) → IsOwnPort plan.layout map.now
+        ensures memory { (plan : GroupPlan) (past : List Sighting) → IsOwnPort plan.layout map.now
             → KeepsPort plan port past self.old
-            → OnErr result (IsLawful plan (seen_at (Port port) beat.now known lanes.now ∷ past)) }
-        ensures needed { (plan : Plan) (past : List Sighting) → IsOwnPort plan.layout map.now
+            → OnErr result (IsLawfulGroup plan (seen_at (Port port) beat.now known lanes.now ∷ past)) }
+        ensures needed { (plan : GroupPlan) (past : List Sighting) → IsOwnPort plan.layout map.now
             → KeepsPort plan port past self.old
-            → OnErr result (SlaveMayNeedMemory plan past (seen_at (Port port) beat.now known lanes.now)
+            → OnErr result (GroupMayNeedMemory plan past (seen_at (Port port) beat.now known lanes.now)
             ⊎ IsFirstRequest past beat.now) }
         ensures err { OnErr result (self.new ≡ self.old) }
         ensures bus { self.new.under.bus ≡ self.old.under.bus }
@@ -212,33 +212,33 @@ impl PortLink {
         &mut self,
         alloc: Global,
         port: usize,
-        map: &Map,
+        map: &AddressMap,
         beat: &Beat,
         known: u64,
         lanes: &[u8],
     ) -> Result<Seen, StepError>
         requires lanes { self.old.under.bus ≤ length lanes.now }
-        ensures lawful { (plan : Plan) (past : List Sighting) → IsOwnPort plan.layout map.now
+        ensures lawful { (plan : GroupPlan) (past : List Sighting) → IsOwnPort plan.layout map.now
             → KeepsPort plan port past self.old → (result ≡ Err StepError.Memory → ⊥)
-            → IsOk result ↔ IsLawful plan (seen_at (Port port) beat.now known lanes.now ∷ past) }
-        ensures keeps { (plan : Plan) (past : List Sighting) → IsOwnPort plan.layout map.now
+            → IsOk result ↔ IsLawfulGroup plan (seen_at (Port port) beat.now known lanes.now ∷ past) }
+        ensures keeps { (plan : GroupPlan) (past : List Sighting) → IsOwnPort plan.layout map.now
             → KeepsPort plan port past self.old
             → OnOk result
             (KeepsPort plan port (seen_at (Port port) beat.now known lanes.now ∷ past) self.new) }
-        ensures seen { (plan : Plan) (past : List Sighting) → IsOwnPort plan.layout map.now
+        ensures seen { (plan : GroupPlan) (past : List Sighting) → IsOwnPort plan.layout map.now
             → KeepsPort plan port past self.old
             → IfOk result (λ s.
-            s ≡ what_is_seen plan past (seen_at (Port port) beat.now known lanes.now)) }
-        ensures fault { (plan : Plan) (past : List Sighting) → IsOwnPort plan.layout map.now
+            s ≡ seen_in_group plan past (seen_at (Port port) beat.now known lanes.now)) }
+        ensures fault { (plan : GroupPlan) (past : List Sighting) → IsOwnPort plan.layout map.now
             → KeepsPort plan port past self.old
             → IfErr result
-            (OfFault (IsFirstFault plan past (seen_at (Port port) beat.now known lanes.now))) }
-        ensures memory { (plan : Plan) (past : List Sighting) → IsOwnPort plan.layout map.now
+            (OfFault (IsFirstGroupFault plan past (seen_at (Port port) beat.now known lanes.now))) }
+        ensures memory { (plan : GroupPlan) (past : List Sighting) → IsOwnPort plan.layout map.now
             → KeepsPort plan port past self.old → result ≡ Err StepError.Memory
-            → IsLawful plan (seen_at (Port port) beat.now known lanes.now ∷ past) }
-        ensures needed { (plan : Plan) (past : List Sighting) → IsOwnPort plan.layout map.now
+            → IsLawfulGroup plan (seen_at (Port port) beat.now known lanes.now ∷ past) }
+        ensures needed { (plan : GroupPlan) (past : List Sighting) → IsOwnPort plan.layout map.now
             → KeepsPort plan port past self.old → result ≡ Err StepError.Memory
-            → SlaveMayNeedMemory plan past (seen_at (Port port) beat.now known lanes.now)
+            → GroupMayNeedMemory plan past (seen_at (Port port) beat.now known lanes.now)
             ⊎ IsFirstRequest past beat.now }
         ensures err { OnErr result (self.new ≡ self.old) }
         ensures bus { self.new.under.bus ≡ self.old.under.bus }

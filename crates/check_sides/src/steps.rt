@@ -2,7 +2,7 @@
 ghost use Rattle.std.specs.Prelude.{◌≡◌, ◌≤◌, ◌↔◌, ◌∷◌, List, length, Err, IfOk, IsOk, OnOk, OnErr, IfErr, IfSome, IsSome, IfNone, OnSome, true, false};
 ghost use Rattle.check_watch.specs.declared.beat.Link.TheVariants.{Port};
 ghost use Rattle.check_watch.specs.Plan.{Sighting, seen_at};
-ghost use Rattle.check_watch.specs.Scene.{ended};
+ghost use Rattle.check_watch.specs.Scene.{ended_by};
 ghost use Rattle.check_sides.specs.Groups.{is_alone};
 ghost use Rattle.check_sides.specs.Lawful.{IsFirstFault, IsLawful, MayNeedMemory, OfFault, SlaveMayNeedMemory, what_is_seen};
 ghost use Rattle.check_sides.specs.Plan.{Plan, HasLink, IsWatched, bus_of};
@@ -72,7 +72,7 @@ impl Watch {
             (Keeps plan (seen_at link beat.now known lanes.now ∷ past) self.new)) }
         ensures ended { (plan : Plan) (past : List Sighting) → Keeps plan past self.old
             → IfOk result (λ end. IfSome end (λ e.
-            e ≡ ended (what_is_seen plan past (seen_at link beat.now known lanes.now)))) }
+            e ≡ ended_by (what_is_seen plan past (seen_at link beat.now known lanes.now)))) }
         ensures none { IfOk result (λ end. IfNone end (self.new ≡ self.old)) }
         ensures memory { (plan : Plan) (past : List Sighting) → Keeps plan past self.old
             → OnErr result (IsLawful plan (seen_at link beat.now known lanes.now ∷ past)) }
@@ -141,7 +141,7 @@ impl Watch {
             (Keeps plan (seen_at link beat.now known lanes.now ∷ past) self.new)) }
         ensures ended { (plan : Plan) (past : List Sighting) → Keeps plan past self.old
             → IfOk result (λ end. IfSome end (λ e.
-            e ≡ ended (what_is_seen plan past (seen_at link beat.now known lanes.now)))) }
+            e ≡ ended_by (what_is_seen plan past (seen_at link beat.now known lanes.now)))) }
         ensures none { IfOk result (λ end. IfNone end (self.new ≡ self.old)) }
         ensures memory { (plan : Plan) (past : List Sighting) → Keeps plan past self.old
             → OnErr result (IsLawful plan (seen_at link beat.now known lanes.now ∷ past)) }
@@ -178,7 +178,7 @@ impl Watch {
             (Keeps plan (seen_at link beat.now known lanes.now ∷ past) self.new)) }
         ensures ended { (plan : Plan) (past : List Sighting) → Keeps plan past self.old
             → IfOk result (λ end. IfSome end (λ e.
-            e ≡ ended (what_is_seen plan past (seen_at link beat.now known lanes.now)))) }
+            e ≡ ended_by (what_is_seen plan past (seen_at link beat.now known lanes.now)))) }
         ensures none { IfOk result (λ end. IfNone end (self.new ≡ self.old)) }
         ensures memory { (plan : Plan) (past : List Sighting) → Keeps plan past self.old
             → OnErr result (IsLawful plan (seen_at link beat.now known lanes.now ∷ past)) }

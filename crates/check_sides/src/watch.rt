@@ -10,8 +10,8 @@ use crate::links::Links;
 use crate::port::PortLink;
 use check_beats::Bus;
 use check_flight::PortSlave;
-use check_map::{Map, Sources};
-use check_watch::{Link, Watch as Together};
+use check_map::{AddressMap, SourceOwners};
+use check_watch::{GroupWatch as Together, Link};
 use std::alloc::{AllocError, Global};
 use std::marker::Model;
 
@@ -26,32 +26,32 @@ pub struct Watch {
 }
 
 impl Model for Watch {
-    ghost use Rattle.check_sides.specs.Groups.{layout_of};
+    ghost use Rattle.check_sides.specs.Groups.{layout_with};
     ghost use Rattle.check_sides.specs.View.{View, IsSized};
 
     ghost Value = { View };
 
     ghost view = { λ w. record {
-      layout = layout_of w.links w.shared.layout;
+      layout = layout_with w.links w.shared.layout;
       shared = w.shared;
       ports = w.ports.items;
     } };
 
     ghost invariant = { λ w. IsSized (record {
-      layout = layout_of w.links w.shared.layout;
+      layout = layout_with w.links w.shared.layout;
       shared = w.shared;
       ports = w.ports.items;
     }) };
 }
 
 /// The words of `check_watch` for the links that are judged together.
-fn together_of(links: Links) -> check_watch::Links
+fn together_of(links: Links) -> check_watch::GroupLinks
     ensures { result ≡ together_of links }
 {
     match links {
-        Links::Both => check_watch::Links::Both,
-        Links::Masters | Links::Each => check_watch::Links::Masters,
-        Links::Ports => check_watch::Links::Ports,
+        Links::Both => check_watch::GroupLinks::Both,
+        Links::Masters | Links::Each => check_watch::GroupLinks::Masters,
+        Links::Ports => check_watch::GroupLinks::Ports,
     }
 }
 
@@ -77,8 +77,8 @@ impl Watch {
     pub fn new(
         alloc: Global,
         links: Links,
-        map: Map,
-        sources: Sources,
+        map: AddressMap,
+        sources: SourceOwners,
         master_buses: Vec<Bus>,
         port_buses: Vec<Bus>,
         slaves: Vec<PortSlave>,
@@ -149,14 +149,14 @@ impl Watch {
     }
 
     /// The wide sources of the masters.
-    pub fn sources(&self) -> &Sources
+    pub fn sources(&self) -> &SourceOwners
         ensures { result.now ≡ self.now.layout.owners }
     {
         self.shared.sources()
     }
 
     /// The ports and their addresses.
-    pub fn map(&self) -> &Map
+    pub fn map(&self) -> &AddressMap
         ensures { result.now ≡ self.now.layout.ports }
     {
         self.shared.map()

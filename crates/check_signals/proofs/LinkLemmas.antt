@@ -1,19 +1,20 @@
 -- What the names of links find.
 use Rattle.std.proofs.Common.{◌≡◌, ◌≢◌, ◌∙◌, ℕ, ◌+◌, ◌<◌, Bool, List, [], ◌∷◌, ◌++◌, length, Option, None, Some, Result, Ok, Err, IsErrAnd, ap, append-nil, append_assoc, arith, refl, subst, sym}
+use Rattle.tl_text.specs.Reading.{◌>>=◌, each, with_front}
 use Rattle.check_beats.specs.Bus.{bus_bytes}
 use Rattle.check_beats.specs.declared.bus.Bus.{Bus}
 use Rattle.check_vcd.specs.Header.{Var}
 use Rattle.check_samples.specs.declared.signal.Signal.{Signal}
-use Rattle.check_signals.specs.Found.{LinkSources, NamesOf, asked_of, each, link_at, link_sources, links_from, named_before, names_at, numbered, owner_of, sources_of, with_front, ◌>>=◌}
-use Rattle.check_signals.specs.Source.{Asked, Fault, Finds, Source, fault_view}
-use Rattle.check_signals.specs.declared.signal_fault.Owner.{Owner}
+use Rattle.check_signals.specs.Found.{LinkSources, NamesOf, signals_asked, link_at, link_sources, links_from, named_before, names_at, numbered, owner_of, sources_of}
+use Rattle.check_signals.specs.Source.{WantedSignal, SearchFault, Finds, Source, fault_view}
+use Rattle.check_signals.specs.declared.signal_fault.SignalOwner.{SignalOwner}
 use Rattle.check_signals.specs.declared.signal_fault.SignalFault.{SignalFault}
 use Rattle.check_signals.specs.declared.signal_fault.SignalFault.TheVariants.{Memory}
 
 -- no names are left
-pub names-end : (find : Asked → Result Source Fault) (owner : Owner) (bus : ℕ) (signals : List Signal)
-    (rest : List (List ℕ)) (front : List Source) (all : Result (List Source) Fault) → length rest < 1
-    → with_front front (each find (asked_of owner bus signals rest)) ≡ all → all ≡ Ok front
+pub names-end : (find : WantedSignal → Result Source SearchFault) (owner : SignalOwner) (bus : ℕ) (signals : List Signal)
+    (rest : List (List ℕ)) (front : List Source) (all : Result (List Source) SearchFault) → length rest < 1
+    → with_front front (each find (signals_asked owner bus signals rest)) ≡ all → all ≡ Ok front
 names-end find owner bus [] rest front all few is = sym is ∙ ap Ok (append-nil front)
 names-end find owner bus (signal ∷ signals) [] front all few is = sym is ∙ ap Ok (append-nil front)
 names-end find owner bus (signal ∷ signals) (name ∷ rest) front all few is = absurd (omega (arith, few))
@@ -22,14 +23,14 @@ names-end find owner bus (signal ∷ signals) (name ∷ rest) front all few is =
 
 -- a fault that is handed on
 pub finds-fault : {X Y : Type 0} (view : X → Y) (result : Result X SignalFault) (fault : SignalFault)
-    (found : Result Y Fault) → IsErrAnd result (λ e. e ≡ fault) → (fault ≢ Memory → found ≡ Err (fault_view fault))
+    (found : Result Y SearchFault) → IsErrAnd result (λ e. e ≡ fault) → (fault ≢ Memory → found ≡ Err (fault_view fault))
     → Finds view result found
 finds-fault view (Ok x) fault found is first = absurd is
 finds-fault view (Err e) fault found is first = subst (λ f. f ≢ Memory → found ≡ Err (fault_view f)) (sym is) first
 
 module _ (vars : List Var) (is_port : Bool) (names : NamesOf) (n : ℕ) (bus : Bus) (here rest : List Bus)
-    (is : here ≡ bus ∷ rest) (front : List LinkSources) (all : Result (List LinkSources) Fault) where
-  others : Result (List LinkSources) Fault
+    (is : here ≡ bus ∷ rest) (front : List LinkSources) (all : Result (List LinkSources) SearchFault) where
+  others : Result (List LinkSources) SearchFault
   others = each (link_sources vars) (numbered is_port names (n + 1) rest)
 
   -- what all links find, by the names of the first of them
@@ -44,18 +45,18 @@ module _ (vars : List Var) (is_port : Bool) (names : NamesOf) (n : ℕ) (bus : B
       (named_before is_port n bus own (numbered is_port names (n + 1) rest)))) has) ∙ so_far
 
   -- and by what these find
-  by-sources : (own : List (List ℕ)) (found : Result (List Source) Fault) → names_at names n ≡ Some own
+  by-sources : (own : List (List ℕ)) (found : Result (List Source) SearchFault) → names_at names n ≡ Some own
       → sources_of vars (owner_of (link_at is_port n)) (bus_bytes bus) own ≡ found
       → with_front front (links_from vars is_port names n here) ≡ all
       → with_front front ((found >>= (λ sources. Ok (record { link = link_at is_port n; sources = sources })))
       >>= (λ one. others >>= (λ more. Ok (one ∷ more)))) ≡ all
   unfolding others
   by-sources own found has finds so_far =
-      sym (ap (λ (found : Result (List Source) Fault). with_front front
+      sym (ap (λ (found : Result (List Source) SearchFault). with_front front
       ((found >>= (λ sources. Ok (record { link = link_at is_port n; sources = sources })))
       >>= (λ one. others >>= (λ more. Ok (one ∷ more))))) finds) ∙ by-names (Some own) has so_far
 
-  pub link-fails : (own : List (List ℕ)) (fault : Fault) → names_at names n ≡ Some own
+  pub link-fails : (own : List (List ℕ)) (fault : SearchFault) → names_at names n ≡ Some own
       → sources_of vars (owner_of (link_at is_port n)) (bus_bytes bus) own ≡ Err fault
       → with_front front (links_from vars is_port names n here) ≡ all → all ≡ Err fault
   link-fails own fault has finds so_far = sym (by-sources own (Err fault) has finds so_far)
@@ -76,7 +77,7 @@ module _ (vars : List Var) (is_port : Bool) (names : NamesOf) (n : ℕ) (bus : B
       one : LinkSources
       one = record { link = link_at is_port n; sources = sources }
 
-      go : (more : Result (List LinkSources) Fault)
+      go : (more : Result (List LinkSources) SearchFault)
           → with_front front (more >>= (λ more. Ok (one ∷ more))) ≡ with_front (front ++ (one ∷ [])) more
       go (Err fault) = refl
       go (Ok more) = ap Ok (sym (append_assoc front (one ∷ []) more))

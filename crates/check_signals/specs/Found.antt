@@ -4,6 +4,7 @@ use Rattle.std.specs.Prelude.{◌≡◌, ℕ, ◌+◌, ◌==◌, ◌&&◌, Bool,
 use Rattle.std.specs.Global.{Global}
 use Rattle.std.specs.List.{filter_map, flat_map, list_any, zip}
 use Rattle.std.specs.Str.{bytes_eq}
+use Rattle.tl_text.specs.Reading.{◌>>=◌, each, if_any}
 use Rattle.check_beats.specs.Bus.{bus_bytes}
 use Rattle.check_beats.specs.declared.bus.Bus.{Bus}
 use Rattle.check_watch.specs.declared.beat.Link.{Link}
@@ -21,52 +22,32 @@ use Rattle.check_samples.specs.declared.channel.Channel.{Channel}
 use Rattle.check_samples.specs.declared.sampler.Reset.{Reset}
 use Rattle.check_samples.specs.declared.signal.Signal.{Signal}
 use Rattle.check_samples.specs.declared.tap.Tap.{Tap}
-use Rattle.check_signals.specs.Names.{Names}
-use Rattle.check_signals.specs.Source.{Asked, Fault, Kept, Changing, Constant, Source, source_in, source_view}
+use Rattle.check_signals.specs.Names.{SignalNames}
+use Rattle.check_signals.specs.Source.{WantedSignal, SearchFault, Kept, Changing, Constant, Source, source_in, source_view}
 use Rattle.check_signals.specs.Wanted.{wanted_of}
 use Rattle.check_signals.specs.declared.keys.TheConstants.{SIGNALS}
 use Rattle.check_signals.specs.declared.links.LinkSources as code_links
 use Rattle.check_signals.specs.declared.resolve.Resolved as code_resolved
 use Rattle.check_signals.specs.declared.resolve.Sources as code_sources
-use Rattle.check_signals.specs.declared.signal_fault.Owner.{Owner}
-use Rattle.check_signals.specs.declared.signal_fault.Owner.TheVariants as owner
+use Rattle.check_signals.specs.declared.signal_fault.SignalOwner.{SignalOwner}
+use Rattle.check_signals.specs.declared.signal_fault.SignalOwner.TheVariants as owner
 use Rattle.check_signals.specs.declared.wanted.Wanted.TheVariants.{AtMost}
-
-infixl 10 ◌>>=◌
--- the first, and if it has no fault, the second on what it gave
-abbrev pub ◌>>=◌ : {A B : Type 0} → Result A Fault → (A → Result B Fault) → Result B Fault
-(Ok x) >>= f = f x
-(Err e) >>= f = Err e
-
--- each of the values in order, or the fault of the first that has one
-abbrev pub each : {A B : Type 0} → (A → Result B Fault) → List A → Result (List B) Fault
-each f [] = Ok []
-each f (x ∷ xs) = f x >>= (λ y. each f xs >>= (λ ys. Ok (y ∷ ys)))
-
--- the value that is there, looked for; none if none is there
-abbrev pub if_any : {A B : Type 0} → (A → Result B Fault) → Option A → Result (Option B) Fault
-if_any f None = Ok None
-if_any f (Some x) = f x >>= (λ y. Ok (Some y))
-
--- what was found, and then the rest
-abbrev pub with_front : {B : Type 0} → List B → Result (List B) Fault → Result (List B) Fault
-with_front front rest = rest >>= (λ more. Ok (front ++ more))
 
 -- ---- what the names find
 
 -- the clock and the reset have one bit
-abbrev pub system_source : List Var → List ℕ → Result Source Fault
+abbrev pub system_source : List Var → List ℕ → Result Source SearchFault
 system_source vars name = source_in vars (record { owner = owner.System; name = name; wanted = AtMost 1 })
 
 -- the signals of a link whose bus has so many bytes, in the order of their names
-abbrev pub asked_by : Owner → ℕ → Signal × List ℕ → Asked
+abbrev pub asked_by : SignalOwner → ℕ → Signal × List ℕ → WantedSignal
 asked_by whose bus named = record { owner = whose; name = named.1; wanted = wanted_of named.0 bus }
 
-abbrev pub asked_of : Owner → ℕ → List Signal → List (List ℕ) → List Asked
-asked_of whose bus signals names = map (asked_by whose bus) (zip signals names)
+abbrev pub signals_asked : SignalOwner → ℕ → List Signal → List (List ℕ) → List WantedSignal
+signals_asked whose bus signals names = map (asked_by whose bus) (zip signals names)
 
-abbrev pub sources_of : List Var → Owner → ℕ → List (List ℕ) → Result (List Source) Fault
-sources_of vars whose bus names = each (source_in vars) (asked_of whose bus SIGNALS names)
+abbrev pub sources_of : List Var → SignalOwner → ℕ → List (List ℕ) → Result (List Source) SearchFault
+sources_of vars whose bus names = each (source_in vars) (signals_asked whose bus SIGNALS names)
 
 -- a link, and what the names of its signals find
 pub record LinkSources : Type 0 where
@@ -77,7 +58,7 @@ abbrev pub link_at : Bool → ℕ → Link
 link_at true number = link.Port number
 link_at false number = link.Master number
 
-abbrev pub owner_of : Link → Owner
+abbrev pub owner_of : Link → SignalOwner
 owner_of (link.Port number) = owner.Port number
 owner_of (link.Master number) = owner.Master number
 
@@ -107,16 +88,16 @@ numbered is_port names number [] = []
 numbered is_port names number (bus ∷ buses) =
     named_before is_port number bus (names_at names number) (numbered is_port names (number + 1) buses)
 
-abbrev pub link_sources : List Var → NamedLink → Result LinkSources Fault
+abbrev pub link_sources : List Var → NamedLink → Result LinkSources SearchFault
 link_sources vars named =
     sources_of vars (owner_of named.link) (bus_bytes named.bus) named.names
     >>= (λ sources. Ok (record { link = named.link; sources = sources }))
 
-unfoldable pub links_from : List Var → Bool → NamesOf → ℕ → List Bus → Result (List LinkSources) Fault
+unfoldable pub links_from : List Var → Bool → NamesOf → ℕ → List Bus → Result (List LinkSources) SearchFault
 links_from vars is_port names number buses = each (link_sources vars) (numbered is_port names number buses)
 
 -- what all names find: those of the clock, of the reset, and of the signals of each link
-pub record Sources : Type 0 where
+pub record FoundSources : Type 0 where
   pub clock : Source
   pub reset : Option Source
   pub ports : List LinkSources
@@ -124,7 +105,7 @@ pub record Sources : Type 0 where
 
 -- or the first fault: System's signals first, then port by port and master by master those of its link. The masters'
 -- links and the ports' have these buses
-unfoldable pub sources_in : List Var → List Bus → List Bus → Names → Result Sources Fault
+unfoldable pub sources_in : List Var → List Bus → List Bus → SignalNames → Result FoundSources SearchFault
 sources_in vars of_masters of_ports names = do
   clock ← system_source vars names.clock
   reset ← if_any (system_source vars) names.reset
@@ -158,25 +139,25 @@ abbrev pub all_by : Source → Option Source → List Source → List Source
 all_by clock None others = clock ∷ others
 all_by clock (Some reset) others = clock ∷ reset ∷ others
 
-abbrev pub all_of : Sources → List Source
+abbrev pub all_of : FoundSources → List Source
 all_of sources = all_by sources.clock sources.reset (flat sources.ports ++ flat sources.masters)
 
-unfoldable pub kept_of : List Source → List Kept
-kept_of sources = distinct [] (map (λ source. source.kept) sources)
+unfoldable pub values_kept : List Source → List Kept
+values_kept sources = distinct [] (map (λ source. source.kept) sources)
 
 -- the place of a value among those that are kept: its slot
-abbrev pub place_of : List Kept → Kept → ℕ
-place_of [] value = 0
-place_of (other ∷ kept) value = if is_same other value then 0 else place_of kept value + 1
+abbrev pub slot_place : List Kept → Kept → ℕ
+slot_place [] value = 0
+slot_place (other ∷ kept) value = if is_same other value then 0 else slot_place kept value + 1
 
 abbrev pub tap_by : List Kept → Source → Tap
-tap_by kept source = record { slot = place_of kept source.kept; from = source.from; to = source.to }
+tap_by kept source = record { slot = slot_place kept source.kept; from = source.from; to = source.to }
 
 -- ---- what is looked at
 
 -- the channels of a link, by the taps of its signals in the order of their names
-abbrev pub pair_of : Link → List Tap → Option (Channel × Channel)
-pair_of link (a_valid ∷ a_ready ∷ a_opcode ∷ a_param ∷ a_size ∷ a_source ∷ a_address ∷ a_mask ∷ a_data
+abbrev pub channels_of_link : Link → List Tap → Option (Channel × Channel)
+channels_of_link link (a_valid ∷ a_ready ∷ a_opcode ∷ a_param ∷ a_size ∷ a_source ∷ a_address ∷ a_mask ∷ a_data
     ∷ d_valid ∷ d_ready ∷ d_opcode ∷ d_size ∷ d_source ∷ d_data ∷ d_denied ∷ d_corrupt ∷ []) = Some (
       record {
         link = link;
@@ -206,13 +187,13 @@ pair_of link (a_valid ∷ a_ready ∷ a_opcode ∷ a_param ∷ a_size ∷ a_sour
         });
       },
     )
-pair_of link taps = None
+channels_of_link link taps = None
 
 abbrev pub pair_at : List Kept → LinkSources → Option (Channel × Channel)
-pair_at kept found = pair_of found.link (map (tap_by kept) found.sources)
+pair_at kept found = channels_of_link found.link (map (tap_by kept) found.sources)
 
-abbrev pub pairs_of : List Kept → List LinkSources → List (Channel × Channel)
-pairs_of kept links = filter_map (pair_at kept) links
+abbrev pub channel_pairs : List Kept → List LinkSources → List (Channel × Channel)
+channel_pairs kept links = filter_map (pair_at kept) links
 
 -- the order in which beats cross within one time
 abbrev pub in_order : List (Channel × Channel) → List (Channel × Channel) → List Channel
@@ -229,22 +210,22 @@ pub record Found : Type 0 where
   pub probes : Probes
   pub kept : List Kept
 
-abbrev pub found_by : List Kept → Bool → Sources → Found
+abbrev pub found_by : List Kept → Bool → FoundSources → Found
 found_by kept is_low sources = record {
   probes = record {
     clock = tap_by kept sources.clock;
     reset = reset_by kept is_low sources.reset;
-    channels = in_order (pairs_of kept sources.ports) (pairs_of kept sources.masters);
+    channels = in_order (channel_pairs kept sources.ports) (channel_pairs kept sources.masters);
   };
   kept = kept;
 }
 
-abbrev pub found_of : Bool → Sources → Found
-found_of is_low sources = found_by (kept_of (all_of sources)) is_low sources
+abbrev pub found_of : Bool → FoundSources → Found
+found_of is_low sources = found_by (values_kept (all_of sources)) is_low sources
 
 -- what the names of a system file find among the signals of a header, or the first fault, where the masters' links and
 -- the ports' have these buses
-unfoldable pub found_in : List Var → List Bus → List Bus → Names → Result Found Fault
+unfoldable pub found_in : List Var → List Bus → List Bus → SignalNames → Result Found SearchFault
 found_in vars masters ports names =
     sources_in vars masters ports names >>= (λ sources. Ok (found_of names.is_low sources))
 
@@ -294,7 +275,7 @@ link_sources_view found = record { link = found.link; sources = map source_view 
 abbrev pub links_view : Vec code_links.LinkSources Global → List LinkSources
 links_view links = map link_sources_view links.items
 
-abbrev pub sources_view : code_sources.Sources → Sources
+abbrev pub sources_view : code_sources.Sources → FoundSources
 sources_view sources = record {
   clock = source_view sources.clock;
   reset = option_map source_view sources.reset;
@@ -315,6 +296,6 @@ pub record IsResolved (resolved : code_resolved.Resolved) (found : Found) : Type
   pub codes : codes_view resolved.codes ≡ map code_in found.kept
 
 -- what was found is looked at and kept
-abbrev pub IsFound : Result Found Fault → code_resolved.Resolved → Type 0
+abbrev pub IsFound : Result Found SearchFault → code_resolved.Resolved → Type 0
 IsFound (Ok found) resolved = IsResolved resolved found
 IsFound (Err fault) resolved = ⊥

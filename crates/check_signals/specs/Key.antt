@@ -1,14 +1,14 @@
 -- The keys of a system file that say where signals are. This project's own.
 use Rattle.std.specs.Prelude.{ℕ, List, codes}
-use Rattle.check_signals.specs.declared.fault.Key.{Key}
-use Rattle.check_signals.specs.declared.fault.Key.TheVariants.{Port, Master, Clock, Reset, ResetActive, Signals, Wires}
+use Rattle.check_signals.specs.declared.fault.SignalKey.{SignalKey}
+use Rattle.check_signals.specs.declared.fault.SignalKey.TheVariants.{Port, Master, Clock, Reset, ResetActive, Signals, Wires}
 
 -- the key, as a file has it
-abbrev pub key_name : Key → List ℕ
-key_name Port = codes "port"
-key_name Master = codes "master"
-key_name Clock = codes "clock"
-key_name Reset = codes "reset"
-key_name ResetActive = codes "reset_active"
-key_name Signals = codes "signals"
-key_name Wires = codes "wires"
+abbrev pub signal_key_name : SignalKey → List ℕ
+signal_key_name Port = codes "port"
+signal_key_name Master = codes "master"
+signal_key_name Clock = codes "clock"
+signal_key_name Reset = codes "reset"
+signal_key_name ResetActive = codes "reset_active"
+signal_key_name Signals = codes "signals"
+signal_key_name Wires = codes "wires"

@@ -6,40 +6,25 @@ use Rattle.std.specs.Prelude.{Vec}
 use Rattle.std.specs.Global.{Global}
 use Rattle.toml.specs.Data.{Data, Members, get_member, as_array, as_str, as_table}
 use Rattle.toml.specs.Parse.{parse_document}
+use Rattle.tl_text.specs.Reading.{◌>>=◌, each, if_any}
 use Rattle.tl_script.specs.Value.{list_of}
-use Rattle.check_samples.specs.Signal.{name_of}
+use Rattle.check_samples.specs.Signal.{signal_name}
 use Rattle.check_samples.specs.declared.signal.Signal.{Signal}
-use Rattle.check_signals.specs.Key.{key_name}
-use Rattle.check_signals.specs.declared.fault.Key.{Key}
-use Rattle.check_signals.specs.declared.fault.Key.TheVariants.{Port, Master, Clock, Reset, ResetActive, Signals, Wires}
+use Rattle.check_signals.specs.Key.{signal_key_name}
+use Rattle.check_signals.specs.declared.fault.SignalKey.{SignalKey}
+use Rattle.check_signals.specs.declared.fault.SignalKey.TheVariants.{Port, Master, Clock, Reset, ResetActive, Signals, Wires}
 use Rattle.check_signals.specs.declared.fault.KeyFault.{KeyFault}
 use Rattle.check_signals.specs.declared.fault.KeyFault.TheVariants.{NotToml, Missing, WrongType, OutOfRange, Memory}
-use Rattle.check_signals.specs.declared.keys.Names as code_names
+use Rattle.check_signals.specs.declared.keys.SignalNames as code_names
 use Rattle.check_signals.specs.declared.keys.TheConstants.{SIGNALS}
-
-infixl 10 ◌>>=◌
--- the first, and if it has no fault, the second on what it gave
-abbrev pub ◌>>=◌ : {A B : Type 0} → Result A KeyFault → (A → Result B KeyFault) → Result B KeyFault
-(Ok x) >>= f = f x
-(Err e) >>= f = Err e
-
--- each of the values in order, or the fault of the first that has one
-abbrev pub each : {A B : Type 0} → (A → Result B KeyFault) → List A → Result (List B) KeyFault
-each f [] = Ok []
-each f (x ∷ xs) = f x >>= (λ y. each f xs >>= (λ ys. Ok (y ∷ ys)))
-
--- the value that is there, read; none if none is there
-abbrev pub if_any : {A B : Type 0} → (A → Result B KeyFault) → Option A → Result (Option B) KeyFault
-if_any f None = Ok None
-if_any f (Some x) = f x >>= (λ y. Ok (Some y))
 
 -- ---- values
 
-abbrev pub text_of : Key → Data → Result (List ℕ) KeyFault
-text_of key value = ok_or (as_str value) (WrongType key)
+abbrev pub signal_text_of : SignalKey → Data → Result (List ℕ) KeyFault
+signal_text_of key value = ok_or (as_str value) (WrongType key)
 
-abbrev pub optional_text : Key → Members → Result (Option (List ℕ)) KeyFault
-optional_text key members = if_any (text_of key) (get_member (key_name key) members)
+abbrev pub optional_text : SignalKey → Members → Result (Option (List ℕ)) KeyFault
+optional_text key members = if_any (signal_text_of key) (get_member (signal_key_name key) members)
 
 -- whether the reset is active where it is 0
 abbrev pub is_low_by : Option (List ℕ) → Result Bool KeyFault
@@ -55,27 +40,22 @@ is_low_in members = optional_text ResetActive members >>= is_low_by
 -- ---- a link
 
 abbrev pub wires_in : Members → Result (Option Members) KeyFault
-wires_in members = if_any (λ value. ok_or (as_table value) (WrongType Wires)) (get_member (key_name Wires) members)
+wires_in members = if_any (λ value. ok_or (as_table value) (WrongType Wires)) (get_member (signal_key_name Wires) members)
 
 -- the name of a signal: that of its wire, or else the prefix with the specification's name
 abbrev pub name_by : List ℕ → Signal → Option Data → Result (List ℕ) KeyFault
-name_by prefix which None = Ok (prefix ++ name_of which)
-name_by prefix which (Some value) = text_of Wires value
+name_by prefix which None = Ok (prefix ++ signal_name which)
+name_by prefix which (Some value) = signal_text_of Wires value
 
 abbrev pub wire_in : Option Members → Signal → Option Data
 wire_in None which = None
-wire_in (Some wires) which = get_member (name_of which) wires
+wire_in (Some wires) which = get_member (signal_name which) wires
 
 abbrev pub name_in : List ℕ → Option Members → Signal → Result (List ℕ) KeyFault
 name_in prefix wires which = name_by prefix which (wire_in wires which)
 
 abbrev pub names_in : List ℕ → Option Members → Result (List (List ℕ)) KeyFault
 names_in prefix wires = each (name_in prefix wires) SIGNALS
-
--- the names of a link's signals, if its table gives a prefix or wires
--- what was read, and then the rest
-abbrev pub with_front : {B : Type 0} → List B → Result (List B) KeyFault → Result (List B) KeyFault
-with_front front rest = rest >>= (λ more. Ok (front ++ more))
 
 abbrev pub some_names_in : List ℕ → Option Members → Result (Option (List (List ℕ))) KeyFault
 some_names_in prefix wires = names_in prefix wires >>= (λ names. Ok (Some names))
@@ -91,21 +71,21 @@ link_in members = do
   wires ← wires_in members
   link_by prefix wires
 
-unfoldable pub link_of : Key → Data → Result (Option (List (List ℕ))) KeyFault
+unfoldable pub link_of : SignalKey → Data → Result (Option (List (List ℕ))) KeyFault
 link_of key value = ok_or (as_table value) (WrongType key) >>= link_in
 
 -- the links of a kind, of which there may be none
-abbrev pub links_by : Key → Option Data → Result (List (Option (List (List ℕ)))) KeyFault
+abbrev pub links_by : SignalKey → Option Data → Result (List (Option (List (List ℕ)))) KeyFault
 links_by key None = Ok []
 links_by key (Some value) = ok_or (as_array value) (WrongType key) >>= (λ items. each (link_of key) (list_of items))
 
-unfoldable pub links_in : Key → Members → Result (List (Option (List (List ℕ)))) KeyFault
-links_in key members = links_by key (get_member (key_name key) members)
+unfoldable pub links_in : SignalKey → Members → Result (List (Option (List (List ℕ)))) KeyFault
+links_in key members = links_by key (get_member (signal_key_name key) members)
 
 -- ---- a file
 
 -- the names of the clock and the reset, whether this is active at 0, and the names of each link's signals
-pub record Names : Type 0 where
+pub record SignalNames : Type 0 where
   pub clock : List ℕ
   pub reset : Option (List ℕ)
   pub is_low : Bool
@@ -115,7 +95,7 @@ pub record Names : Type 0 where
 abbrev pub clock_in : Members → Result (List ℕ) KeyFault
 clock_in members = optional_text Clock members >>= (λ clock. ok_or clock (Missing Clock))
 
-unfoldable pub all_names : Members → Result Names KeyFault
+unfoldable pub all_names : Members → Result SignalNames KeyFault
 all_names members = do
   clock ← clock_in members
   reset ← optional_text Reset members
@@ -124,20 +104,20 @@ all_names members = do
   masters ← links_in Master members
   Ok (record { clock = clock; reset = reset; is_low = is_low; ports = ports; masters = masters })
 
-unfoldable pub names_of_file : List ℕ → Result Names KeyFault
+unfoldable pub names_of_file : List ℕ → Result SignalNames KeyFault
 names_of_file bytes =
     if is_utf8 bytes then ok_or (parse_document bytes) NotToml >>= all_names else Err NotToml
 
 -- ---- what calls answer
 
 -- a call answers what the definition gives, unless memory runs out
-abbrev pub Gives : {X Y : Type 0} → (X → Y) → Result X KeyFault → Result Y KeyFault → Type 0
-Gives view result read = MatchResult result (λ x. read ≡ Ok (view x)) (λ e. e ≢ Memory → read ≡ Err e)
+abbrev pub GivesNames : {X Y : Type 0} → (X → Y) → Result X KeyFault → Result Y KeyFault → Type 0
+GivesNames view result read = MatchResult result (λ x. read ≡ Ok (view x)) (λ e. e ≢ Memory → read ≡ Err e)
 
 abbrev pub link_view : Option (Vec (Vec ℕ Global) Global) → Option (List (List ℕ))
 link_view link = option_map (λ names. map (λ name. name.items) names.items) link
 
-abbrev pub names_view : code_names.Names → Names
+abbrev pub names_view : code_names.SignalNames → SignalNames
 names_view names = record {
   clock = names.clock.items;
   reset = option_map (λ name. name.items) names.reset;

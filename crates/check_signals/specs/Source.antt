@@ -8,10 +8,10 @@ use Rattle.check_vcd.specs.declared.codes.Coded.{Coded}
 use Rattle.check_signals.specs.Nearest.{nearest}
 use Rattle.check_signals.specs.Wanted.{bits_fit, count_of}
 use Rattle.check_signals.specs.Wires.{Wire, first_of, wires_called}
-use Rattle.check_signals.specs.declared.signal_fault.Owner.{Owner}
+use Rattle.check_signals.specs.declared.signal_fault.SignalOwner.{SignalOwner}
 use Rattle.check_signals.specs.declared.signal_fault.SignalFault.{SignalFault}
 use Rattle.check_signals.specs.declared.signal_fault.SignalFault.TheVariants as code_fault
-use Rattle.check_signals.specs.declared.source.Asked as code_asked
+use Rattle.check_signals.specs.declared.source.WantedSignal as code_asked
 use Rattle.check_signals.specs.declared.source.Kept as code_kept
 use Rattle.check_signals.specs.declared.source.Kept.TheVariants as kept
 use Rattle.check_signals.specs.declared.source.Source as code_source
@@ -19,18 +19,18 @@ use Rattle.check_signals.specs.declared.source.TheConstants.{MAX_WIDTH}
 use Rattle.check_signals.specs.declared.wanted.Wanted.{Wanted}
 
 -- a signal that is looked for: whose it is, its name, and how many bits it has to have
-pub record Asked : Type 0 where
-  pub owner : Owner
+pub record WantedSignal : Type 0 where
+  pub owner : SignalOwner
   pub name : List ℕ
   pub wanted : Wanted
 
 -- why it is not found: no signal has the name, and this is the nearest one; two have it, and identifiers of their own; or it
 -- has so many bits, and not those that are wanted. Or memory was refused, which no definition here says of anything
-pub data Fault : Type 0 where
-  NoSignal : Owner → List ℕ → Option (List ℕ) → Fault
-  Twice : Owner → List ℕ → Fault
-  Width : Owner → List ℕ → ℕ → ℕ → Fault
-  Refused : Fault
+pub data SearchFault : Type 0 where
+  NoSignal : SignalOwner → List ℕ → Option (List ℕ) → SearchFault
+  Twice : SignalOwner → List ℕ → SearchFault
+  Width : SignalOwner → List ℕ → ℕ → ℕ → SearchFault
+  Refused : SearchFault
 
 -- a value that is kept: that of an identifier, or a constant, which has this digit; and how many bits it has
 pub data Kept : Type 0 where
@@ -63,14 +63,14 @@ width_by (Some coded) = coded.width
 abbrev pub width_of : List Var → List ℕ → ℕ
 width_of vars code = width_by (coded_in vars code)
 
-abbrev pub missing : List Var → Asked → Fault
+abbrev pub missing : List Var → WantedSignal → SearchFault
 missing vars asked = NoSignal asked.owner asked.name (nearest asked.name (map (λ var. var.name) vars))
 
-abbrev pub too_wide : Asked → ℕ → ℕ → Fault
+abbrev pub too_wide : WantedSignal → ℕ → ℕ → SearchFault
 too_wide asked bits wanted = Width asked.owner asked.name bits wanted
 
 -- the bits of a wire within the values of its identifier, whose lowest bits are the signal
-abbrev pub within : List Var → Asked → Wire → ℕ → Result Source Fault
+abbrev pub within : List Var → WantedSignal → Wire → ℕ → Result Source SearchFault
 within vars asked wire width =
     if nat_lt MAX_WIDTH width then Err (too_wide asked width MAX_WIDTH)
     else if nat_lt width wire.var.width then Err (missing vars asked)
@@ -81,35 +81,35 @@ within vars asked wire width =
     })
 
 -- a wire that has as many bits as are wanted
-abbrev pub measured : List Var → Asked → Wire → Result Source Fault
+abbrev pub measured : List Var → WantedSignal → Wire → Result Source SearchFault
 measured vars asked wire =
     let bits = wire.places.to - wire.places.from in
     if bits_fit asked.wanted bits then within vars asked wire (width_of vars wire.var.code)
     else Err (too_wide asked bits (count_of asked.wanted))
 
 -- the first of the wires that a name means: all of them have its identifier
-abbrev pub alone : List Var → Asked → List Wire → Option Wire → Result Source Fault
+abbrev pub alone : List Var → WantedSignal → List Wire → Option Wire → Result Source SearchFault
 alone vars asked wires None = Err (missing vars asked)
 alone vars asked wires (Some wire) =
     if list_any (λ other. not (bytes_eq other.var.code wire.var.code)) wires then Err (Twice asked.owner asked.name)
     else measured vars asked wire
 
-abbrev pub signal_in : List Var → Asked → Result Source Fault
+abbrev pub signal_in : List Var → WantedSignal → Result Source SearchFault
 signal_in vars asked =
     let wires = wires_called vars asked.name in alone vars asked wires (first_of wires)
 
 -- ---- what a name finds
 
-abbrev pub source_by : List Var → Asked → Option ℕ → Result Source Fault
+abbrev pub source_by : List Var → WantedSignal → Option ℕ → Result Source SearchFault
 source_by vars asked (Some digit) = Ok (constant_of digit (count_of asked.wanted))
 source_by vars asked None = signal_in vars asked
 
-unfoldable pub source_in : List Var → Asked → Result Source Fault
+unfoldable pub source_in : List Var → WantedSignal → Result Source SearchFault
 source_in vars asked = source_by vars asked (digit_in asked.name)
 
 -- ---- what calls answer
 
-abbrev pub asked_view : code_asked.Asked → Asked
+abbrev pub asked_view : code_asked.WantedSignal → WantedSignal
 asked_view asked = record { owner = asked.owner; name = asked.name.now; wanted = asked.wanted }
 
 abbrev pub kept_view : code_kept.Kept → Kept
@@ -120,13 +120,13 @@ abbrev pub source_view : code_source.Source → Source
 source_view source = record { kept = kept_view source.kept; from = source.from; to = source.to }
 
 -- a fault, with its texts as lists
-abbrev pub fault_view : SignalFault → Fault
+abbrev pub fault_view : SignalFault → SearchFault
 fault_view (code_fault.NoSignal owner name near) = NoSignal owner name.items (option_map (λ near. near.items) near)
 fault_view (code_fault.Twice owner name) = Twice owner name.items
 fault_view (code_fault.Width owner name bits wanted) = Width owner name.items bits wanted
 fault_view code_fault.Memory = Refused
 
 -- a call answers what the definition finds, or its fault, unless memory ran out
-abbrev pub Finds : {X Y : Type 0} → (X → Y) → Result X SignalFault → Result Y Fault → Type 0
+abbrev pub Finds : {X Y : Type 0} → (X → Y) → Result X SignalFault → Result Y SearchFault → Type 0
 Finds view result found =
     MatchResult result (λ x. found ≡ Ok (view x)) (λ e. e ≢ code_fault.Memory → found ≡ Err (fault_view e))

@@ -1,6 +1,6 @@
 //! Why it is not known where signals are.
 ghost use Rattle.std.specs.Prelude.{◌≡◌, Some};
-ghost use Rattle.check_signals.specs.Key.{key_name};
+ghost use Rattle.check_signals.specs.Key.{signal_key_name};
 ghost use Rattle.check_signals.specs.declared.fault.KeyFault.TheVariants.{Memory};
 
 use std::alloc::{AllocError, AllocFailed};
@@ -9,7 +9,7 @@ use thiserror::Error;
 
 /// A key of a system file that says where signals are.
 #[derive(Debug, Clone, Copy, PartialEq, Eq)]
-pub enum Key {
+pub enum SignalKey {
     Port,
     Master,
     Clock,
@@ -19,25 +19,25 @@ pub enum Key {
     Wires,
 }
 
-impl Key {
+impl SignalKey {
     /// The key, as a file has it.
     pub fn name(self) -> &'static str
-        ensures { result.now ≡ key_name self }
+        ensures { result.now ≡ signal_key_name self }
     {
         match self {
-            Key::Port => "port",
-            Key::Master => "master",
-            Key::Clock => "clock",
-            Key::Reset => "reset",
-            Key::ResetActive => "reset_active",
-            Key::Signals => "signals",
-            Key::Wires => "wires",
+            SignalKey::Port => "port",
+            SignalKey::Master => "master",
+            SignalKey::Clock => "clock",
+            SignalKey::Reset => "reset",
+            SignalKey::ResetActive => "reset_active",
+            SignalKey::Signals => "signals",
+            SignalKey::Wires => "wires",
         }
     }
 }
 
-impl fmt::Display for Key {
-    ghost output = { λ key. Some (key_name key) };
+impl fmt::Display for SignalKey {
+    ghost output = { λ key. Some (signal_key_name key) };
 
     fn fmt<W: fmt::Write>(&self, f: &mut fmt::Formatter<W>) -> fmt::Result {
         f.write_str(self.name())
@@ -50,11 +50,11 @@ pub enum KeyFault {
     #[error("system: not TOML")]
     NotToml,
     #[error("system: missing {0}")]
-    Missing(Key),
+    Missing(SignalKey),
     #[error("system: wrong type of {0}")]
-    WrongType(Key),
+    WrongType(SignalKey),
     #[error("system: {0} out of range")]
-    OutOfRange(Key),
+    OutOfRange(SignalKey),
     #[error("memory refused")]
     Memory,
 }

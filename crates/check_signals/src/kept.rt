@@ -1,6 +1,6 @@
 //! What is kept of a dump, each value in a slot of its own.
 ghost use Rattle.std.specs.Prelude.{◌≡◌, IfOk, map};
-ghost use Rattle.check_signals.specs.Found.{is_kept, is_same, kept_of as kept_in, place_of, tap_by};
+ghost use Rattle.check_signals.specs.Found.{is_kept, is_same, values_kept as kept_in, slot_place, tap_by};
 ghost use Rattle.check_signals.specs.Source.{kept_view, source_view};
 
 use crate::source::{Kept, Source};
@@ -33,8 +33,8 @@ fn is_kept(kept: &[Kept<'_>], value: Kept<'_>) -> bool
 }
 
 /// What is kept of these sources: the value of each, once.
-#[tactic(auto, unfolding(crate::specs::Found::kept_of))]
-pub(crate) fn kept_of<'a>(
+#[tactic(auto, unfolding(crate::specs::Found::values_kept))]
+pub(crate) fn values_kept<'a>(
     alloc: Global,
     sources: &[Source<'a>],
 ) -> Result<Vec<Kept<'a>>, AllocError>
@@ -50,8 +50,8 @@ pub(crate) fn kept_of<'a>(
 }
 
 /// The place of a value among those that are kept.
-fn place_of(kept: &[Kept<'_>], value: Kept<'_>) -> usize
-    ensures { result ≡ place_of (map kept_view kept.now) (kept_view value.entry) }
+fn slot_place(kept: &[Kept<'_>], value: Kept<'_>) -> usize
+    ensures { result ≡ slot_place (map kept_view kept.now) (kept_view value.entry) }
 {
     for (place, other) in kept.iter().enumerate() {
         if is_same(*other, value) {
@@ -66,7 +66,7 @@ pub(crate) fn tap_by(kept: &[Kept<'_>], source: Source<'_>) -> Tap
     ensures { result ≡ tap_by (map kept_view kept.now) (source_view source.entry) }
 {
     Tap {
-        slot: place_of(kept, source.kept),
+        slot: slot_place(kept, source.kept),
         from: source.from as usize,
         to: source.to as usize,
     }

@@ -2,11 +2,12 @@
 ghost use Rattle.std.specs.Prelude.{◌≡◌, ◌++◌, Ok, map, option_map};
 ghost use Rattle.toml.specs.Data.{get_member};
 ghost use Rattle.toml.specs.View.{table_view, view};
-ghost use Rattle.check_samples.specs.Signal.{name_of as name_of_signal};
-ghost use Rattle.check_signals.specs.Key.{key_name};
-ghost use Rattle.check_signals.specs.Names.{Gives, all_names as all_names_of, each, is_low_in, link_by, link_in, link_of, link_view, links_in, name_in, names_in, names_of_file, names_view, optional_text, some_names_in, text_of as text_in, wire_in, wires_in};
+ghost use Rattle.tl_text.specs.Reading.{each};
+ghost use Rattle.check_samples.specs.Signal.{signal_name as name_of_signal};
+ghost use Rattle.check_signals.specs.Key.{signal_key_name};
+ghost use Rattle.check_signals.specs.Names.{GivesNames, all_names as all_names_of, is_low_in, link_by, link_in, link_of, link_view, links_in, name_in, names_in, names_of_file, names_view, optional_text, some_names_in, signal_text_of as text_in, wire_in, wires_in};
 
-use crate::fault::{Key, KeyFault};
+use crate::fault::{KeyFault, SignalKey};
 use check_samples::Signal;
 use std::alloc::Global;
 use toml::{Table, Value};
@@ -37,7 +38,7 @@ pub type LinkNames = Vec<Vec<u8>>;
 
 /// The names that a system file gives: of the clock and the reset, and of each link's signals if it has any.
 #[derive(Debug, Drop)]
-pub struct Names {
+pub struct SignalNames {
     pub clock: Vec<u8>,
     pub reset: Option<Vec<u8>>,
     pub is_low: bool,
@@ -46,16 +47,16 @@ pub struct Names {
 }
 
 /// The value at a key, if it is there.
-fn find_value(table: &Table, key: Key) -> Option<&Value>
+fn find_value(table: &Table, key: SignalKey) -> Option<&Value>
     ensures { option_map (λ value. view value.now) result
-        ≡ get_member (key_name key) (table_view table.now) }
+        ≡ get_member (signal_key_name key) (table_view table.now) }
 {
     table.get(key.name())
 }
 
 /// The text of a value.
-fn text_of(value: &Value, key: Key) -> Result<&[u8], KeyFault>
-    ensures { Gives (λ text. text.now) result (text_in key (view value.now)) }
+fn text_of(value: &Value, key: SignalKey) -> Result<&[u8], KeyFault>
+    ensures { GivesNames (λ text. text.now) result (text_in key (view value.now)) }
 {
     match value.as_str() {
         Some(text) => Ok(text.as_bytes()),
@@ -64,8 +65,8 @@ fn text_of(value: &Value, key: Key) -> Result<&[u8], KeyFault>
 }
 
 /// The text at a key that may be absent.
-fn text_if_any(table: &Table, key: Key) -> Result<Option<&[u8]>, KeyFault>
-    ensures { Gives (option_map (λ text. text.now)) result (optional_text key (table_view table.now)) }
+fn text_if_any(table: &Table, key: SignalKey) -> Result<Option<&[u8]>, KeyFault>
+    ensures { GivesNames (option_map (λ text. text.now)) result (optional_text key (table_view table.now)) }
 {
     match find_value(table, key) {
         Some(value) => Ok(Some(text_of(value, key)?)),
@@ -75,31 +76,31 @@ fn text_if_any(table: &Table, key: Key) -> Result<Option<&[u8]>, KeyFault>
 
 /// Whether the reset is active where it is 0.
 fn read_is_low(table: &Table) -> Result<bool, KeyFault>
-    ensures { Gives (λ low. low) result (is_low_in (table_view table.now)) }
+    ensures { GivesNames (λ low. low) result (is_low_in (table_view table.now)) }
 {
-    match text_if_any(table, Key::ResetActive)? {
+    match text_if_any(table, SignalKey::ResetActive)? {
         None | Some(b"high") => Ok(false),
         Some(b"low") => Ok(true),
-        Some(_) => Err(KeyFault::OutOfRange(Key::ResetActive)),
+        Some(_) => Err(KeyFault::OutOfRange(SignalKey::ResetActive)),
     }
 }
 
 /// The table at the key of wires, if it is there.
 fn wires_if_any(table: &Table) -> Result<Option<&Table>, KeyFault>
-    ensures { Gives (option_map (λ wires. table_view wires.now)) result (wires_in (table_view table.now)) }
+    ensures { GivesNames (option_map (λ wires. table_view wires.now)) result (wires_in (table_view table.now)) }
 {
-    match find_value(table, Key::Wires) {
+    match find_value(table, SignalKey::Wires) {
         None => Ok(None),
         Some(value) => match value.as_table() {
             Some(wires) => Ok(Some(wires)),
-            None => Err(KeyFault::WrongType(Key::Wires)),
+            None => Err(KeyFault::WrongType(SignalKey::Wires)),
         },
     }
 }
 
 /// A prefix and a name together.
 fn joined(alloc: Global, prefix: &[u8], name: &[u8]) -> Result<Vec<u8>, KeyFault>
-    ensures { Gives (λ text. text.items) result (Ok (prefix.now ++ name.now)) }
+    ensures { GivesNames (λ text. text.items) result (Ok (prefix.now ++ name.now)) }
 {
     let mut text = Vec::from_slice(alloc, prefix)?;
     text.extend_from_slice(name)?;
@@ -132,11 +133,11 @@ fn name_of(
     wires: Option<&Table>,
     signal: Signal,
 ) -> Result<Vec<u8>, KeyFault>
-    ensures { Gives (λ text. text.items) result
+    ensures { GivesNames (λ text. text.items) result
         (name_in prefix.now (option_map (λ wires. table_view wires.now) wires.entry) signal) }
 {
     match wire_of(wires, signal) {
-        Some(value) => Ok(Vec::from_slice(alloc, text_of(value, Key::Wires)?)?),
+        Some(value) => Ok(Vec::from_slice(alloc, text_of(value, SignalKey::Wires)?)?),
         None => joined(alloc, prefix, signal.name().as_bytes()),
     }
 }
@@ -148,7 +149,7 @@ fn names_of(
     wires: Option<&Table>,
     signals: &[Signal],
 ) -> Result<LinkNames, KeyFault>
-    ensures { Gives (λ names. map (λ name. name.items) names.items) result
+    ensures { GivesNames (λ names. map (λ name. name.items) names.items) result
         (each (name_in prefix.now (option_map (λ wires. table_view wires.now) wires.entry)) signals.now) }
 {
     let mut names = Vec::with_capacity(alloc, signals.len())?;
@@ -160,7 +161,7 @@ fn names_of(
 
 /// The names of all signals of a link.
 fn all_names(alloc: Global, prefix: &[u8], wires: Option<&Table>) -> Result<LinkNames, KeyFault>
-    ensures { Gives (λ names. map (λ name. name.items) names.items) result
+    ensures { GivesNames (λ names. map (λ name. name.items) names.items) result
         (names_in prefix.now (option_map (λ wires. table_view wires.now) wires.entry)) }
 {
     names_of(alloc, prefix, wires, SIGNALS.as_slice())
@@ -172,7 +173,7 @@ fn some_names(
     prefix: &[u8],
     wires: Option<&Table>,
 ) -> Result<Option<LinkNames>, KeyFault>
-    ensures { Gives link_view result
+    ensures { GivesNames link_view result
         (some_names_in prefix.now (option_map (λ wires. table_view wires.now) wires.entry)) }
 {
     Ok(Some(all_names(alloc, prefix, wires)?))
@@ -184,7 +185,7 @@ fn names_if_any(
     prefix: Option<&[u8]>,
     wires: Option<&Table>,
 ) -> Result<Option<LinkNames>, KeyFault>
-    ensures { Gives link_view result (link_by (option_map (λ prefix. prefix.now) prefix.entry)
+    ensures { GivesNames link_view result (link_by (option_map (λ prefix. prefix.now) prefix.entry)
         (option_map (λ wires. table_view wires.now) wires.entry)) }
 {
     match prefix {
@@ -199,17 +200,21 @@ fn names_if_any(
 /// The names of the signals of the link that a table is of, if it gives any.
 #[tactic(auto, unfolding(crate::specs::Names::link_in))]
 fn link_names(alloc: Global, table: &Table) -> Result<Option<LinkNames>, KeyFault>
-    ensures { Gives link_view result (link_in (table_view table.now)) }
+    ensures { GivesNames link_view result (link_in (table_view table.now)) }
 {
-    let prefix = text_if_any(table, Key::Signals)?;
+    let prefix = text_if_any(table, SignalKey::Signals)?;
     let wires = wires_if_any(table)?;
     names_if_any(alloc, prefix, wires)
 }
 
 /// The names of the signals of each link of a kind, of which there may be none.
 #[tactic(auto, using(crate::proofs::Views::array_laws), unfolding(crate::specs::Names::links_in))]
-fn links_at(alloc: Global, table: &Table, key: Key) -> Result<Vec<Option<LinkNames>>, KeyFault>
-    ensures { Gives (λ links. map link_view links.items) result (links_in key (table_view table.now)) }
+fn links_at(
+    alloc: Global,
+    table: &Table,
+    key: SignalKey,
+) -> Result<Vec<Option<LinkNames>>, KeyFault>
+    ensures { GivesNames (λ links. map link_view links.items) result (links_in key (table_view table.now)) }
 {
     let Some(value) = find_value(table, key) else {
         return Ok(Vec::new(alloc));
@@ -221,8 +226,12 @@ fn links_at(alloc: Global, table: &Table, key: Key) -> Result<Vec<Option<LinkNam
 }
 
 #[tactic(auto, unfolding(crate::specs::Names::link_of))]
-fn links_of(alloc: Global, values: &[Value], key: Key) -> Result<Vec<Option<LinkNames>>, KeyFault>
-    ensures { Gives (λ links. map link_view links.items) result
+fn links_of(
+    alloc: Global,
+    values: &[Value],
+    key: SignalKey,
+) -> Result<Vec<Option<LinkNames>>, KeyFault>
+    ensures { GivesNames (λ links. map link_view links.items) result
         (each (link_of key) (map view values.now)) }
 {
     let mut links = Vec::with_capacity(alloc, values.len())?;
@@ -237,21 +246,21 @@ fn links_of(alloc: Global, values: &[Value], key: Key) -> Result<Vec<Option<Link
 
 /// The names that a system's table gives.
 #[tactic(auto, unfolding(crate::specs::Names::all_names))]
-fn names_of_table(alloc: Global, table: &Table) -> Result<Names, KeyFault>
-    ensures { Gives names_view result (all_names_of (table_view table.now)) }
+fn names_of_table(alloc: Global, table: &Table) -> Result<SignalNames, KeyFault>
+    ensures { GivesNames names_view result (all_names_of (table_view table.now)) }
 {
-    let Some(clock) = text_if_any(table, Key::Clock)? else {
-        return Err(KeyFault::Missing(Key::Clock));
+    let Some(clock) = text_if_any(table, SignalKey::Clock)? else {
+        return Err(KeyFault::Missing(SignalKey::Clock));
     };
     let clock = Vec::from_slice(alloc, clock)?;
-    let reset = match text_if_any(table, Key::Reset)? {
+    let reset = match text_if_any(table, SignalKey::Reset)? {
         Some(reset) => Some(Vec::from_slice(alloc, reset)?),
         None => None,
     };
     let is_low = read_is_low(table)?;
-    let ports = links_at(alloc, table, Key::Port)?;
-    let masters = links_at(alloc, table, Key::Master)?;
-    Ok(Names {
+    let ports = links_at(alloc, table, SignalKey::Port)?;
+    let masters = links_at(alloc, table, SignalKey::Master)?;
+    Ok(SignalNames {
         clock,
         reset,
         is_low,
@@ -262,8 +271,8 @@ fn names_of_table(alloc: Global, table: &Table) -> Result<Names, KeyFault>
 
 /// The names that a system file gives, or its first fault. The file is a document by the crate `toml`'s own definition.
 #[tactic(auto, using(crate::proofs::Views::text_tests), unfolding(crate::specs::Names::names_of_file))]
-pub fn read_names(alloc: Global, bytes: &[u8]) -> Result<Names, KeyFault>
-    ensures { Gives names_view result (names_of_file bytes.now) }
+pub fn read_names(alloc: Global, bytes: &[u8]) -> Result<SignalNames, KeyFault>
+    ensures { GivesNames names_view result (names_of_file bytes.now) }
 {
     let Ok(text) = std::str::from_utf8(bytes) else {
         return Err(KeyFault::NotToml);

@@ -19,9 +19,9 @@ mod source;
 mod wanted;
 mod wires;
 
-pub use fault::{Key, KeyFault};
-pub use keys::{LinkNames, Names, SIGNALS, read_names};
+pub use fault::{KeyFault, SignalKey};
+pub use keys::{LinkNames, SIGNALS, SignalNames, read_names};
 pub use resolve::{Resolved, find_signals};
-pub use signal_fault::{Owner, SignalFault};
+pub use signal_fault::{SignalFault, SignalOwner};
 pub use wanted::{Wanted, wanted_of};
 pub use wires::{Places, places_in};

@@ -1,15 +1,16 @@
 //! The signals of links, and the channels that are looked at.
 ghost use Rattle.std.specs.Prelude.{◌≡◌, ◌++◌, IfOk, OnOk, map, option_map};
+ghost use Rattle.tl_text.specs.Reading.{each};
 ghost use Rattle.check_beats.specs.Bus.{bus_bytes};
 ghost use Rattle.check_vcd.specs.Header.{var_view};
-ghost use Rattle.check_signals.specs.Found.{asked_of, each, in_order, link_at, link_sources_view, links_from, links_view, names_at, owner_of, pair_of, pairs_of, sources_of};
+ghost use Rattle.check_signals.specs.Found.{signals_asked, in_order, link_at, link_sources_view, links_from, links_view, names_at, owner_of, channels_of_link, channel_pairs, sources_of};
 ghost use Rattle.check_signals.specs.Names.{link_view};
 ghost use Rattle.check_signals.specs.Source.{Finds, kept_view, source_in, source_view};
 
 use crate::kept::taps_of;
 use crate::keys::{LinkNames, SIGNALS};
-use crate::signal_fault::{Owner, SignalFault};
-use crate::source::{Asked, Kept, Source, source_in};
+use crate::signal_fault::{SignalFault, SignalOwner};
+use crate::source::{Kept, Source, WantedSignal, source_in};
 use crate::wanted::wanted_of;
 use check_beats::Bus;
 use check_samples::{AskTaps, BeatTaps, Channel, ReplyTaps, Signal, Tap};
@@ -39,12 +40,12 @@ fn link_at(is_port: bool, number: usize) -> Link
 }
 
 /// Whose signals those of a link are.
-fn owner_of(link: Link) -> Owner
+fn owner_of(link: Link) -> SignalOwner
     ensures { result ≡ owner_of link }
 {
     match link {
-        Link::Port(number) => Owner::Port(number),
-        Link::Master(number) => Owner::Master(number),
+        Link::Port(number) => SignalOwner::Port(number),
+        Link::Master(number) => SignalOwner::Master(number),
     }
 }
 
@@ -52,13 +53,13 @@ fn owner_of(link: Link) -> Owner
 fn sources_for<'a>(
     alloc: Global,
     vars: &'a [Var],
-    owner: Owner,
+    owner: SignalOwner,
     bus: Bus,
     signals: &[Signal],
     names: &[Vec<u8>],
 ) -> Result<Vec<Source<'a>>, SignalFault>
     ensures { Finds (λ sources. map source_view sources.items) result (each (source_in (map var_view vars.now))
-        (asked_of owner (bus_bytes bus) signals.now (map (λ name. name.items) names.now))) }
+        (signals_asked owner (bus_bytes bus) signals.now (map (λ name. name.items) names.now))) }
 {
     let mut sources = Vec::with_capacity(alloc, signals.len())?;
     let mut rest = names;
@@ -66,7 +67,7 @@ fn sources_for<'a>(
         let [name, more @ ..] = rest else {
             return Ok(sources);
         };
-        let asked = Asked {
+        let asked = WantedSignal {
             owner,
             name,
             wanted: wanted_of(*signal, bus),
@@ -81,7 +82,7 @@ fn sources_for<'a>(
 fn sources_of<'a>(
     alloc: Global,
     vars: &'a [Var],
-    owner: Owner,
+    owner: SignalOwner,
     bus: Bus,
     names: &[Vec<u8>],
 ) -> Result<Vec<Source<'a>>, SignalFault>
@@ -123,8 +124,8 @@ pub(crate) fn links_of<'a>(
 }
 
 /// The channels of a link whose signals are kept there, in the order of the names.
-fn pair_of(link: Link, taps: &[Tap]) -> Option<Pair>
-    ensures { result ≡ pair_of link taps.now }
+fn channels_of_link(link: Link, taps: &[Tap]) -> Option<Pair>
+    ensures { result ≡ channels_of_link link taps.now }
 {
     let [
         a_valid,
@@ -179,17 +180,17 @@ fn pair_of(link: Link, taps: &[Tap]) -> Option<Pair>
 }
 
 /// The channels of links.
-pub(crate) fn pairs_of(
+pub(crate) fn channel_pairs(
     alloc: Global,
     kept: &[Kept<'_>],
     links: &[LinkSources<'_>],
 ) -> Result<Vec<Pair>, AllocError>
-    ensures { IfOk result (λ pairs. pairs.items ≡ pairs_of (map kept_view kept.now) (map link_sources_view links.now)) }
+    ensures { IfOk result (λ pairs. pairs.items ≡ channel_pairs (map kept_view kept.now) (map link_sources_view links.now)) }
 {
     let mut pairs = Vec::with_capacity(alloc, links.len())?;
     for link in links {
         let taps = taps_of(alloc, kept, &link.sources)?;
-        if let Some(pair) = pair_of(link.link, &taps) {
+        if let Some(pair) = channels_of_link(link.link, &taps) {
             pairs.push(pair)?;
         }
     }

@@ -1,18 +1,19 @@
 //! Finds the signals that a system file names among those that a dump declares.
 ghost use Rattle.std.specs.Prelude.{◌≡◌, ◌≢◌, ◌++◌, Err, IfOk, MatchResult, OnOk, map, option_map};
+ghost use Rattle.tl_text.specs.Reading.{if_any};
 ghost use Rattle.check_vcd.specs.Header.{var_view};
 ghost use Rattle.check_samples.specs.Digits.{unknown};
 ghost use Rattle.check_samples.specs.Values.{all_before, all_now, all_widths};
-ghost use Rattle.check_signals.specs.Found.{IsFound, IsResolved, all_of, code_in, codes_view, digits_in, flat, found_in, found_of, if_any, link_sources_view, reset_by, sources_in, sources_view, system_source, width_in};
+ghost use Rattle.check_signals.specs.Found.{IsFound, IsResolved, all_of, code_in, codes_view, digits_in, flat, found_in, found_of, link_sources_view, reset_by, sources_in, sources_view, system_source, width_in};
 ghost use Rattle.check_signals.specs.Names.{names_view};
 ghost use Rattle.check_signals.specs.Source.{Finds, fault_view, kept_view, source_view};
 ghost use Rattle.check_signals.specs.declared.signal_fault.SignalFault.TheVariants.{Memory};
 
-use crate::kept::{kept_of, tap_by};
-use crate::keys::Names;
-use crate::links::{LinkSources, in_order, links_of, pairs_of};
-use crate::signal_fault::{Owner, SignalFault};
-use crate::source::{Asked, Kept, Source, source_in};
+use crate::kept::{tap_by, values_kept};
+use crate::keys::SignalNames;
+use crate::links::{LinkSources, channel_pairs, in_order, links_of};
+use crate::signal_fault::{SignalFault, SignalOwner};
+use crate::source::{Kept, Source, WantedSignal, source_in};
 use crate::wanted::Wanted;
 use check_rows::Buses;
 use check_samples::{Probes, Reset, Values};
@@ -32,8 +33,8 @@ struct Sources<'a> {
 fn system_source<'a>(alloc: Global, vars: &'a [Var], name: &[u8]) -> Result<Source<'a>, SignalFault>
     ensures { Finds source_view result (system_source (map var_view vars.now) name.now) }
 {
-    let asked = Asked {
-        owner: Owner::System,
+    let asked = WantedSignal {
+        owner: SignalOwner::System,
         name,
         wanted: Wanted::AtMost(1),
     };
@@ -62,7 +63,7 @@ fn sources_in<'a>(
     alloc: Global,
     vars: &'a [Var],
     buses: &Buses<'_>,
-    names: &Names,
+    names: &SignalNames,
 ) -> Result<Sources<'a>, SignalFault>
     ensures { Finds sources_view result (sources_in (map var_view vars.now)
         buses.now.masters.now buses.now.ports.now (names_view names.now)) }
@@ -168,9 +169,9 @@ fn resolved_of(alloc: Global, is_low: bool, sources: &Sources<'_>) -> Result<Res
     ensures { IfOk result (λ resolved. IsResolved resolved (found_of is_low (sources_view sources.now))) }
 {
     let all = all_of(alloc, sources)?;
-    let kept = kept_of(alloc, &all)?;
-    let ports = pairs_of(alloc, &kept, &sources.ports)?;
-    let masters = pairs_of(alloc, &kept, &sources.masters)?;
+    let kept = values_kept(alloc, &all)?;
+    let ports = channel_pairs(alloc, &kept, &sources.ports)?;
+    let masters = channel_pairs(alloc, &kept, &sources.masters)?;
     Ok(Resolved {
         probes: Probes {
             clock: tap_by(&kept, sources.clock),
@@ -189,7 +190,7 @@ fn resolved_of(alloc: Global, is_low: bool, sources: &Sources<'_>) -> Result<Res
 pub fn find_signals(
     alloc: Global,
     buses: &Buses<'_>,
-    names: &Names,
+    names: &SignalNames,
     vars: &[Var],
 ) -> Result<Resolved, SignalFault>
     ensures { MatchResult result

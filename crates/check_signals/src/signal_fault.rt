@@ -7,7 +7,7 @@ use std::fmt;
 
 /// Whose signal it is: the system's own, or one of a link.
 #[derive(Debug, Clone, Copy, PartialEq, Eq)]
-pub enum Owner {
+pub enum SignalOwner {
     System,
     Port(usize),
     Master(usize),
@@ -17,11 +17,11 @@ pub enum Owner {
 #[derive(Debug, Drop)]
 pub enum SignalFault {
     /// No signal has this name; the nearest that there is.
-    NoSignal(Owner, Vec<u8>, Option<Vec<u8>>),
+    NoSignal(SignalOwner, Vec<u8>, Option<Vec<u8>>),
     /// Two signals have this name, and identifiers of their own.
-    Twice(Owner, Vec<u8>),
+    Twice(SignalOwner, Vec<u8>),
     /// The signal of this name has so many bits; how many were wanted.
-    Width(Owner, Vec<u8>, u64, u64),
+    Width(SignalOwner, Vec<u8>, u64, u64),
     Memory,
 }
 
@@ -41,12 +41,12 @@ impl<T: Drop> From<AllocFailed<T>> for SignalFault {
     }
 }
 
-impl fmt::Display for Owner {
+impl fmt::Display for SignalOwner {
     fn fmt<W: fmt::Write>(&self, f: &mut fmt::Formatter<W>) -> fmt::Result {
         match *self {
-            Owner::System => Ok(()),
-            Owner::Port(number) => write!(f, "port {number}: "),
-            Owner::Master(number) => write!(f, "master {number}: "),
+            SignalOwner::System => Ok(()),
+            SignalOwner::Port(number) => write!(f, "port {number}: "),
+            SignalOwner::Master(number) => write!(f, "master {number}: "),
         }
     }
 }

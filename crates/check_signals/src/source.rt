@@ -7,7 +7,7 @@ ghost use Rattle.check_signals.specs.Wires.{IsInside, wire_view};
 ghost use Rattle.check_signals.specs.declared.signal_fault.SignalFault.TheVariants.{Memory};
 
 use crate::nearest::nearest;
-use crate::signal_fault::{Owner, SignalFault};
+use crate::signal_fault::{SignalFault, SignalOwner};
 use crate::wanted::Wanted;
 use crate::wires::{Wire, first_wire, has_another, sought};
 use check_vcd::{MAX_WORD, Var};
@@ -18,8 +18,8 @@ pub const MAX_WIDTH: u64 = MAX_WORD as u64 - 1;
 
 /// A signal that is looked for: whose it is, its name, and how many bits it has to have.
 #[derive(Debug, Clone, Copy)]
-pub(crate) struct Asked<'a> {
-    pub(crate) owner: Owner,
+pub(crate) struct WantedSignal<'a> {
+    pub(crate) owner: SignalOwner,
     pub(crate) name: &'a [u8],
     pub(crate) wanted: Wanted,
 }
@@ -86,7 +86,7 @@ fn copy_if_any(alloc: Global, text: Option<&[u8]>) -> Result<Option<Vec<u8>>, Al
 }
 
 /// That there is no such signal, with the nearest name that there is.
-fn describe(alloc: Global, vars: &[Var], asked: Asked<'_>) -> Result<SignalFault, AllocError>
+fn describe(alloc: Global, vars: &[Var], asked: WantedSignal<'_>) -> Result<SignalFault, AllocError>
     ensures { IfOk result (λ fault. fault_view fault ≡ missing_in (map var_view vars.now) (asked_view asked.entry)) }
 {
     let near = copy_if_any(alloc, nearest(alloc, vars, asked.name)?)?;
@@ -95,7 +95,7 @@ fn describe(alloc: Global, vars: &[Var], asked: Asked<'_>) -> Result<SignalFault
 }
 
 /// The same, or that memory was refused for it.
-fn missing(alloc: Global, vars: &[Var], asked: Asked<'_>) -> SignalFault
+fn missing(alloc: Global, vars: &[Var], asked: WantedSignal<'_>) -> SignalFault
     ensures { result ≢ Memory → fault_view result ≡ missing_in (map var_view vars.now) (asked_view asked.entry) }
 {
     match describe(alloc, vars, asked) {
@@ -105,7 +105,7 @@ fn missing(alloc: Global, vars: &[Var], asked: Asked<'_>) -> SignalFault
 }
 
 /// That two signals have the name.
-fn twice(alloc: Global, asked: Asked<'_>) -> SignalFault
+fn twice(alloc: Global, asked: WantedSignal<'_>) -> SignalFault
     ensures { result ≢ Memory → fault_view result ≡ TwiceIn asked.entry.owner asked.entry.name.now }
 {
     match Vec::from_slice(alloc, asked.name) {
@@ -115,7 +115,7 @@ fn twice(alloc: Global, asked: Asked<'_>) -> SignalFault
 }
 
 /// That the signal has another width than is wanted.
-fn too_wide(alloc: Global, asked: Asked<'_>, bits: u64, wanted: u64) -> SignalFault
+fn too_wide(alloc: Global, asked: WantedSignal<'_>, bits: u64, wanted: u64) -> SignalFault
     ensures { result ≢ Memory → fault_view result ≡ too_wide (asked_view asked.entry) bits wanted }
 {
     match Vec::from_slice(alloc, asked.name) {
@@ -128,7 +128,7 @@ fn too_wide(alloc: Global, asked: Asked<'_>, bits: u64, wanted: u64) -> SignalFa
 fn within<'a>(
     alloc: Global,
     vars: &'a [Var],
-    asked: Asked<'_>,
+    asked: WantedSignal<'_>,
     wire: Wire<'a>,
     width: u64,
 ) -> Result<Source<'a>, SignalFault>
@@ -153,7 +153,7 @@ fn within<'a>(
 fn measured<'a>(
     alloc: Global,
     vars: &'a [Var],
-    asked: Asked<'_>,
+    asked: WantedSignal<'_>,
     wire: Wire<'a>,
 ) -> Result<Source<'a>, SignalFault>
     requires { IsInside wire }
@@ -171,7 +171,7 @@ fn measured<'a>(
 fn signal_in<'a>(
     alloc: Global,
     vars: &'a [Var],
-    asked: Asked<'_>,
+    asked: WantedSignal<'_>,
 ) -> Result<Source<'a>, SignalFault>
     ensures { Finds source_view result (signal_in (map var_view vars.now) (asked_view asked.entry)) }
 {
@@ -190,7 +190,7 @@ fn signal_in<'a>(
 pub(crate) fn source_in<'a>(
     alloc: Global,
     vars: &'a [Var],
-    asked: Asked<'_>,
+    asked: WantedSignal<'_>,
 ) -> Result<Source<'a>, SignalFault>
     ensures { Finds source_view result (source_in (map var_view vars.now) (asked_view asked.entry)) }
 {

@@ -3,7 +3,7 @@ use Rattle.std.proofs.Common.{◌≡◌, ◌∙◌, ℕ, suc, ◌+◌, ◌<◌, 
 use Rattle.std.proofs.lemmas.List.{append_assoc, at_drop_more, length_push}
 use Rattle.check_flight.specs.PortSlave.{PortSlave}
 use Rattle.check_flight.specs.declared.order.Order.{Order}
-use Rattle.check_keys.specs.Reading.{◌>>=◌, with_front}
+use Rattle.tl_text.specs.Reading.{◌>>=◌, with_front}
 use Rattle.check_keys.specs.declared.fault.SystemFault.{SystemFault}
 use Rattle.check_description.specs.Port.{Port, port_view}
 use Rattle.check_description.specs.Slave.{error_slave, slave_at_reset}

@@ -38,8 +38,8 @@ pub record ByThePlan (terms : Terms) (system : Description) (images : List (List
   pub each : (plan : Plan) → IsPlanOf terms system images plan → Holds plan
 
 -- the names of a system's masters and ports
-abbrev pub names_of : Description → NamesView
-names_of system = record {
+abbrev pub system_names : Description → NamesView
+system_names system = record {
   masters = map (λ (master : Master). master.name) system.masters;
   ports = map (λ (port : Port). port.name) system.ports;
 }

@@ -1,6 +1,6 @@
 //! The judge of a system's beats, before any.
 ghost use Rattle.std.specs.Prelude.{◌≡◌, ◌≢◌, ◌≤◌, [], length, map, option_map, string_bytes, Err, IfOk, IfErr, Ok};
-ghost use Rattle.check_map.specs.declared.limits.TheConstants.{MAX_MASTERS, MAX_PORTS};
+ghost use Rattle.check_map.specs.declared.limits.TheConstants.{MAX_JUDGED_MASTERS, MAX_JUDGED_PORTS};
 ghost use Rattle.check_keys.specs.declared.fault.SystemFault.TheVariants.{Memory};
 ghost use Rattle.check_description.specs.Port.{port_view};
 ghost use Rattle.check_description.specs.Master.{master_view};
@@ -9,7 +9,7 @@ ghost use Rattle.check_sides.specs.View.{Keeps};
 ghost use Rattle.check_unanswered.specs.View.{Holds};
 ghost use Rattle.check_lines.specs.Names.{texts_of};
 ghost use Rattle.check_start.specs.Slaves.{slaves_at_reset};
-ghost use Rattle.check_start.specs.Start.{ByThePlan, layout_of, master_buses as buses_of_masters, names_of, port_buses as buses_of_ports};
+ghost use Rattle.check_start.specs.Start.{ByThePlan, layout_of, master_buses as buses_of_masters, system_names, port_buses as buses_of_ports};
 
 use crate::slaves::slaves_of;
 use check_beats::Bus;
@@ -17,7 +17,7 @@ use check_description::{Described, Description, Master, Port};
 use check_flight::{Order, PortSlave};
 use check_keys::SystemFault;
 use check_lines::Names;
-use check_map::{Map, Sources};
+use check_map::{AddressMap, SourceOwners};
 use check_sides::{Links, Watch};
 use check_unanswered::Pending;
 use std::alloc::{AllocError, Global};
@@ -74,8 +74,8 @@ fn master_names(alloc: Global, masters: &[Master]) -> Result<Vec<Option<String>>
 }
 
 /// The names of a system's masters and ports.
-fn names_of(alloc: Global, system: &Description) -> Result<Names, AllocError>
-    ensures { IfOk result (λ names. names ≡ names_of system.now) }
+fn system_names(alloc: Global, system: &Description) -> Result<Names, AllocError>
+    ensures { IfOk result (λ names. names ≡ system_names system.now) }
 {
     let masters = master_names(alloc, system.masters())?;
     let ports = port_names(alloc, system.ports())?;
@@ -83,10 +83,10 @@ fn names_of(alloc: Global, system: &Description) -> Result<Names, AllocError>
 }
 
 /// The buses of the ports' links.
-fn port_buses(alloc: Global, addresses: &Map, ports: &[Port]) -> Result<Vec<Bus>, AllocError>
+fn port_buses(alloc: Global, addresses: &AddressMap, ports: &[Port]) -> Result<Vec<Bus>, AllocError>
     requires { length addresses.now ≡ length ports.now }
     ensures buses { IfOk result (λ buses. buses.items ≡ buses_of_ports (map port_view ports.now)) }
-    ensures few { IfOk result (λ buses. length buses.items ≤ MAX_PORTS) }
+    ensures few { IfOk result (λ buses. length buses.items ≤ MAX_JUDGED_PORTS) }
 {
     let mut buses = Vec::with_capacity(alloc, addresses.ports() - 1)?;
     for port in ports {
@@ -98,12 +98,12 @@ fn port_buses(alloc: Global, addresses: &Map, ports: &[Port]) -> Result<Vec<Bus>
 /// The buses of the masters' links.
 fn master_buses(
     alloc: Global,
-    sources: &Sources,
+    sources: &SourceOwners,
     masters: &[Master],
 ) -> Result<Vec<Bus>, AllocError>
     requires { length sources.now ≡ length masters.now }
     ensures buses { IfOk result (λ buses. buses.items ≡ buses_of_masters (map master_view masters.now)) }
-    ensures few { IfOk result (λ buses. length buses.items ≤ MAX_MASTERS) }
+    ensures few { IfOk result (λ buses. length buses.items ≤ MAX_JUDGED_MASTERS) }
 {
     let mut buses = Vec::with_capacity(alloc, sources.masters())?;
     for master in masters {
@@ -126,8 +126,8 @@ fn buses_of(alloc: Global, parts: &Described) -> Result<LinkBuses, AllocError>
     ensures masters { IfOk result (λ buses. buses.masters.items
         ≡ buses_of_masters (map master_view parts.now.masters.items)) }
     ensures ports { IfOk result (λ buses. buses.ports.items ≡ buses_of_ports (map port_view parts.now.ports.items)) }
-    ensures few_masters { IfOk result (λ buses. length buses.masters.items ≤ MAX_MASTERS) }
-    ensures few_ports { IfOk result (λ buses. length buses.ports.items ≤ MAX_PORTS) }
+    ensures few_masters { IfOk result (λ buses. length buses.masters.items ≤ MAX_JUDGED_MASTERS) }
+    ensures few_ports { IfOk result (λ buses. length buses.ports.items ≤ MAX_JUDGED_PORTS) }
 {
     let masters = master_buses(alloc, &parts.sources, &parts.masters)?;
     let ports = port_buses(alloc, &parts.addresses, &parts.ports)?;
@@ -195,15 +195,15 @@ pub fn begin(
     ensures layout { IfOk result (λ begun. begun.watch.layout ≡ layout_of terms system) }
     ensures keeps { IfOk result (λ begun.
         ByThePlan terms system (map (λ image. image.items) images.now) (λ plan. Keeps plan [] begun.watch)) }
-    ensures names { IfOk result (λ begun. begun.names ≡ names_of system) }
+    ensures names { IfOk result (λ begun. begun.names ≡ system_names system) }
     ensures masters { IfOk result (λ begun. begun.master_buses.items ≡ buses_of_masters system.masters) }
     ensures ports { IfOk result (λ begun. begun.port_buses.items ≡ buses_of_ports system.ports) }
-    ensures few_masters { IfOk result (λ begun. length begun.master_buses.items ≤ MAX_MASTERS) }
-    ensures few_ports { IfOk result (λ begun. length begun.port_buses.items ≤ MAX_PORTS) }
+    ensures few_masters { IfOk result (λ begun. length begun.master_buses.items ≤ MAX_JUDGED_MASTERS) }
+    ensures few_ports { IfOk result (λ begun. length begun.port_buses.items ≤ MAX_JUDGED_PORTS) }
     ensures fault { IfErr result (λ fault. fault ≢ Memory
         → slaves_at_reset terms.order (map (λ image. image.items) images.now) system.ports ≡ Err fault) }
 {
-    let names = names_of(alloc, &system)?;
+    let names = system_names(alloc, &system)?;
     let parts = system.into_parts();
     let slaves = reset_slaves(alloc, &parts.ports, images, terms)?;
     // one for the judge, and one for the reader of rows

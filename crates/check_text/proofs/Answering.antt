@@ -8,19 +8,19 @@ use Rattle.check_review.specs.Verdict.{HasCounts, HasLeft, IsFirstUnlawful, IsLa
 use Rattle.check_review.specs.Covered.{IsCoveredBefore, IsCoveredFile}
 use Rattle.check_review.specs.View.{HasTold, Judges, is_asked, is_traced}
 use Rattle.check_review.specs.View.{JudgeView}
-use Rattle.check_lines.specs.declared.verdict.Counts.{Counts}
+use Rattle.check_lines.specs.declared.verdict.VerdictCounts.{VerdictCounts}
 use Rattle.check_review.specs.declared.stop.Refusal.{Refusal}
 use Rattle.check_review.specs.declared.stop.Refusal.TheVariants as refusal
 use Rattle.check_review.specs.declared.tally.Tally.{Tally}
 use Rattle.check_review.proofs.Judging.{part_before, part_of_file, told_earlier}
-use Rattle.check_records.specs.Source.{Between, Left}
-use Rattle.check_records.specs.Text.{Ends, Place, start_of}
+use Rattle.check_records.specs.Source.{Between, TextLeft}
+use Rattle.check_records.specs.Text.{Ends, TextPlace, start_of}
 use Rattle.tl_streams.specs.Streams.{AppendsPart}
 use Rattle.check_sides.specs.Plan.{Plan}
 use Rattle.check_unanswered.specs.declared.request.Left.{Left as LeftOver}
 use Rattle.check_text.specs.Capture.{HasHeader, IsCovered, IsFault, IsVerdict, IsWritten, IsWrittenOf}
 use Rattle.check_text.specs.Out.{Finishes, WritesPart, is_cut}
-use Rattle.check_text.specs.Rows.{AllTaken, AreJudged, IsAnswer, IsCountedBy, IsJudged, IsJudgedAt, IsOut, IsToldBy, WroteBy, ended_with, refused}
+use Rattle.check_text.specs.Rows.{AllTaken, AreJudged, IsAnswer, IsCountedBy, IsJudged, IsJudgedAt, IsOut, IsToldBy, WroteBy, ended_with, verdict_refused}
 use Rattle.check_text.specs.declared.fault.CaptureFault.{CaptureFault}
 use Rattle.check_text.specs.declared.fault.CaptureFault.TheVariants as fault
 use Rattle.check_text.specs.declared.fault.Verdict.{Verdict}
@@ -37,26 +37,26 @@ TellsFile trace plan rows so_far text grown =
     (more : List ℕ) × (grown ≡ text ++ more) × IsToldFile trace plan rows (so_far ++ more)
 
 -- what is said of lawful rows, and what is told of them, whether requests are left or not
-answers_end : (asked : Bool) (plan : Plan) (buses : LinkBuses) (rows : List SeenRow) (at end : Place) (counts : Counts)
+answers_end : (asked : Bool) (plan : Plan) (buses : LinkBuses) (rows : List SeenRow) (at end : TextPlace) (counts : VerdictCounts)
     (left : Option LeftOver) → Ends at end → IsLawfulFile plan rows → HasCounts plan rows counts
     → HasLeft asked plan rows left → IsAnswer asked plan buses (Ok (ended_with counts left)) rows at
 answers_end asked plan buses rows at end counts None ends lawful has left = ((end, ends), lawful, has, left)
 answers_end asked plan buses rows at end counts (Some over) ends lawful has left = ((end, ends), lawful, left)
 
-told_end : (trace : Bool) (plan : Plan) (rows : List SeenRow) (text : List ℕ) (counts : Counts) (left : Option LeftOver)
+told_end : (trace : Bool) (plan : Plan) (rows : List SeenRow) (text : List ℕ) (counts : VerdictCounts) (left : Option LeftOver)
     → IsToldFile trace plan rows text → IsToldBy trace plan (ended_with counts left) rows text
 told_end trace plan rows text counts None told = told
 told_end trace plan rows text counts (Some over) told = told
 
 -- and what was counted of them
-covered_end : (plan : Plan) (rows : List SeenRow) (tally : Tally) (counts : Counts) (left : Option LeftOver)
+covered_end : (plan : Plan) (rows : List SeenRow) (tally : Tally) (counts : VerdictCounts) (left : Option LeftOver)
     → IsCoveredFile plan rows tally → IsCountedBy plan (Ok (ended_with counts left)) rows tally
 covered_end plan rows tally counts None covered = covered
 covered_end plan rows tally counts (Some over) covered = covered
 
-module _ (buses : LinkBuses) (first now : JudgeView) (tally : Tally) (old mid : Option (List ℕ)) (text grown : List ℕ) (a b : Left)
+module _ (buses : LinkBuses) (first now : JudgeView) (tally : Tally) (old mid : Option (List ℕ)) (text grown : List ℕ) (a b : TextLeft)
     (all : Between a b (AllTaken buses first now old mid text)) where
-  pub ends_lawful : (counts : Counts) (left : Option LeftOver)
+  pub ends_lawful : (counts : VerdictCounts) (left : Option LeftOver)
       → ((plan : Plan) (rows : List SeenRow) → Judges plan rows now
       → IsLawfulFile plan rows × HasCounts plan rows counts × HasLeft (is_asked now) plan rows left)
       → ((plan : Plan) (rows : List SeenRow) → Judges plan rows now → IsCoveredFile plan rows tally)
@@ -93,11 +93,11 @@ module _ (buses : LinkBuses) (first now : JudgeView) (tally : Tally) (old mid : 
       → ((plan : Plan) (rows : List SeenRow) (so_far : List ℕ) → HasTold plan rows now so_far
       → OfUnlawful (λ found. (more : List ℕ) × (grown ≡ text ++ more)
       × IsToldBefore (is_traced now) plan rows (so_far ++ more) found) why)
-      → IsJudged buses first tally old mid grown a (refused why)
+      → IsJudged buses first tally old mid grown a (verdict_refused why)
   ends_refused (refusal.Unlawful found) unlawful covers tells =
-      at_start a b (IsJudgedAt buses first tally old mid grown (refused (refusal.Unlawful found)))
+      at_start a b (IsJudgedAt buses first tally old mid grown (verdict_refused (refusal.Unlawful found)))
       (between_map a b (AllTaken buses first now old mid text)
-      (λ from to. IsJudgedAt buses first tally old mid grown (refused (refusal.Unlawful found)) from) (λ x y taken.
+      (λ from to. IsJudgedAt buses first tally old mid grown (verdict_refused (refusal.Unlawful found)) from) (λ x y taken.
       let took = taken.1 in record {
         rows = took.rows;
         last = taken.0;
@@ -113,9 +113,9 @@ module _ (buses : LinkBuses) (first now : JudgeView) (tally : Tally) (old mid : 
             (subst (λ t. IsToldBefore t plan took.rows (wrote.told ++ on.0) found) took.traced on.2);
       }) all)
   ends_refused refusal.Memory unlawful covers tells =
-      at_start a b (IsJudgedAt buses first tally old mid grown (refused refusal.Memory))
+      at_start a b (IsJudgedAt buses first tally old mid grown (verdict_refused refusal.Memory))
       (between_map a b (AllTaken buses first now old mid text)
-      (λ from to. IsJudgedAt buses first tally old mid grown (refused refusal.Memory) from) (λ x y taken.
+      (λ from to. IsJudgedAt buses first tally old mid grown (verdict_refused refusal.Memory) from) (λ x y taken.
       let took = taken.1 in record {
         rows = took.rows;
         last = taken.0;
@@ -189,14 +189,14 @@ part_out trace plan (Err fault.Write) rows old mid new text cut wrote front = ab
 
 -- what the contract says of an answer, at the place where the text begins
 pub record Says (asked trace : Bool) (plan : Plan) (buses : LinkBuses) (old new : Option (List ℕ))
-    (answer : Result Verdict CaptureFault) (from : Place) : Type 0 where
+    (answer : Result Verdict CaptureFault) (from : TextPlace) : Type 0 where
   pub verdict : IfOk answer (IsVerdict asked plan buses from)
   pub fault : IfErr answer (IsFault plan buses from)
   pub written : IsWritten asked trace plan buses from old new answer
 
 -- an answer after the header and some rows
 says_behind : (asked trace : Bool) (plan : Plan) (buses : LinkBuses) (old new : Option (List ℕ))
-    (answer : Result Verdict CaptureFault) (from : Place)
+    (answer : Result Verdict CaptureFault) (from : TextPlace)
     → IsWrittenOf asked trace plan buses from old new answer → Says asked trace plan buses old new answer from
 says_behind asked trace plan buses old new (Ok (verdict.Lawful counts)) from is = record {
   verdict = (
@@ -233,7 +233,7 @@ says_behind asked trace plan buses old new (Err fault.Read) from is = record { v
 says_behind asked trace plan buses old new (Err fault.Memory) from is = record { verdict = tt; fault = tt; written = inr is }
 says_behind asked trace plan buses old new (Err fault.Write) from is = record { verdict = tt; fault = tt; written = is }
 
-finished : (trace : Bool) (plan : Plan) (buses : LinkBuses) (from behind : Place) (old mid new : Option (List ℕ))
+finished : (trace : Bool) (plan : Plan) (buses : LinkBuses) (from behind : TextPlace) (old mid new : Option (List ℕ))
     (text : List ℕ) (answer result : Result Verdict CaptureFault) (first : JudgeView) (tally : Tally)
     → is_traced first ≡ trace → Judges plan [] first → HasHeader from behind
     → IsJudgedAt buses first tally old mid text answer behind → Finishes mid new text answer result
@@ -276,7 +276,7 @@ finished trace plan buses from behind old mid new text answer result first tally
           out = part_out trace plan answer judged.rows old mid new text whole.0 wrote front.1;
         })
 
-pub says_judged : (plan : Plan) (buses : LinkBuses) (a b : Left) (old mid new : Option (List ℕ)) (text : List ℕ)
+pub says_judged : (plan : Plan) (buses : LinkBuses) (a b : TextLeft) (old mid new : Option (List ℕ)) (text : List ℕ)
     (answer result : Result Verdict CaptureFault) (first : JudgeView) (tally : Tally)
     → Judges plan [] first → Between a b HasHeader → IsJudged buses first tally old mid text b answer
     → Finishes mid new text answer result
@@ -291,13 +291,13 @@ says_judged plan buses a b old mid new text answer result first tally start head
 -- ---- what was counted
 
 -- the rows of an answer are those that it is of
-are_judged : (asked : Bool) (plan : Plan) (buses : LinkBuses) (v : Verdict) (rows : List SeenRow) (at : Place)
+are_judged : (asked : Bool) (plan : Plan) (buses : LinkBuses) (v : Verdict) (rows : List SeenRow) (at : TextPlace)
     → IsAnswer asked plan buses (Ok v) rows at → AreJudged buses v rows at
 are_judged asked plan buses (verdict.Lawful counts) rows at is = is.0
 are_judged asked plan buses (verdict.Incomplete left) rows at is = is.0
 are_judged asked plan buses (verdict.Unlawful found) rows at is = is.0
 
-covered_behind : (plan : Plan) (buses : LinkBuses) (from behind : Place) (old mid : Option (List ℕ)) (text : List ℕ)
+covered_behind : (plan : Plan) (buses : LinkBuses) (from behind : TextPlace) (old mid : Option (List ℕ)) (text : List ℕ)
     (answer : Result Verdict CaptureFault) (first : JudgeView) (tally : Tally) → Judges plan [] first
     → HasHeader from behind → IsJudgedAt buses first tally old mid text answer behind
     → IfOk answer (IsCovered plan buses from tally)
@@ -321,7 +321,7 @@ covered_finished P mid new text answer result (inr whole) is = go whole.1
     go (inl all) = subst (λ r. IfOk r P) (sym all.0) is
     go (inr front) = subst (λ r. IfOk r P) (sym front.0) tt
 
-pub covered_judged : (plan : Plan) (buses : LinkBuses) (a b : Left) (old mid new : Option (List ℕ)) (text : List ℕ)
+pub covered_judged : (plan : Plan) (buses : LinkBuses) (a b : TextLeft) (old mid new : Option (List ℕ)) (text : List ℕ)
     (answer result : Result Verdict CaptureFault) (first : JudgeView) (tally : Tally)
     → Judges plan [] first → Between a b HasHeader → IsJudged buses first tally old mid text b answer
     → Finishes mid new text answer result
@@ -333,7 +333,7 @@ covered_judged plan buses a b old mid new text answer result first tally start h
     (covered_behind plan buses x y old mid text answer first tally start top is)) header judged
 
 -- is said of the start of what a reader gives
-pub told : (known : Option (List ℕ)) (a : Left) (Q : Place → Type 0) → Keeps (option_map strip_bom known) a.text
+pub told : (known : Option (List ℕ)) (a : TextLeft) (Q : TextPlace → Type 0) → Keeps (option_map strip_bom known) a.text
     → a.line ≡ 1
     → IfSome a.text (λ text. Q (record { line = a.line; text = text })) → IfSome known (λ text. Q (start_of text))
 told known a Q keeps line_is holds = go known a.text keeps holds

@@ -2,8 +2,8 @@
 use Rattle.std.proofs.Common.{◌≡◌, ℕ, Bool, inl, List, Option, Some, None, Result, Ok, Err, IfOk, IfSome, refl, subst, sym}
 use Rattle.std.specs.Result.{IsErrAnd}
 use Rattle.std.proofs.KnownBytes.{Appends-nil}
-use Rattle.check_records.specs.Source.{Left}
-use Rattle.check_records.specs.Text.{IsTooLong, Place, start_of}
+use Rattle.check_records.specs.Source.{TextLeft}
+use Rattle.check_records.specs.Text.{IsTooLong, TextPlace, start_of}
 use Rattle.check_records.specs.declared.fault.RecordFault.{RecordFault}
 use Rattle.check_records.specs.declared.fault.RecordFault.TheVariants as record_fault
 use Rattle.check_sides.specs.Plan.{Plan}
@@ -28,18 +28,18 @@ not_ok P (Ok x) why is = absurd is
 not_ok P (Err e) why is = tt
 
 module _ (asked trace : Bool) (plan : Plan) (buses : LinkBuses) (old : Option (List ℕ)) where
-  abbrev SaysOf : CaptureFault → Place → Type 0
+  abbrev SaysOf : CaptureFault → TextPlace → Type 0
   SaysOf why from = Says asked trace plan buses old old (Err why) from
 
   -- no reader was made
-  not_made : (why : RecordFault) (from : Place) → ((line : ℕ) → why ≡ record_fault.TooLong line → ⊥)
+  not_made : (why : RecordFault) (from : TextPlace) → ((line : ℕ) → why ≡ record_fault.TooLong line → ⊥)
       → SaysOf (of_record why) from
   not_made (record_fault.TooLong line) from none = absurd (none line refl)
   not_made record_fault.Read from none = record { verdict = tt; fault = tt; written = inl (Appends-nil old) }
   not_made record_fault.Memory from none = record { verdict = tt; fault = tt; written = inl (Appends-nil old) }
 
   -- no header was read
-  pub no_header : (a b : Left) (why : CaptureFault) → HasHeaderFault a b why
+  pub no_header : (a b : TextLeft) (why : CaptureFault) → HasHeaderFault a b why
       → IfSome a.text (λ text. SaysOf why (record { line = a.line; text = text }))
   no_header a b (fault.Header line) is =
       at_start a b (SaysOf (fault.Header line))

@@ -15,9 +15,9 @@ use Rattle.check_review.specs.declared.stop.Unlawful.{Unlawful}
 use Rattle.check_review.specs.declared.tally.Tally.{Tally}
 use Rattle.check_review.proofs.Judging.{told_earlier, told_none}
 use Rattle.check_records.specs.Reading.{StopsLong}
-use Rattle.check_records.specs.Source.{Between, Left}
-use Rattle.check_records.specs.Text.{Gives, IsTooLong, Place, Reads}
-use Rattle.check_records.specs.Text.{Row as Record}
+use Rattle.check_records.specs.Source.{Between, TextLeft}
+use Rattle.check_records.specs.Text.{GivesRecord, IsTooLong, TextPlace, Reads}
+use Rattle.check_records.specs.Text.{RecordRow as Record}
 use Rattle.check_records.specs.declared.fault.RecordFault.{RecordFault}
 use Rattle.check_records.specs.declared.fault.RecordFault.TheVariants as record_fault
 use Rattle.check_records.proofs.Chain.{reads-more}
@@ -26,7 +26,7 @@ use Rattle.tl_streams.specs.Streams.{AppendsPart}
 use Rattle.check_sides.specs.Plan.{Plan}
 use Rattle.check_text.specs.Fault.{of_record}
 use Rattle.check_text.specs.Out.{Moves, WritesFront}
-use Rattle.check_text.specs.Rows.{AllTaken, GivesRow, HasNoRow, HasRows, IsJudged, IsJudgedAt, IsUnlawfulBefore, SpellAll, Spells, StopsAt, TakesNext, TellsBefore, Took, TookRows, answer_of, halt_of}
+use Rattle.check_text.specs.Rows.{AllTaken, GivesRow, HasNoRow, HasRows, IsJudged, IsJudgedAt, IsUnlawfulBefore, SpellAll, SpellsCapture, StopsAt, TakesNext, TellsBefore, Took, TookRows, answer_of, halt_of}
 use Rattle.check_text.specs.declared.fault.CaptureFault.TheVariants as fault
 use Rattle.check_text.specs.declared.rows.Halt.{Halt}
 use Rattle.check_text.specs.declared.rows.Halt.TheVariants as halt
@@ -34,14 +34,14 @@ use Rattle.check_text.specs.Buses.{LinkBuses}
 use Rattle.check_text.proofs.OutLemmas.{wrote_as, wrote_more, wrote_moved, wrote_none, wrote_part, wrote_so_far}
 
 spell_more : (buses : LinkBuses) (records : List Record) (rows : List SeenRow) (r : Record) (row : SeenRow)
-    → SpellAll buses records rows → Spells buses r row
+    → SpellAll buses records rows → SpellsCapture buses r row
     → SpellAll buses (records ++ r ∷ []) (rows ++ row ∷ [])
 spell_more buses [] [] r row all one = (one, tt)
 spell_more buses [] (x ∷ rows) r row all one = absurd all
 spell_more buses (q ∷ records) [] r row all one = absurd all
 spell_more buses (q ∷ records) (x ∷ rows) r row all one = (all.0, spell_more buses records rows r row all.1 one)
 
-rows_more : (buses : LinkBuses) (rows : List SeenRow) (row : SeenRow) (from at to : Place) → HasRows buses rows from at
+rows_more : (buses : LinkBuses) (rows : List SeenRow) (row : SeenRow) (from at to : TextPlace) → HasRows buses rows from at
     → GivesRow buses row at to
     → HasRows buses (rows ++ row ∷ []) from to
 rows_more buses rows row from at to has next = record {
@@ -50,12 +50,12 @@ rows_more buses rows row from at to has next = record {
   spell = spell_more buses has.records rows next.next row has.spell next.spells;
 }
 
-no_rows : (buses : LinkBuses) (from : Place) → HasRows buses [] from from
+no_rows : (buses : LinkBuses) (from : TextPlace) → HasRows buses [] from from
 unfolding Reads
 no_rows buses from = record { records = []; reads = refl; spell = tt }
 
 -- a place that is left as it is
-between_same : (a : Left) (P : Place → Place → Type 0) → ((x : Place) → P x x) → Between a a P
+between_same : (a : TextLeft) (P : TextPlace → TextPlace → Type 0) → ((x : TextPlace) → P x x) → Between a a P
 between_same a P all = go a.text
   where
     go : (text : Option (List ℕ)) → Between (record { line = a.line; text = text })
@@ -64,7 +64,7 @@ between_same a P all = go a.text
     go (Some text) = all (record { line = a.line; text = text })
 
 -- what follows from a relation between two places
-pub between_map : (a b : Left) (P Q : Place → Place → Type 0) → ((x y : Place) → P x y → Q x y) → Between a b P
+pub between_map : (a b : TextLeft) (P Q : TextPlace → TextPlace → Type 0) → ((x y : TextPlace) → P x y → Q x y) → Between a b P
     → Between a b Q
 between_map a b P Q maps holds = go a.text b.text holds
   where
@@ -77,7 +77,7 @@ between_map a b P Q maps holds = go a.text b.text holds
         maps (record { line = a.line; text = from }) (record { line = b.line; text = to }) holds
 
 -- what is said of the place where a text begins
-pub at_start : (a c : Left) (Q : Place → Type 0) → Between a c (λ from to. Q from)
+pub at_start : (a c : TextLeft) (Q : TextPlace → Type 0) → Between a c (λ from to. Q from)
     → IfSome a.text (λ text. Q (record { line = a.line; text = text }))
 at_start a c Q holds = go a.text c.text holds
   where
@@ -89,8 +89,8 @@ at_start a c Q holds = go a.text c.text holds
     go (Some from) (Some to) holds = holds
 
 -- what is said of two places, and of the text at the second
-pub behind_start : (a b : Left) (P : Place → Place → Type 0) (Q : Place → Type 0) (S : Place → Type 0)
-    → ((x y : Place) → P x y → Q y → S x) → Between a b P
+pub behind_start : (a b : TextLeft) (P : TextPlace → TextPlace → Type 0) (Q : TextPlace → Type 0) (S : TextPlace → Type 0)
+    → ((x y : TextPlace) → P x y → Q y → S x) → Between a b P
     → IfSome b.text (λ text. Q (record { line = b.line; text = text }))
     → IfSome a.text (λ text. S (record { line = a.line; text = text }))
 behind_start a b P Q S join one two = go a.text b.text one two
@@ -106,12 +106,12 @@ behind_start a b P Q S join one two = go a.text b.text one two
 
 -- ---- one row
 
-module _ (buses : LinkBuses) (r : Record) (row : SeenRow) (spells : Spells buses r row) (a b : Left)
-    (gives : Between a b (λ from to. Gives from r to)) where
+module _ (buses : LinkBuses) (r : Record) (row : SeenRow) (spells : SpellsCapture buses r row) (a b : TextLeft)
+    (gives : Between a b (λ from to. GivesRecord from r to)) where
   pub row_taken : (old new : JudgeView) (text grown : List ℕ) → Took old row new text grown
       → Between a b (TakesNext buses old new text grown true)
   row_taken old new text grown took =
-      between_map a b (λ from to. Gives from r to) (TakesNext buses old new text grown true)
+      between_map a b (λ from to. GivesRecord from r to) (TakesNext buses old new text grown true)
       (λ x y g. (row, record { next = r; gives = g; spells = spells }, took)) gives
 
   pub row_refused : (judge : JudgeView) (tally : Tally) (text grown : List ℕ) (why : RowFault)
@@ -119,7 +119,7 @@ module _ (buses : LinkBuses) (r : Record) (row : SeenRow) (spells : Spells buses
       × (grown ≡ text))
       → StopsAt buses judge tally text grown a b (halt.Fault (fault.Row r.line why))
   row_refused judge tally text grown why refused =
-      between_map a b (λ from to. Gives from r to)
+      between_map a b (λ from to. GivesRecord from r to)
       (λ from to. (plan : Plan) (rows : List SeenRow) (so_far : List ℕ) → HasTold plan rows judge so_far
       → HasNoRow buses rows r.line why from to × (grown ≡ text))
       (λ x y g plan rows so_far has. let is = refused plan rows so_far has in
@@ -131,7 +131,7 @@ module _ (buses : LinkBuses) (r : Record) (row : SeenRow) (spells : Spells buses
       × TellsBefore (is_traced judge) plan rows so_far text grown found)
       → StopsAt buses judge tally text grown a b (halt.Unlawful found)
   row_unlawful judge tally text grown found unlawful =
-      between_map a b (λ from to. Gives from r to)
+      between_map a b (λ from to. GivesRecord from r to)
       (λ from to. (plan : Plan) (rows : List SeenRow) (so_far : List ℕ) → HasTold plan rows judge so_far
       → IsUnlawfulBefore plan buses rows found from to × IsCoveredBefore plan rows tally found
       × TellsBefore (is_traced judge) plan rows so_far text grown found)
@@ -159,18 +159,18 @@ module _ (buses : LinkBuses) (r : Record) (row : SeenRow) (spells : Spells buses
   row_stops judge tally text grown stop.Memory stops = tt
 
 -- a record that spells no row
-pub no_row : (buses : LinkBuses) (r : Record) (why : RowFault) (a b : Left) (judge : JudgeView) (tally : Tally) (text : List ℕ)
-    → Between a b (λ from to. Gives from r to)
+pub no_row : (buses : LinkBuses) (r : Record) (why : RowFault) (a b : TextLeft) (judge : JudgeView) (tally : Tally) (text : List ℕ)
+    → Between a b (λ from to. GivesRecord from r to)
     → row_of buses.masters buses.ports r.line r.fields ≡ Err why
     → StopsAt buses judge tally text text a b (halt.Fault (fault.Row r.line why))
 no_row buses r why a b judge tally text gives is =
-    between_map a b (λ from to. Gives from r to)
+    between_map a b (λ from to. GivesRecord from r to)
     (λ from to. (plan : Plan) (rows : List SeenRow) (so_far : List ℕ) → HasTold plan rows judge so_far
     → HasNoRow buses rows r.line why from to × (text ≡ text))
     (λ x y g plan rows so_far has. (record { next = r; gives = g; on_line = refl; no_row = inl is }, refl)) gives
 
 -- a record that is not read
-pub read_stops : (buses : LinkBuses) (judge : JudgeView) (tally : Tally) (text : List ℕ) (a b : Left) (why : RecordFault)
+pub read_stops : (buses : LinkBuses) (judge : JudgeView) (tally : Tally) (text : List ℕ) (a b : TextLeft) (why : RecordFault)
     → ((line : ℕ) → why ≡ record_fault.TooLong line → StopsLong a line)
     → StopsAt buses judge tally text text a b (halt.Fault (of_record why))
 read_stops buses judge tally text a b (record_fault.TooLong line) long = (long line refl, refl)
@@ -180,7 +180,7 @@ read_stops buses judge tally text a b record_fault.Memory long = tt
 -- ---- the loop
 
 module _ (buses : LinkBuses) (first : JudgeView) (old : Option (List ℕ)) where
-  pub took_none : (a : Left) → Between a a (TookRows buses first first old old [])
+  pub took_none : (a : TextLeft) → Between a a (TookRows buses first first old old [])
   took_none a = between_same a (TookRows buses first first old old []) (λ x. record {
     rows = [];
     has = no_rows buses x;
@@ -190,7 +190,7 @@ module _ (buses : LinkBuses) (first : JudgeView) (old : Option (List ℕ)) where
   })
 
   -- a row more, and the text grows; and then a front of it is written
-  pub took_more : (now next : JudgeView) (mid new : Option (List ℕ)) (text grown left : List ℕ) (a b c : Left)
+  pub took_more : (now next : JudgeView) (mid new : Option (List ℕ)) (text grown left : List ℕ) (a b c : TextLeft)
       → Between a b (TookRows buses first now old mid text)
       → Between b c (TakesNext buses now next text grown true) → Moves mid new grown left
       → Between a c (TookRows buses first next old new left)
@@ -211,14 +211,14 @@ module _ (buses : LinkBuses) (first : JudgeView) (old : Option (List ℕ)) where
       }) so_far one
 
   -- a row more, of which nothing is told
-  pub took_quietly : (now next : JudgeView) (mid : Option (List ℕ)) (text : List ℕ) (a b c : Left) (r : Record) (row : SeenRow)
-      → Between a b (TookRows buses first now old mid text) → Between b c (λ from to. Gives from r to)
-      → Spells buses r row → Took now row next text text → Between a c (TookRows buses first next old mid text)
+  pub took_quietly : (now next : JudgeView) (mid : Option (List ℕ)) (text : List ℕ) (a b c : TextLeft) (r : Record) (row : SeenRow)
+      → Between a b (TookRows buses first now old mid text) → Between b c (λ from to. GivesRecord from r to)
+      → SpellsCapture buses r row → Took now row next text text → Between a c (TookRows buses first next old mid text)
   took_quietly now next mid text a b c r row so_far gives spells took =
       took_more now next mid mid text text text a b c so_far (row_taken buses r row spells b c gives now next text text took)
       (record { front = []; is = refl; written = Appends-nil mid })
 
-  pub took_all : (now next : JudgeView) (mid : Option (List ℕ)) (text grown : List ℕ) (a b c : Left)
+  pub took_all : (now next : JudgeView) (mid : Option (List ℕ)) (text grown : List ℕ) (a b c : TextLeft)
       → Between a b (TookRows buses first now old mid text)
       → Between b c (TakesNext buses now next text grown false) → Between a c (AllTaken buses first next old mid grown)
   took_all now next mid text grown a b c so_far none =
@@ -235,7 +235,7 @@ module _ (buses : LinkBuses) (first : JudgeView) (old : Option (List ℕ)) where
       subst (λ t. IsToldEarlier t plan rows text) traced (told_earlier plan rows now text has)
 
   -- a write fails
-  pub fails : (tally : Tally) (now next : JudgeView) (mid new : Option (List ℕ)) (text grown left : List ℕ) (a b c : Left)
+  pub fails : (tally : Tally) (now next : JudgeView) (mid new : Option (List ℕ)) (text grown left : List ℕ) (a b c : TextLeft)
       → Between a b (TookRows buses first now old mid text)
       → Between b c (TakesNext buses now next text grown true) → AppendsPart mid new grown
       → IsJudged buses first tally old new left a (Err fault.Write)
@@ -259,14 +259,14 @@ module _ (buses : LinkBuses) (first : JudgeView) (old : Option (List ℕ)) where
       }) so_far one)
 
   -- the rows so far, with whatever stands after them
-  rest : (now : JudgeView) (mid : Option (List ℕ)) (text : List ℕ) (a b : Left) (S : Place → Type 0)
+  rest : (now : JudgeView) (mid : Option (List ℕ)) (text : List ℕ) (a b : TextLeft) (S : TextPlace → Type 0)
       → Between a b (TookRows buses first now old mid text)
-      → ((x y : Place) → TookRows buses first now old mid text x y → S x)
+      → ((x y : TextPlace) → TookRows buses first now old mid text x y → S x)
       → IfSome a.text (λ t. S (record { line = a.line; text = t }))
   rest now mid text a b S so_far to =
       at_start a b S (between_map a b (TookRows buses first now old mid text) (λ from at. S from) to so_far)
 
-  pub read_fails : (tally : Tally) (now : JudgeView) (mid : Option (List ℕ)) (text grown : List ℕ) (a b : Left)
+  pub read_fails : (tally : Tally) (now : JudgeView) (mid : Option (List ℕ)) (text grown : List ℕ) (a b : TextLeft)
       → Between a b (TookRows buses first now old mid text) → grown ≡ text
       → IsJudged buses first tally old mid grown a (Err fault.Read)
   read_fails tally now mid text grown a b so_far same =
@@ -283,7 +283,7 @@ module _ (buses : LinkBuses) (first : JudgeView) (old : Option (List ℕ)) where
             (earlier plan took.rows now wrote.told took.traced wrote.holds);
       })
 
-  so_far_part : (now : JudgeView) (mid : Option (List ℕ)) (text : List ℕ) (x y : Place)
+  so_far_part : (now : JudgeView) (mid : Option (List ℕ)) (text : List ℕ) (x y : TextPlace)
       (took : TookRows buses first now old mid text x y) (plan : Plan) → Judges plan [] first
       → WritesFront (IsToldPart (is_traced first) plan took.rows) old mid
   so_far_part now mid text x y took plan start =
@@ -291,7 +291,7 @@ module _ (buses : LinkBuses) (first : JudgeView) (old : Option (List ℕ)) where
       wrote_so_far (HasTold plan took.rows now) old mid text wrote (IsToldPart (is_traced first) plan took.rows)
       (earlier plan took.rows now wrote.told took.traced wrote.holds).part
 
-  pub halts : (tally : Tally) (now : JudgeView) (mid : Option (List ℕ)) (text grown : List ℕ) (a b c : Left) (why : Halt)
+  pub halts : (tally : Tally) (now : JudgeView) (mid : Option (List ℕ)) (text grown : List ℕ) (a b c : TextLeft) (why : Halt)
       → Between a b (TookRows buses first now old mid text)
       → StopsAt buses now tally text grown b c why → IsJudged buses first tally old mid grown a (answer_of why)
   halts tally now mid text grown a b c (halt.Unlawful found) so_far stop =

@@ -6,9 +6,9 @@ use Rattle.check_rows.specs.Row.{SeenRow}
 use Rattle.check_review.specs.Covered.{AppendsCoverage, HasCovered}
 use Rattle.check_review.specs.Verdict.{HasCounts, HasLeft, IsFirstUnlawful, IsLawfulFile}
 use Rattle.check_records.specs.Reading.{StopsLong}
-use Rattle.check_records.specs.Source.{Between, Left}
-use Rattle.check_records.specs.Text.{Ends, Gives, IsTooLong, Place}
-use Rattle.check_records.specs.Text.{Row as Record}
+use Rattle.check_records.specs.Source.{Between, TextLeft}
+use Rattle.check_records.specs.Text.{Ends, GivesRecord, IsTooLong, TextPlace}
+use Rattle.check_records.specs.Text.{RecordRow as Record}
 use Rattle.check_sides.specs.Plan.{Plan}
 use Rattle.check_rows.specs.Column.{header}
 use Rattle.check_review.specs.declared.tally.Tally.{Tally}
@@ -20,64 +20,64 @@ use Rattle.check_text.specs.declared.fault.Verdict.TheVariants.{Incomplete, Lawf
 use Rattle.check_text.specs.Buses.{LinkBuses}
 
 -- the next record is the header
-pub record HasHeader (from to : Place) : Type 0 where
+pub record HasHeader (from to : TextPlace) : Type 0 where
   pub first : Record
-  pub gives : Gives from first to
+  pub gives : GivesRecord from first to
   pub is : first.fields ≡ header
 
 -- from a place on a text has the header and these rows, up to another
-pub record Begins (buses : LinkBuses) (from : Place) (rows : List SeenRow) (at : Place) : Type 0 where
-  pub behind : Place
+pub record Begins (buses : LinkBuses) (from : TextPlace) (rows : List SeenRow) (at : TextPlace) : Type 0 where
+  pub behind : TextPlace
   pub top : HasHeader from behind
   pub has : HasRows buses rows behind at
 
 -- from a place on it is the header and these rows
-pub record IsCapture (buses : LinkBuses) (from : Place) (rows : List SeenRow) : Type 0 where
-  pub last : Place
-  pub end : Place
+pub record IsCapture (buses : LinkBuses) (from : TextPlace) (rows : List SeenRow) : Type 0 where
+  pub last : TextPlace
+  pub end : TextPlace
   pub begins : Begins buses from rows last
   pub ends : Ends last end
 
 -- the rows of a capture are lawful, and so many; or those to the end of some time are not, the first by this one. If it
 -- is asked which requests are left at the end of a lawful capture, these are left, or none is
-abbrev pub IsVerdict : Bool → Plan → LinkBuses → Place → Verdict → Type 0
+abbrev pub IsVerdict : Bool → Plan → LinkBuses → TextPlace → Verdict → Type 0
 IsVerdict asked plan buses from (Lawful counts) =
     (rows : List SeenRow) × IsCapture buses from rows × IsLawfulFile plan rows × HasCounts plan rows counts
     × HasLeft asked plan rows None
 IsVerdict asked plan buses from (Incomplete left) =
     (rows : List SeenRow) × IsCapture buses from rows × IsLawfulFile plan rows × HasLeft asked plan rows (Some left)
 IsVerdict asked plan buses from (Unlawful found) =
-    (rows : List SeenRow) × (at : Place) × Begins buses from rows at × IsTimeOver buses rows at
+    (rows : List SeenRow) × (at : TextPlace) × Begins buses from rows at × IsTimeOver buses rows at
     × IsFirstUnlawful plan rows found
 
 -- the first record is on this line and is not the header; or there is none, which is told of line 1
-abbrev pub HasNoHeader : Place → Place → ℕ → Type 0
+abbrev pub HasNoHeader : TextPlace → TextPlace → ℕ → Type 0
 HasNoHeader from to line =
-    (Ends from to × (line ≡ 1)) ⊎ ((first : Record) × Gives from first to × (line ≡ first.line)
+    (Ends from to × (line ≡ 1)) ⊎ ((first : Record) × GivesRecord from first to × (line ≡ first.line)
     × (first.fields ≢ header))
 
 -- why a text is no capture: of the first record that is no row, or none that may stand there, its line
-abbrev pub IsFault : Plan → LinkBuses → Place → CaptureFault → Type 0
-IsFault plan buses from (fault.Header line) = (to : Place) × HasNoHeader from to line
+abbrev pub IsFault : Plan → LinkBuses → TextPlace → CaptureFault → Type 0
+IsFault plan buses from (fault.Header line) = (to : TextPlace) × HasNoHeader from to line
 IsFault plan buses from (fault.TooLong line) =
-    IsTooLong from line ⊎ ((rows : List SeenRow) × (at : Place) × Begins buses from rows at × IsTooLong at line)
+    IsTooLong from line ⊎ ((rows : List SeenRow) × (at : TextPlace) × Begins buses from rows at × IsTooLong at line)
 IsFault plan buses from (fault.Row line why) =
-    (rows : List SeenRow) × (at : Place) × (to : Place) × Begins buses from rows at × HasNoRow buses rows line why at to
+    (rows : List SeenRow) × (at : TextPlace) × (to : TextPlace) × Begins buses from rows at × HasNoRow buses rows line why at to
 IsFault plan buses from fault.Read = ⊤
 IsFault plan buses from fault.Memory = ⊤
 IsFault plan buses from fault.Write = ⊤
 
 -- what is written before an answer that is given after the header and some rows
-pub record IsWrittenOf (asked trace : Bool) (plan : Plan) (buses : LinkBuses) (from : Place) (old new : Option (List ℕ))
+pub record IsWrittenOf (asked trace : Bool) (plan : Plan) (buses : LinkBuses) (from : TextPlace) (old new : Option (List ℕ))
     (answer : Result Verdict CaptureFault) : Type 0 where
   pub rows : List SeenRow
-  pub at : Place
+  pub at : TextPlace
   pub begins : Begins buses from rows at
   pub answers : IsAnswer asked plan buses answer rows at
   pub out : IsOut trace plan answer rows old new
 
 -- what is written before an answer: nothing before a fault of the header
-abbrev pub IsWritten : Bool → Bool → Plan → LinkBuses → Place → Option (List ℕ) → Option (List ℕ)
+abbrev pub IsWritten : Bool → Bool → Plan → LinkBuses → TextPlace → Option (List ℕ) → Option (List ℕ)
     → Result Verdict CaptureFault → Type 0
 IsWritten asked trace plan buses from old new (Ok verdict) = IsWrittenOf asked trace plan buses from old new (Ok verdict)
 IsWritten asked trace plan buses from old new (Err (fault.Header line)) = Appends old new []
@@ -92,28 +92,28 @@ IsWritten asked trace plan buses from old new (Err fault.Memory) =
 IsWritten asked trace plan buses from old new (Err fault.Write) = IsWrittenOf asked trace plan buses from old new (Err fault.Write)
 
 -- something holds of the rows of a text that a verdict is of, as far as they are lawful
-pub record OfCapture (plan : Plan) (buses : LinkBuses) (from : Place) (verdict : Verdict) (Holds : List SeenRow → Type 0)
+pub record OfCapture (plan : Plan) (buses : LinkBuses) (from : TextPlace) (verdict : Verdict) (Holds : List SeenRow → Type 0)
     : Type 0 where
   pub rows : List SeenRow
-  pub at : Place
+  pub at : TextPlace
   pub begins : Begins buses from rows at
   pub judged : AreJudged buses verdict rows at
   pub holds : OfJudged plan verdict rows Holds
 
 -- this was counted of them
-abbrev pub IsCovered : Plan → LinkBuses → Place → Tally → Verdict → Type 0
+abbrev pub IsCovered : Plan → LinkBuses → TextPlace → Tally → Verdict → Type 0
 IsCovered plan buses from tally verdict =
     OfCapture plan buses from verdict (λ crossed. HasCovered plan crossed tally)
 
 -- a text grew by what they cover, if that is asked for
-abbrev pub TellsCovered : Bool → Plan → LinkBuses → Place → List ℕ → List ℕ → Verdict → Type 0
+abbrev pub TellsCovered : Bool → Plan → LinkBuses → TextPlace → List ℕ → List ℕ → Verdict → Type 0
 TellsCovered asked plan buses from old new verdict =
     OfCapture plan buses from verdict (λ crossed. AppendsCoverage asked plan crossed old new)
 
 -- ---- for the proofs
 
 -- why no header was read
-abbrev pub HasHeaderFault : Left → Left → CaptureFault → Type 0
+abbrev pub HasHeaderFault : TextLeft → TextLeft → CaptureFault → Type 0
 HasHeaderFault old new (fault.Header line) = Between old new (λ from to. HasNoHeader from to line)
 HasHeaderFault old new (fault.TooLong line) = StopsLong old line
 HasHeaderFault old new (fault.Row line why) = ⊥

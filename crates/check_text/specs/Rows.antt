@@ -11,7 +11,7 @@ use Rattle.check_review.specs.Verdict.{HasCounts, HasLeft, IsFirstUnlawful, IsLa
 use Rattle.check_review.specs.Covered.{HasCovered, IsCoveredBefore, OfBefore, OfLawful}
 use Rattle.check_review.specs.View.{HasTold, Judges, TellsOn, is_asked, is_traced}
 use Rattle.check_review.specs.View.{JudgeView}
-use Rattle.check_lines.specs.declared.verdict.Counts.{Counts}
+use Rattle.check_lines.specs.declared.verdict.VerdictCounts.{VerdictCounts}
 use Rattle.check_review.specs.declared.stop.Ending.{Ending}
 use Rattle.check_review.specs.declared.stop.Refusal.{Refusal}
 use Rattle.check_review.specs.declared.stop.Refusal.TheVariants as refusal
@@ -19,9 +19,9 @@ use Rattle.check_review.specs.declared.stop.Stop.{Stop}
 use Rattle.check_review.specs.declared.stop.Stop.TheVariants as stop
 use Rattle.check_review.specs.declared.stop.Unlawful.{Unlawful}
 use Rattle.check_review.specs.declared.tally.Tally.{Tally}
-use Rattle.check_records.specs.Source.{Between, Left}
-use Rattle.check_records.specs.Text.{Ends, Gives, IsTooLong, Place, Reads}
-use Rattle.check_records.specs.Text.{Row as Record}
+use Rattle.check_records.specs.Source.{Between, TextLeft}
+use Rattle.check_records.specs.Text.{Ends, GivesRecord, IsTooLong, TextPlace, Reads}
+use Rattle.check_records.specs.Text.{RecordRow as Record}
 use Rattle.check_records.specs.Reading.{Reading, StopsLong}
 use Rattle.check_sides.specs.Plan.{Plan}
 use Rattle.check_unanswered.specs.declared.request.Left.{Left as LeftOver}
@@ -37,24 +37,24 @@ use Rattle.check_text.specs.declared.rows.Next.TheVariants as next
 use Rattle.check_text.specs.Buses.{LinkBuses}
 
 -- a record spells a row
-abbrev pub Spells : LinkBuses → Record → SeenRow → Type 0
-Spells buses r row = row_of buses.masters buses.ports r.line r.fields ≡ Ok row
+abbrev pub SpellsCapture : LinkBuses → Record → SeenRow → Type 0
+SpellsCapture buses r row = row_of buses.masters buses.ports r.line r.fields ≡ Ok row
 
 -- records spell rows, one for one
 abbrev pub SpellAll : LinkBuses → List Record → List SeenRow → Type 0
 SpellAll buses [] [] = ⊤
 SpellAll buses [] (row ∷ rows) = ⊥
 SpellAll buses (r ∷ records) [] = ⊥
-SpellAll buses (r ∷ records) (row ∷ rows) = Spells buses r row × SpellAll buses records rows
+SpellAll buses (r ∷ records) (row ∷ rows) = SpellsCapture buses r row × SpellAll buses records rows
 
 -- the next record is this row
-pub record GivesRow (buses : LinkBuses) (row : SeenRow) (from to : Place) : Type 0 where
+pub record GivesRow (buses : LinkBuses) (row : SeenRow) (from to : TextPlace) : Type 0 where
   pub next : Record
-  pub gives : Gives from next to
-  pub spells : Spells buses next row
+  pub gives : GivesRecord from next to
+  pub spells : SpellsCapture buses next row
 
 -- these rows stand between two places
-pub record HasRows (buses : LinkBuses) (rows : List SeenRow) (from to : Place) : Type 0 where
+pub record HasRows (buses : LinkBuses) (rows : List SeenRow) (from to : TextPlace) : Type 0 where
   pub records : List Record
   pub reads : Reads from records to
   pub spell : SpellAll buses records rows
@@ -63,32 +63,32 @@ pub record HasRows (buses : LinkBuses) (rows : List SeenRow) (from to : Place) :
 abbrev pub IsNoRow : LinkBuses → List SeenRow → Record → RowFault → Type 0
 IsNoRow buses rows r fault =
     (row_of buses.masters buses.ports r.line r.fields ≡ Err fault)
-    ⊎ ((row : SeenRow) × Spells buses r row × HasRowFault rows row fault)
+    ⊎ ((row : SeenRow) × SpellsCapture buses r row × HasRowFault rows row fault)
 
 -- the record on this line, the next one after these rows, is no row there
-pub record HasNoRow (buses : LinkBuses) (rows : List SeenRow) (line : ℕ) (fault : RowFault) (from to : Place) : Type 0 where
+pub record HasNoRow (buses : LinkBuses) (rows : List SeenRow) (line : ℕ) (fault : RowFault) (from to : TextPlace) : Type 0 where
   pub next : Record
-  pub gives : Gives from next to
+  pub gives : GivesRecord from next to
   pub on_line : line ≡ next.line
   pub no_row : IsNoRow buses rows next fault
 
 -- no row of the time of these rows is to come: the text ends, or a row of a later time is next
-abbrev pub IsTimeOver : LinkBuses → List SeenRow → Place → Type 0
+abbrev pub IsTimeOver : LinkBuses → List SeenRow → TextPlace → Type 0
 IsTimeOver buses rows at =
-    ((end : Place) × Ends at end) ⊎ ((row : SeenRow) × (to : Place) × GivesRow buses row at to × IsLater rows row)
+    ((end : TextPlace) × Ends at end) ⊎ ((row : SeenRow) × (to : TextPlace) × GivesRow buses row at to × IsLater rows row)
 
 -- ---- what becomes of rows, and of the text after them
 
 -- what is said of the rows that were taken, and of the place after them, if this is answered
-abbrev pub IsAnswer : Bool → Plan → LinkBuses → Result Verdict CaptureFault → List SeenRow → Place → Type 0
+abbrev pub IsAnswer : Bool → Plan → LinkBuses → Result Verdict CaptureFault → List SeenRow → TextPlace → Type 0
 IsAnswer asked plan buses (Ok (Lawful counts)) rows at =
-    ((end : Place) × Ends at end) × IsLawfulFile plan rows × HasCounts plan rows counts × HasLeft asked plan rows None
+    ((end : TextPlace) × Ends at end) × IsLawfulFile plan rows × HasCounts plan rows counts × HasLeft asked plan rows None
 IsAnswer asked plan buses (Ok (Incomplete left)) rows at =
-    ((end : Place) × Ends at end) × IsLawfulFile plan rows × HasLeft asked plan rows (Some left)
+    ((end : TextPlace) × Ends at end) × IsLawfulFile plan rows × HasLeft asked plan rows (Some left)
 IsAnswer asked plan buses (Ok (NotLawful found)) rows at = IsTimeOver buses rows at × IsFirstUnlawful plan rows found
 IsAnswer asked plan buses (Err (fault.Header line)) rows at = ⊥
 IsAnswer asked plan buses (Err (fault.TooLong line)) rows at = IsTooLong at line
-IsAnswer asked plan buses (Err (fault.Row line why)) rows at = (to : Place) × HasNoRow buses rows line why at to
+IsAnswer asked plan buses (Err (fault.Row line why)) rows at = (to : TextPlace) × HasNoRow buses rows line why at to
 IsAnswer asked plan buses (Err fault.Read) rows at = ⊤
 IsAnswer asked plan buses (Err fault.Memory) rows at = ⊤
 IsAnswer asked plan buses (Err fault.Write) rows at = ⊤
@@ -119,16 +119,16 @@ OfJudged plan (Incomplete left) rows Holds = OfLawful plan rows Holds
 OfJudged plan (NotLawful found) rows Holds = OfBefore plan rows found Holds
 
 -- the rows up to a place are those that a verdict is of: all of the text, or all to the end of some time
-abbrev pub AreJudged : LinkBuses → Verdict → List SeenRow → Place → Type 0
-AreJudged buses (Lawful counts) rows at = (end : Place) × Ends at end
-AreJudged buses (Incomplete left) rows at = (end : Place) × Ends at end
+abbrev pub AreJudged : LinkBuses → Verdict → List SeenRow → TextPlace → Type 0
+AreJudged buses (Lawful counts) rows at = (end : TextPlace) × Ends at end
+AreJudged buses (Incomplete left) rows at = (end : TextPlace) × Ends at end
 AreJudged buses (NotLawful found) rows at = IsTimeOver buses rows at
 
 -- ---- for the proofs: a judge that takes rows
 
 -- rows are unlawful, the first by this one, and the next row is of a later time
 pub record IsUnlawfulBefore (plan : Plan) (buses : LinkBuses) (rows : List SeenRow) (found : Unlawful)
-    (from to : Place) : Type 0 where
+    (from to : TextPlace) : Type 0 where
   pub row : SeenRow
   pub next : GivesRow buses row from to
   pub later : IsLater rows row
@@ -142,7 +142,7 @@ pub record Took (old : JudgeView) (row : SeenRow) (new : JudgeView) (text grown 
       → TellsOn plan (rows ++ row ∷ []) new so_far text grown
 
 -- the judge took the next row, or there is none
-abbrev pub TakesNext : LinkBuses → JudgeView → JudgeView → List ℕ → List ℕ → Bool → Place → Place → Type 0
+abbrev pub TakesNext : LinkBuses → JudgeView → JudgeView → List ℕ → List ℕ → Bool → TextPlace → TextPlace → Type 0
 TakesNext buses old new text grown true from to = (row : SeenRow) × GivesRow buses row from to × Took old row new text grown
 TakesNext buses old new text grown false from to = Ends from to × (new ≡ old) × (grown ≡ text)
 
@@ -152,7 +152,7 @@ TellsBefore trace plan rows so_far text grown found =
     (more : List ℕ) × (grown ≡ text ++ more) × IsToldBefore trace plan rows (so_far ++ more) found
 
 -- why it did not, whatever rows it had taken, and what was counted of them
-abbrev pub StopsAt : LinkBuses → JudgeView → Tally → List ℕ → List ℕ → Left → Left → Halt → Type 0
+abbrev pub StopsAt : LinkBuses → JudgeView → Tally → List ℕ → List ℕ → TextLeft → TextLeft → Halt → Type 0
 StopsAt buses judge tally text grown old new (halt.Unlawful found) =
     Between old new (λ from to. (plan : Plan) (rows : List SeenRow) (so_far : List ℕ) → HasTold plan rows judge so_far
     → IsUnlawfulBefore plan buses rows found from to × IsCoveredBefore plan rows tally found
@@ -168,12 +168,12 @@ StopsAt buses judge tally text grown old new (halt.Fault fault.Write) = ⊥
 
 -- what becomes of the next row, which this record spells, while nothing is told and no row is refused: the judge took it,
 -- it is left with its lanes in the first places of a buffer, there is none, or it stops the judge
-abbrev pub IsNext : LinkBuses → JudgeView → JudgeView → Left → Left → Record → List ℕ → Next → Type 0
+abbrev pub IsNext : LinkBuses → JudgeView → JudgeView → TextLeft → TextLeft → Record → List ℕ → Next → Type 0
 IsNext buses old new from to r lanes next.Taken =
-    Between from to (λ a b. Gives a r b)
-    × ((row : SeenRow) × Spells buses r row × ((text : List ℕ) → Took old row new text text))
+    Between from to (λ a b. GivesRecord a r b)
+    × ((row : SeenRow) × SpellsCapture buses r row × ((text : List ℕ) → Took old row new text text))
 IsNext buses old new from to r lanes (next.Left row) =
-    Between from to (λ a b. Gives a r b) × Spells buses r (seen_row row lanes) × (new ≡ old)
+    Between from to (λ a b. GivesRecord a r b) × SpellsCapture buses r (seen_row row lanes) × (new ≡ old)
 IsNext buses old new from to r lanes next.End = Between from to Ends × (new ≡ old)
 IsNext buses old new from to r lanes (next.Fault why) =
     (text : List ℕ) → StopsAt buses old new.tally text text from to (halt.Fault why)
@@ -198,7 +198,7 @@ halt_of line stop.Memory = halt.Fault fault.Memory
 
 -- a judge of no rows took these, from one place to another; what it told was written, but for this text
 pub record TookRows (buses : LinkBuses) (first now : JudgeView) (old new : Option (List ℕ)) (text : List ℕ)
-    (from to : Place) : Type 0 where
+    (from to : TextPlace) : Type 0 where
   pub rows : List SeenRow
   pub has : HasRows buses rows from to
   pub traced : is_traced now ≡ is_traced first
@@ -206,9 +206,9 @@ pub record TookRows (buses : LinkBuses) (first now : JudgeView) (old new : Optio
   pub told : (plan : Plan) → Judges plan [] first → Wrote (HasTold plan rows now) old new text
 
 -- and then there were no more
-abbrev pub AllTaken : LinkBuses → JudgeView → JudgeView → Option (List ℕ) → Option (List ℕ) → List ℕ → Place → Place → Type 0
+abbrev pub AllTaken : LinkBuses → JudgeView → JudgeView → Option (List ℕ) → Option (List ℕ) → List ℕ → TextPlace → TextPlace → Type 0
 AllTaken buses first now old new text from to =
-    (last : Place) × TookRows buses first now old new text from last × Ends last to
+    (last : TextPlace) × TookRows buses first now old new text from last × Ends last to
 
 -- what is told by an answer was written, but for this text; or a front of it
 abbrev pub WroteBy : Bool → Plan → Result Verdict CaptureFault → List SeenRow → Option (List ℕ) → Option (List ℕ) → List ℕ
@@ -228,15 +228,15 @@ IsCountedBy plan (Err why) rows tally = ⊤
 
 -- a judge of no rows took some and answers this
 pub record IsJudgedAt (buses : LinkBuses) (first : JudgeView) (tally : Tally) (old new : Option (List ℕ)) (text : List ℕ)
-    (answer : Result Verdict CaptureFault) (from : Place) : Type 0 where
+    (answer : Result Verdict CaptureFault) (from : TextPlace) : Type 0 where
   pub rows : List SeenRow
-  pub last : Place
+  pub last : TextPlace
   pub has : HasRows buses rows from last
   pub answers : (plan : Plan) → Judges plan [] first → IsAnswer (is_asked first) plan buses answer rows last
   pub covered : (plan : Plan) → Judges plan [] first → IsCountedBy plan answer rows tally
   pub told : (plan : Plan) → Judges plan [] first → WroteBy (is_traced first) plan answer rows old new text
 
-abbrev pub IsJudged : LinkBuses → JudgeView → Tally → Option (List ℕ) → Option (List ℕ) → List ℕ → Left → Result Verdict CaptureFault
+abbrev pub IsJudged : LinkBuses → JudgeView → Tally → Option (List ℕ) → Option (List ℕ) → List ℕ → TextLeft → Result Verdict CaptureFault
     → Type 0
 IsJudged buses first tally old new text at answer =
     IfSome at.text (λ left. IsJudgedAt buses first tally old new text answer (record { line = at.line; text = left }))
@@ -246,14 +246,14 @@ abbrev pub answer_of : Halt → Result Verdict CaptureFault
 answer_of (halt.Unlawful found) = Ok (NotLawful found)
 answer_of (halt.Fault why) = Err why
 
-abbrev pub refused : Refusal → Result Verdict CaptureFault
-refused (refusal.Unlawful found) = Ok (NotLawful found)
-refused refusal.Memory = Err fault.Memory
+abbrev pub verdict_refused : Refusal → Result Verdict CaptureFault
+verdict_refused (refusal.Unlawful found) = Ok (NotLawful found)
+verdict_refused refusal.Memory = Err fault.Memory
 
 -- the verdict over rows that are lawful: so many they are, and these requests are left, if it is asked which
-abbrev pub ended_with : Counts → Option LeftOver → Verdict
+abbrev pub ended_with : VerdictCounts → Option LeftOver → Verdict
 ended_with counts None = Lawful counts
 ended_with counts (Some left) = Incomplete left
 
-abbrev pub ended : Ending → Verdict
-ended ending = ended_with ending.counts ending.left
+abbrev pub verdict_at_end : Ending → Verdict
+verdict_at_end ending = ended_with ending.counts ending.left

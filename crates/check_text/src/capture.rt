@@ -11,7 +11,7 @@ use crate::fault::{CaptureFault, Verdict};
 use crate::header::is_header;
 use crate::out::finish;
 use crate::rows::judge_rows;
-use check_map::{MAX_MASTERS, MAX_PORTS};
+use check_map::{MAX_JUDGED_MASTERS, MAX_JUDGED_PORTS};
 use check_records::Records;
 use check_review::Judge;
 use check_rows::Buses;
@@ -46,8 +46,8 @@ pub fn judge_capture<R: Read + Drop, W: Write>(
     judge: &mut Judge,
     buses: &Buses<'_>,
 ) -> Result<Verdict, CaptureFault>
-    requires masters { length buses.now.masters.now ≤ MAX_MASTERS }
-    requires ports { length buses.now.ports.now ≤ MAX_PORTS }
+    requires masters { length buses.now.masters.now ≤ MAX_JUDGED_MASTERS }
+    requires ports { length buses.now.ports.now ≤ MAX_JUDGED_PORTS }
     requires buses { HasBuses judge.old.tally.watch.layout (link_buses buses.now) }
     ensures verdict { (plan : Plan) → Judges plan [] judge.old
         → IfOk result (λ verdict. IfSome (R.remaining reader) (λ text.

@@ -2,7 +2,7 @@
 ghost use Rattle.std.specs.Prelude.{◌≡◌};
 ghost use Rattle.check_text.specs.Fault.{of_record};
 
-use check_lines::Counts;
+use check_lines::VerdictCounts;
 use check_records::RecordFault;
 use check_review::Unlawful;
 use check_rows::RowFault;
@@ -12,7 +12,7 @@ use thiserror::Error;
 /// The verdict over a capture.
 #[derive(Debug, Drop)]
 pub enum Verdict {
-    Lawful(Counts),
+    Lawful(VerdictCounts),
     Unlawful(Unlawful),
     /// It is lawful, and requests are left at its end. This comes only if it is asked for.
     Incomplete(Left),

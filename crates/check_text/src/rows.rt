@@ -6,12 +6,12 @@ ghost use Rattle.check_rows.specs.Moment.{IsLink};
 ghost use Rattle.check_rows.specs.Row.{row_in, row_of};
 ghost use Rattle.check_review.specs.View.{is_covered};
 ghost use Rattle.check_text.specs.Buses.{HasBuses, link_buses};
-ghost use Rattle.check_text.specs.Rows.{AllTaken, GoesOn, IsJudged, IsNext, answer_of, ended, halt_of, refused};
+ghost use Rattle.check_text.specs.Rows.{AllTaken, GoesOn, IsJudged, IsNext, answer_of, verdict_at_end, halt_of, verdict_refused};
 
 use crate::fault::{CaptureFault, Verdict};
 use crate::out::write_long;
 use check_beats::MAX_LANES;
-use check_map::{MAX_MASTERS, MAX_PORTS};
+use check_map::{MAX_JUDGED_MASTERS, MAX_JUDGED_PORTS};
 use check_records::Records;
 use check_review::{Ending, Judge, Refusal, Stop, Unlawful};
 use check_rows::{Buses, Row, RowFault, read_bare_row, read_row};
@@ -44,8 +44,8 @@ fn row_at_hand<R: Read + Drop>(
     buses: &Buses<'_>,
     lanes: &mut [u8; MAX_LANES],
 ) -> Result<Row, RowFault>
-    requires masters { length buses.now.masters.now ≤ MAX_MASTERS }
-    requires ports { length buses.now.ports.now ≤ MAX_PORTS }
+    requires masters { length buses.now.masters.now ≤ MAX_JUDGED_MASTERS }
+    requires ports { length buses.now.ports.now ≤ MAX_JUDGED_PORTS }
     ensures value { row_in lanes.new result ≡ row_of buses.now.masters.now buses.now.ports.now
         records.now.row.line records.now.row.fields }
     ensures link { IfOk result (λ row. IsLink row.link) }
@@ -68,8 +68,8 @@ fn take_next<R: Read + Drop>(
     lanes: &mut [u8; MAX_LANES],
 ) -> Next
     requires fresh { records.old.fault ≡ None }
-    requires masters { length buses.now.masters.now ≤ MAX_MASTERS }
-    requires ports { length buses.now.ports.now ≤ MAX_PORTS }
+    requires masters { length buses.now.masters.now ≤ MAX_JUDGED_MASTERS }
+    requires ports { length buses.now.ports.now ≤ MAX_JUDGED_PORTS }
     requires buses { HasBuses judge.old.tally.watch.layout (link_buses buses.now) }
     ensures next { IsNext (link_buses buses.now) judge.old judge.new records.old.left records.new.left
         records.new.row lanes.new result }
@@ -114,8 +114,8 @@ fn take_rows<R: Read + Drop, W: Write>(
     text: &mut Vec<u8>,
 ) -> Result<(), Halt>
     requires fresh { records.old.fault ≡ None }
-    requires masters { length buses.now.masters.now ≤ MAX_MASTERS }
-    requires ports { length buses.now.ports.now ≤ MAX_PORTS }
+    requires masters { length buses.now.masters.now ≤ MAX_JUDGED_MASTERS }
+    requires ports { length buses.now.ports.now ≤ MAX_JUDGED_PORTS }
     requires buses { HasBuses judge.old.tally.watch.layout (link_buses buses.now) }
     requires empty { text.old.items ≡ [] }
     ensures same { writer.new.writer.ghost_name ≡ writer.old.writer.ghost_name }
@@ -157,8 +157,8 @@ fn answer_of(halt: Halt) -> Result<Verdict, CaptureFault>
 }
 
 /// What becomes of a capture whose last rows are refused.
-fn refused(refusal: Refusal) -> Result<Verdict, CaptureFault>
-    ensures { result ≡ refused refusal }
+fn verdict_refused(refusal: Refusal) -> Result<Verdict, CaptureFault>
+    ensures { result ≡ verdict_refused refusal }
 {
     match refusal {
         Refusal::Unlawful(found) => Ok(Verdict::Unlawful(found)),
@@ -167,8 +167,8 @@ fn refused(refusal: Refusal) -> Result<Verdict, CaptureFault>
 }
 
 /// The verdict over a capture that is lawful.
-fn ended(ending: Ending) -> Verdict
-    ensures { result ≡ ended ending }
+fn verdict_at_end(ending: Ending) -> Verdict
+    ensures { result ≡ verdict_at_end ending }
 {
     match ending.left {
         Some(left) => Verdict::Incomplete(left),
@@ -186,8 +186,8 @@ pub fn judge_rows<R: Read + Drop, W: Write>(
     text: &mut Vec<u8>,
 ) -> Result<Verdict, CaptureFault>
     requires fresh { records.old.fault ≡ None }
-    requires masters { length buses.now.masters.now ≤ MAX_MASTERS }
-    requires ports { length buses.now.ports.now ≤ MAX_PORTS }
+    requires masters { length buses.now.masters.now ≤ MAX_JUDGED_MASTERS }
+    requires ports { length buses.now.ports.now ≤ MAX_JUDGED_PORTS }
     requires buses { HasBuses judge.old.tally.watch.layout (link_buses buses.now) }
     requires empty { text.old.items ≡ [] }
     ensures same { writer.new.writer.ghost_name ≡ writer.old.writer.ghost_name }
@@ -199,7 +199,7 @@ pub fn judge_rows<R: Read + Drop, W: Write>(
         return answer_of(halt);
     }
     match judge.end(alloc, text) {
-        Ok(ending) => Ok(ended(ending)),
-        Err(refusal) => refused(refusal),
+        Ok(ending) => Ok(verdict_at_end(ending)),
+        Err(refusal) => verdict_refused(refusal),
     }
 }

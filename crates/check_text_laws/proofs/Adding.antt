@@ -7,9 +7,9 @@ use Rattle.check_rows.specs.Row.{SeenRow}
 use Rattle.check_coverage.specs.declared.bin.Bin.{Bin}
 use Rattle.check_coverage.specs.Bins.{bins}
 use Rattle.check_coverage.specs.Text.{TellsCoverage}
-use Rattle.check_lines.specs.declared.verdict.Counts.{Counts}
-use Rattle.check_review.specs.Count.{answered, asked}
-use Rattle.check_review.specs.Order.{IsCrossing, is_watched, seen, watched}
+use Rattle.check_lines.specs.declared.verdict.VerdictCounts.{VerdictCounts}
+use Rattle.check_review.specs.Count.{answered_in_past, asked_in_past}
+use Rattle.check_review.specs.Order.{IsCrossing, is_watched, sightings_of, watched}
 use Rattle.check_review.specs.Verdict.{HasCounts}
 use Rattle.check_review.proofs.Unique.{crossing_is_unique}
 use Rattle.check_text_laws.specs.Sums.{is_answered, is_asked, sum_of}
@@ -34,7 +34,7 @@ watched_at_most plan (row ∷ rows) = go (is_watched plan.layout row.sighting.li
     go true rest = omega (arith, rest)
     go false rest = omega (arith, rest)
 
-module _ (plan : Plan) (file crossed : List SeenRow) (counts : Counts) (old new : List ℕ)
+module _ (plan : Plan) (file crossed : List SeenRow) (counts : VerdictCounts) (old new : List ℕ)
     (crossing : IsCrossing file crossed) (has : HasCounts plan file counts) (few : length file < 2 ^ 64)
     (tells : TellsCoverage plan (watched plan.layout crossed) old new) where
   abbrev rows : List SeenRow
@@ -53,15 +53,15 @@ module _ (plan : Plan) (file crossed : List SeenRow) (counts : Counts) (old new 
       let whole : how_many is_asked (bins plan rows) ≡ how_many is_asked (bins plan rows) % 2 ^ 64 =
       omega (arith, few_bins) in
       told plan rows old new tells is_asked few_bins ∙ whole ∙ asked_is plan rows
-      ∙ ap (λ l. asked plan (seen plan.layout l)) (crossing_is_unique file crossed has.crossed crossing has.crossing)
+      ∙ ap (λ l. asked_in_past plan (sightings_of plan.layout l)) (crossing_is_unique file crossed has.crossed crossing has.crossing)
       ∙ sym has.requests
 
-  pub answered_add_up : IsLawful plan (seen plan.layout crossed) → sum_of is_answered tells.entries ≡ counts.answered
+  pub answered_add_up : IsLawful plan (sightings_of plan.layout crossed) → sum_of is_answered tells.entries ≡ counts.answered
   answered_add_up lawful =
       let most = answered_at_most plan rows lawful in
       let few_bins : how_many is_answered (bins plan rows) < 2 ^ 64 = omega (arith, most, few_rows) in
       let whole : how_many is_answered (bins plan rows) ≡ how_many is_answered (bins plan rows) % 2 ^ 64 =
       omega (arith, few_bins) in
       told plan rows old new tells is_answered few_bins ∙ whole ∙ answered_is plan rows lawful
-      ∙ ap (λ l. answered plan (seen plan.layout l)) (crossing_is_unique file crossed has.crossed crossing has.crossing)
+      ∙ ap (λ l. answered_in_past plan (sightings_of plan.layout l)) (crossing_is_unique file crossed has.crossed crossing has.crossing)
       ∙ sym has.answered

@@ -4,11 +4,11 @@ use Rattle.std.specs.Prelude.{slice_range}
 use Rattle.check_watch.specs.declared.beat.Beat.{Beat}
 use Rattle.check_watch.specs.declared.beat.Beat.TheVariants.{A, D}
 use Rattle.check_beats.specs.State.{ask_of, ends_ask}
-use Rattle.check_watch.specs.Plan.{Plan, Sighting, bus_of, side_of, wide_of}
+use Rattle.check_watch.specs.Plan.{GroupPlan, Sighting, bus_in_group, side_of, wide_of}
 use Rattle.check_watch.specs.Scene.{begins_reply}
 use Rattle.check_watch_laws.specs.Crossed.{AskSeen, ask_ended, asking_at, asks, next_answered, replies, replying_at}
 use Rattle.check_watch_laws.specs.Memories.{ask_answered, is_for}
-use Rattle.check_watch_laws.specs.Moments.{Moment, moment_of, moments, moments_with}
+use Rattle.check_watch_laws.specs.Moments.{RequestMoment, moment_of, moments, moments_with}
 use Rattle.check_watch_laws.specs.Moments.Act.{Accepts, Answers}
 
 -- ---- lists
@@ -23,7 +23,7 @@ range_one {X} xs n =
     subst (λ k. length (take k (drop n xs)) ≤ 1) (sym one) (take_one (drop n xs))
 
 -- as many as before, or fewer
-picked : (is_one : AskSeen → Bool) (made : AskSeen → Moment) (seen : List AskSeen) → length seen ≤ 1
+picked : (is_one : AskSeen → Bool) (made : AskSeen → RequestMoment) (seen : List AskSeen) → length seen ≤ 1
     → length (map made (filter is_one seen)) ≤ 1
 picked is_one made [] few = omega arith
 picked is_one made (x ∷ []) few = go (is_one x)
@@ -33,16 +33,16 @@ picked is_one made (x ∷ []) few = go (is_one x)
     go false = omega arith
 picked is_one made (x ∷ y ∷ seen) few = absurd (omega (arith, few))
 
-one_moment : (plan : Plan) (port : ℕ) (past : List Sighting) (x : Sighting) (beat : Beat)
+one_moment : (plan : GroupPlan) (port : ℕ) (past : List Sighting) (x : Sighting) (beat : Beat)
     → length (moments_with plan port past x beat) ≤ 1
 one_moment plan port past x (A beat) =
     picked (is_for plan port) (moment_of Accepts (wide_of plan x.link beat.source)) (ask_ended plan.layout past x (A beat))
-    (go (ends_ask (bus_of plan.layout x.link) (asking_at plan.layout x.link past) beat))
+    (go (ends_ask (bus_in_group plan.layout x.link) (asking_at plan.layout x.link past) beat))
   where
     go : (b : Bool) → length {A = AskSeen} (if b then record {
       link = x.link;
-      ask = ask_of (bus_of plan.layout x.link) (asking_at plan.layout x.link past) beat
-          (take (bus_of plan.layout x.link) x.lanes);
+      ask = ask_of (bus_in_group plan.layout x.link) (asking_at plan.layout x.link past) beat
+          (take (bus_in_group plan.layout x.link) x.lanes);
     } ∷ [] else []) ≤ 1
     go true = omega arith
     go false = omega arith
@@ -78,18 +78,18 @@ front {X} (x ∷ xs) ys (m ∷ ms) ws same few =
 -- ---- moments
 
 -- of each front of these moments
-abbrev pub OfFronts : (List Moment → Type 0) → List Moment → Type 0
-OfFronts P all = (before later : List Moment) → before ++ later ≡ all → P before
+abbrev pub OfFronts : (List RequestMoment → Type 0) → List RequestMoment → Type 0
+OfFronts P all = (before later : List RequestMoment) → before ++ later ≡ all → P before
 
-pub fronts_none : (P : List Moment → Type 0) → P [] → OfFronts P []
+pub fronts_none : (P : List RequestMoment → Type 0) → P [] → OfFronts P []
 fronts_none P holds [] later is = holds
 fronts_none P holds (moment ∷ before) later is = absurd (cc)
 
-pub fronts_more : (plan : Plan) (port : ℕ) (past : List Sighting) (x : Sighting) (P : List Moment → Type 0)
+pub fronts_more : (plan : GroupPlan) (port : ℕ) (past : List Sighting) (x : Sighting) (P : List RequestMoment → Type 0)
     → OfFronts P (moments plan port past) → P (moments plan port (x ∷ past)) → OfFronts P (moments plan port (x ∷ past))
 fronts_more plan port past x P earlier now before later is =
     ⊎_elim
     (λ (all : before ≡ moments plan port past ++ moments_with plan port past x x.beat). subst P (sym all) now)
-    (λ (some : (rest : List Moment) × (before ++ rest ≡ moments plan port past)). earlier before some.0 some.1)
+    (λ (some : (rest : List RequestMoment) × (before ++ rest ≡ moments plan port past)). earlier before some.0 some.1)
     (front before later (moments plan port past) (moments_with plan port past x x.beat) is
     (one_moment plan port past x x.beat))

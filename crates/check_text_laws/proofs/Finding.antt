@@ -7,7 +7,7 @@ use Rattle.check_watch.specs.declared.beat.Beat.TheVariants.{A}
 use Rattle.check_watch.specs.declared.seen.Ended.{Ended}
 use Rattle.check_watch_laws.proofs.Turns.{eqb_own}
 use Rattle.check_sides.specs.Plan.{Plan}
-use Rattle.check_coverage.specs.Flights.{InFlight, begun, flights_after, grown, is_of, is_whole_ask, with_beat, with_begun}
+use Rattle.check_coverage.specs.Flights.{InFlight, begun, flights_after, grown, is_of, ends_an_ask, with_beat, with_begun}
 use Rattle.check_coverage.proofs.Places.{found_any}
 
 -- the request in flight of a wide source
@@ -88,7 +88,7 @@ module _ (plan : Plan) (own : ℕ) (beat : AskHead) (flights : List InFlight) (b
   start = begun plan own beat
 
   abbrev grows : InFlight → InFlight
-  grows = with_beat bus own beat (is_whole_ask end)
+  grows = with_beat bus own beat (ends_an_ask end)
 
   abbrev pub after : List InFlight
   after = flights_after plan bus own flights (A beat) end
@@ -103,35 +103,35 @@ module _ (plan : Plan) (own : ℕ) (beat : AskHead) (flights : List InFlight) (b
   some_begun f is = ap more (sym (found_any (is_of own) flights) ∙ ap (λ (o : Option InFlight). is_some o) is)
 
   -- it begins
-  pub own_begins : found own flights ≡ None → found own after ≡ Some (grown bus beat (is_whole_ask end) start)
+  pub own_begins : found own flights ≡ None → found own after ≡ Some (grown bus beat (ends_an_ask end) start)
   own_begins none =
       ap (λ l. found own (map grows l)) (none_begun none)
-      ∙ found_grown bus own beat (is_whole_ask end) own (flights ++ start ∷ [])
+      ∙ found_grown bus own beat (ends_an_ask end) own (flights ++ start ∷ [])
       ∙ ap (λ o. option_map grows o) (found_last own flights start none (eqb_own own))
-      ∙ ap (λ r. Some r) (grow_own bus own beat (is_whole_ask end) start (eqb_own own))
+      ∙ ap (λ r. Some r) (grow_own bus own beat (ends_an_ask end) start (eqb_own own))
 
   -- or it goes on
   pub own_goes_on : (f : InFlight) → found own flights ≡ Some f
-      → found own after ≡ Some (grown bus beat (is_whole_ask end) f)
+      → found own after ≡ Some (grown bus beat (ends_an_ask end) f)
   own_goes_on f is =
       ap (λ l. found own (map grows l)) (some_begun f is)
-      ∙ found_grown bus own beat (is_whole_ask end) own flights
+      ∙ found_grown bus own beat (ends_an_ask end) own flights
       ∙ ap (λ o. option_map grows o) is
-      ∙ ap (λ r. Some r) (grow_own bus own beat (is_whole_ask end) f (found_of own flights f is))
+      ∙ ap (λ r. Some r) (grow_own bus own beat (ends_an_ask end) f (found_of own flights f is))
 
   -- one of them is found
-  pub own_found : (f : InFlight) × (found own after ≡ Some f) × (f.is_whole ≡ is_whole_ask end)
+  pub own_found : (f : InFlight) × (found own after ≡ Some f) × (f.is_whole ≡ ends_an_ask end)
   own_found = go (found own flights) refl
     where
       go : (o : Option InFlight) → found own flights ≡ o
-          → (f : InFlight) × (found own after ≡ Some f) × (f.is_whole ≡ is_whole_ask end)
-      go None is = (grown bus beat (is_whole_ask end) start, own_begins is, refl)
-      go (Some f) is = (grown bus beat (is_whole_ask end) f, own_goes_on f is, refl)
+          → (f : InFlight) × (found own after ≡ Some f) × (f.is_whole ≡ ends_an_ask end)
+      go None is = (grown bus beat (ends_an_ask end) start, own_begins is, refl)
+      go (Some f) is = (grown bus beat (ends_an_ask end) f, own_goes_on f is, refl)
 
   -- that of another source stays
   pub other_stays : (wide : ℕ) → (own == wide) ≡ false → found wide after ≡ found wide flights
   other_stays wide apart =
-      found_grown bus own beat (is_whole_ask end) wide (with_begun plan own beat flights)
+      found_grown bus own beat (ends_an_ask end) wide (with_begun plan own beat flights)
       ∙ ap (λ o. option_map grows o) (same (found own flights) refl)
       ∙ still (found wide flights) refl
     where
@@ -143,7 +143,7 @@ module _ (plan : Plan) (own : ℕ) (beat : AskHead) (flights : List InFlight) (b
       still : (o : Option InFlight) → found wide flights ≡ o → option_map grows o ≡ o
       still None is = refl
       still (Some f) is = ap (λ r. Some r)
-          (grow_other bus own beat (is_whole_ask end) f (not_own own wide f.wide apart (found_of wide flights f is)))
+          (grow_other bus own beat (ends_an_ask end) f (not_own own wide f.wide apart (found_of wide flights f is)))
 
 -- ---- a reply that ends
 

@@ -1,7 +1,7 @@
 -- Lawful beats keep the rules in each group, and the way back.
 use Rattle.std.proofs.Common.{◌≡◌, Bool, true, false, List, refl}
 use Rattle.check_watch.specs.declared.beat.Link.TheVariants.{Master, Port}
-use Rattle.check_watch.specs.Plan.{Sighting, number_of}
+use Rattle.check_watch.specs.Plan.{Sighting, link_number}
 use Rattle.check_watch_laws.specs.Rules as group
 use Rattle.check_watch_laws.proofs.Back as group_back
 use Rattle.check_watch_laws.proofs.Rules as group_rules
@@ -11,12 +11,12 @@ use Rattle.check_sides.specs.Lawful.{IsLawful}
 use Rattle.check_sides.specs.Plan.{Plan, IsPlan}
 use Rattle.check_sides.proofs.Fresh.{shared_is_plan}
 use Rattle.check_sides.proofs.Grouping.{apart_from, in_group, of_group}
-use Rattle.check_text_laws.specs.Groups.{AlwaysKeepsRules, AreSeenWhole, AreWatched}
+use Rattle.check_text_laws.specs.Groups.{EachGroupKeepsRules, AreAllSeenWhole, AreAllWatched}
 use Rattle.check_text_laws.proofs.Parts.{alone_port, master_shared, port_part, shared_part, together}
 use Rattle.check_text_laws.proofs.Watched.{port_is_plan, port_watched, shared_watched}
 
-pub always_keeps : (plan : Plan) (past : List Sighting) → IsPlan plan → AreWatched plan.layout past → IsLawful plan past
-    → AlwaysKeepsRules plan past
+pub always_keeps : (plan : Plan) (past : List Sighting) → IsPlan plan → AreAllWatched plan.layout past → IsLawful plan past
+    → EachGroupKeepsRules plan past
 always_keeps plan past is watched lawful link = go (is_alone plan.layout.links link) refl
   where
     go : (b : Bool) → is_alone plan.layout.links link ≡ b
@@ -27,11 +27,11 @@ always_keeps plan past is watched lawful link = go (is_alone plan.layout.links l
         (shared_watched plan past watched) (shared_part plan past lawful))
     go true so =
         of_group plan past link (λ p l. group.AlwaysKeepsRules p l) true so
-        (group_rules.always_keeps (port_plan plan) (port_past (number_of link) past) (port_is_plan plan is)
-        (port_watched plan (number_of link) past watched)
-        (port_part plan (apart_from plan.layout.links link so) (number_of link) past lawful))
+        (group_rules.always_keeps (port_plan plan) (port_past (link_number link) past) (port_is_plan plan is)
+        (port_watched plan (link_number link) past watched)
+        (port_part plan (apart_from plan.layout.links link so) (link_number link) past lawful))
 
-pub seen_whole : (plan : Plan) (past : List Sighting) → IsLawful plan past → AreSeenWhole plan past
+pub seen_whole : (plan : Plan) (past : List Sighting) → IsLawful plan past → AreAllSeenWhole plan past
 seen_whole plan past lawful link = go (is_alone plan.layout.links link) refl
   where
     go : (b : Bool) → is_alone plan.layout.links link ≡ b
@@ -41,11 +41,11 @@ seen_whole plan past lawful link = go (is_alone plan.layout.links link) refl
         (group_whole.seen_whole (shared_plan plan) (shared_past plan.layout.links past) (shared_part plan past lawful))
     go true so =
         of_group plan past link (λ p l. group.AreSeenWhole p l) true so
-        (group_whole.seen_whole (port_plan plan) (port_past (number_of link) past)
-        (port_part plan (apart_from plan.layout.links link so) (number_of link) past lawful))
+        (group_whole.seen_whole (port_plan plan) (port_past (link_number link) past)
+        (port_part plan (apart_from plan.layout.links link so) (link_number link) past lawful))
 
-pub rules_make_lawful : (plan : Plan) (past : List Sighting) → IsPlan plan → AreWatched plan.layout past
-    → AreSeenWhole plan past → AlwaysKeepsRules plan past → IsLawful plan past
+pub rules_make_lawful : (plan : Plan) (past : List Sighting) → IsPlan plan → AreAllWatched plan.layout past
+    → AreAllSeenWhole plan past → EachGroupKeepsRules plan past → IsLawful plan past
 rules_make_lawful plan past is watched seen always =
     together plan past (record {
       shared = group_back.rules_make_lawful (shared_plan plan) (shared_past plan.layout.links past)

@@ -3,23 +3,23 @@ use Rattle.std.proofs.Common.{◌≡◌, ◌≢◌, ◌∙◌, ◌⊎◌, inl, i
 use Rattle.std.specs.Prelude.{nat_lt}
 use Rattle.std.specs.List.{AllByRecursion}
 use Rattle.tl_types.specs.Request.{Request}
-use Rattle.check_map.specs.Ranges.{IsLawfulMap, RoutesBytes}
+use Rattle.check_map.specs.Ranges.{IsLawfulAddressMap, RoutesBytesByRanges}
 use Rattle.check_map.proofs.Routing.{one_port}
 use Rattle.check_beats.specs.Message.{op_of}
 use Rattle.check_flight.specs.Crossing.{Crossing}
 use Rattle.check_flight.specs.Crossing.Crossing.{Waiting, Crossed, Given}
 use Rattle.check_flight.specs.Flight.{Turn}
 use Rattle.check_flight.specs.Flight.Turn.{Idle, Asking, Asked}
-use Rattle.check_watch.specs.Lawful.{IsLawful as IsGroupLawful}
+use Rattle.check_watch.specs.Lawful.{IsLawfulGroup as IsGroupLawful}
 use Rattle.check_watch.specs.Past.{State, state}
-use Rattle.check_watch.specs.Plan.{IsPlan as IsGroupPlan, Plan as GroupPlan, Side, Sighting}
-use Rattle.check_watch.specs.Plan.Side.{AtMasters, AtPorts}
+use Rattle.check_watch.specs.Plan.{IsGroupPlan, GroupPlan, LinkSide, Sighting}
+use Rattle.check_watch.specs.Plan.LinkSide.{AtMasters, AtPorts}
 use Rattle.check_watch.specs.declared.beat.Link.TheVariants.{Port}
-use Rattle.check_watch.specs.declared.links.Links.TheVariants as together
+use Rattle.check_watch.specs.declared.links.GroupLinks.TheVariants as together
 use Rattle.check_watch_laws.specs.Crossed.{AreWatched as AreGroupWatched}
 use Rattle.check_watch_laws.specs.Memories.{port_for, side_by, side_for}
 use Rattle.check_watch_laws.specs.Messages.{IsInPlace}
-use Rattle.check_watch_laws.specs.Moments.{Moment, moments}
+use Rattle.check_watch_laws.specs.Moments.{RequestMoment, moments}
 use Rattle.check_watch_laws.specs.Moments.Act.{Accepts}
 use Rattle.check_watch_laws.proofs.Crossing.{all_stand, last_of_all, story_at}
 use Rattle.check_watch_laws.proofs.Flights.{in_step, pending}
@@ -42,17 +42,17 @@ use Rattle.check_text_laws.proofs.Rows.{counted_side}
 -- ---- what is open
 
 -- no later moment is of this source
-stays_open : (held : ℕ → Option Request) (later : List Moment) (wide : ℕ)
-    → AllByRecursion (λ (moment : Moment). moment.wide ≢ wide) later → open_after held later wide ≡ held wide
+stays_open : (held : ℕ → Option Request) (later : List RequestMoment) (wide : ℕ)
+    → AllByRecursion (λ (moment : RequestMoment). moment.wide ≢ wide) later → open_after held later wide ≡ held wide
 stays_open held [] wide none = refl
 stays_open held (moment ∷ later) wide none =
     stays_open (open_then held moment) later wide none.1
     ∙ open_there held moment wide (λ is. none.0 (sym is))
 
-pub open_of : (all : List Moment) (wide : ℕ) (ask : Request) → IsOpen all wide ask
+pub open_of : (all : List RequestMoment) (wide : ℕ) (ask : Request) → IsOpen all wide ask
     → open_after none_open all wide ≡ Some ask
 open_of all wide ask is =
-    let accepted : Moment = record { act = Accepts; wide = wide; ask = ask } in
+    let accepted : RequestMoment = record { act = Accepts; wide = wide; ask = ask } in
     ap (λ l. open_after none_open l wide) is.accepted
     ∙ ap (λ (f : ℕ → Option Request). f wide) (open_more none_open is.before (accepted ∷ is.later))
     ∙ stays_open (open_then (open_after none_open is.before) accepted) is.later wide is.unanswered
@@ -128,7 +128,7 @@ pub record IsHead (port : ℕ) (kept : Option InFlight) (ask : Request) : Type 0
   pub address : ask.address ≡ flight.first.address
   pub size : ask.size ≡ flight.first.size
 
-module _ (plan : Plan) (is_plan : IsGroupPlan (shared_plan plan)) (map : IsLawfulMap plan.layout.ports)
+module _ (plan : Plan) (is_plan : IsGroupPlan (shared_plan plan)) (map : IsLawfulAddressMap plan.layout.ports)
     (past : List Sighting) (watched : AreGroupWatched (shared_plan plan).layout past)
     (lawful : IsGroupLawful (shared_plan plan) past) (flights : List InFlight)
     (kept : AreKept plan (state (shared_plan plan) past) (counted_side plan.layout.links) flights) (port wide : ℕ)
@@ -139,7 +139,7 @@ module _ (plan : Plan) (is_plan : IsGroupPlan (shared_plan plan)) (map : IsLawfu
   abbrev s : State
   s = state p past
 
-  abbrev side : Side
+  abbrev side : LinkSide
   side = side_for p.layout port
 
   at : IsAskedAt p s port wide side (s.flights side wide).turn ask
@@ -148,7 +148,7 @@ module _ (plan : Plan) (is_plan : IsGroupPlan (shared_plan plan)) (map : IsLawfu
 
   -- a port's link has requests of the port alone
   routed : (number : ℕ) → (s.flights AtPorts wide).turn ≡ Asked number ask
-      → RoutesBytes plan.layout.ports ask.address ask.size number
+      → RoutesBytesByRanges plan.layout.ports ask.address ask.size number
   routed number is =
       let step = in_step p past lawful AtPorts wide in
       last_of_all (IsInPlace p.layout) step.done (record { link = Port number; ask = ask })
@@ -159,7 +159,7 @@ module _ (plan : Plan) (is_plan : IsGroupPlan (shared_plan plan)) (map : IsLawfu
   route_is : plan.route ask.address ask.size ≡ port
   route_is = go side at.number at.turn_is at.goes
     where
-      go : (sd : Side) (number : ℕ) → (s.flights sd wide).turn ≡ Asked number ask
+      go : (sd : LinkSide) (number : ℕ) → (s.flights sd wide).turn ≡ Asked number ask
           → port_for p (link_on sd number) ask ≡ port → plan.route ask.address ask.size ≡ port
       go AtMasters number is goes = goes
       go AtPorts number is goes =

@@ -14,8 +14,8 @@ use Rattle.check_flight.specs.Flight.Turn.{Idle, Asking, Asked}
 use Rattle.check_flight.specs.declared.answer.Answer.{Answer}
 use Rattle.check_watch.specs.Allowed.{IsAllowedAsk, IsAllowedReply, IsMust}
 use Rattle.check_watch.specs.Past.{State, scene_of, state_after}
-use Rattle.check_watch.specs.Plan.{Layout, Plan as GroupPlan, Side, is_link, is_of, number_of, same_side, side_of, wide_of}
-use Rattle.check_watch.specs.Scene.{Scene, ask_by, captured, ended, flight_after, is_given, must_by, seen, seen_ask, seen_reply, turn_by, under_after}
+use Rattle.check_watch.specs.Plan.{GroupLayout, GroupPlan, LinkSide, is_link, is_of, link_number, same_side, side_of, wide_of}
+use Rattle.check_watch.specs.Scene.{Scene, ask_by, captured, ended_by, flight_after, is_given, must_by, seen, seen_ask, seen_reply, turn_by, under_after}
 use Rattle.check_watch.specs.declared.beat.Beat.TheVariants.{A, D}
 use Rattle.check_watch.specs.declared.beat.Link.{Link}
 use Rattle.check_watch.specs.declared.seen.Ended.{Ended}
@@ -26,7 +26,7 @@ use Rattle.check_watch_laws.proofs.Links.{same_link}
 use Rattle.check_watch_laws.proofs.Turns.{AsksFly, asked_at, asking_same, is_link_by, open_before, same_side-refl, true_or_false}
 use Rattle.check_sides.specs.Groups.{shared_plan}
 use Rattle.check_sides.specs.Plan.{Plan}
-use Rattle.check_coverage.specs.Flights.{InFlight, begun, flights_after, grown, is_whole_ask, is_whole_reply}
+use Rattle.check_coverage.specs.Flights.{InFlight, begun, flights_after, grown, ends_an_ask, ends_a_reply}
 use Rattle.check_text_laws.proofs.Finding.{found, left, other_left, other_stays, own_begins, own_goes_on, own_left}
 
 -- ---- what is the same
@@ -53,10 +53,10 @@ IsKeptAs plan Idle kept = kept ≡ None
 IsKeptAs plan (Asking number) kept = Unit {0}
 IsKeptAs plan (Asked number ask) kept = IsWholeAs plan ask kept
 
-pub record AreKept (plan : Plan) (s : State) (side : Side) (flights : List InFlight) : Type 0 where
+pub record AreKept (plan : Plan) (s : State) (side : LinkSide) (flights : List InFlight) : Type 0 where
   pub turns : (wide : ℕ) → IsKeptAs plan (s.flights side wide).turn (found wide flights)
   pub begins : (link : Link) (b : AskBegun) → side_of link ≡ side
-      → (s.links (side_of link) (number_of link)).asking ≡ Some b
+      → (s.links (side_of link) (link_number link)).asking ≡ Some b
       → IsBegunAs plan b.first (found (wide_of (shared_plan plan) link b.first.source) flights)
 
 asked_or_asking : (m n : ℕ) (ask : Request) → Asked m ask ≡ Asking n → ⊥
@@ -70,10 +70,10 @@ asked_or_asking m n ask same = subst IsAsked same tt
 -- ---- what a beat ends
 
 pub ask_whole : (under : Under) (beat : AskHead) (lanes : List ℕ)
-    → is_whole_ask (ended (seen_ask (ask_by under beat lanes))) ≡ ends_ask under.bus under.asking beat
+    → ends_an_ask (ended_by (seen_ask (ask_by under beat lanes))) ≡ ends_ask under.bus under.asking beat
 ask_whole under beat lanes = go (ends_ask under.bus under.asking beat)
   where
-    go : (ends : Bool) → is_whole_ask (ended (seen_ask (if ends then Some (ask_of under.bus under.asking beat lanes) else None)))
+    go : (ends : Bool) → ends_an_ask (ended_by (seen_ask (if ends then Some (ask_of under.bus under.asking beat lanes) else None)))
         ≡ ends
     go true = refl
     go false = refl
@@ -88,9 +88,9 @@ must_some true crossing due reply is = some_of (given crossing) _ is
 must_some false crossing due reply is = some_of due _ is
 
 -- the last beat of a lawful reply ends it
-pub reply_whole : (layout : Layout) (link : Link) (scene : Scene) (beat : ReplyHead) (known : ℕ) (lanes : List ℕ)
+pub reply_whole : (layout : GroupLayout) (link : Link) (scene : Scene) (beat : ReplyHead) (known : ℕ) (lanes : List ℕ)
     → IsAllowedReply layout link scene beat known lanes
-    → is_whole_reply (ended (seen layout link scene (D beat) known lanes))
+    → ends_a_reply (ended_by (seen layout link scene (D beat) known lanes))
     ≡ ends_reply scene.under.bus scene.under.replying beat
 reply_whole layout link scene beat known lanes allowed = go (ends_reply scene.under.bus scene.under.replying beat) refl
   where
@@ -101,12 +101,12 @@ reply_whole layout link scene beat known lanes allowed = go (ends_reply scene.un
     must = must_by (is_given layout link scene.port) scene.crossing scene.flight.due
 
     go : (ends : Bool) → ends_reply scene.under.bus scene.under.replying beat ≡ ends
-        → is_whole_reply (ended (if ends then seen_reply scene.flight.turn reply must else Part)) ≡ ends
+        → ends_a_reply (ended_by (if ends then seen_reply scene.flight.turn reply must else Part)) ≡ ends
     go false is = refl
     go true is =
-        let asked = asked_at (number_of link) scene.flight.turn _ allowed.answers in
+        let asked = asked_at (link_number link) scene.flight.turn _ allowed.answers in
         let answer = must_some (is_given layout link scene.port) scene.crossing scene.flight.due reply (allowed.ends is) in
-        (λ i. is_whole_reply (ended (seen_reply (asked.1 i) reply (answer.1 i))))
+        (λ i. ends_a_reply (ended_by (seen_reply (asked.1 i) reply (answer.1 i))))
 
 -- ---- one beat more
 
@@ -116,7 +116,7 @@ module _ (plan : Plan) (s : State) (busy : AsksFly (shared_plan plan) s) (flight
   p = shared_plan plan
 
   abbrev under : Under
-  under = s.links (side_of link) (number_of link)
+  under = s.links (side_of link) (link_number link)
 
   -- a beat of the link's own side is of another source
   other_source : (own wide : ℕ) → (same_side (side_of link) (side_of link) && (own == wide)) ≡ false
@@ -125,7 +125,7 @@ module _ (plan : Plan) (s : State) (busy : AsksFly (shared_plan plan) s) (flight
 
   module _ (beat : AskHead)
       (allowed : IsAllowedAsk (shared_plan plan).layout link (scene_of (shared_plan plan) s link (A beat)) beat known lanes)
-      (end : Ended) (end_is : is_whole_ask end ≡ ends_ask under.bus under.asking beat) where
+      (end : Ended) (end_is : ends_an_ask end ≡ ends_ask under.bus under.asking beat) where
     abbrev own : ℕ
     own = wide_of p link beat.source
 
@@ -139,7 +139,7 @@ module _ (plan : Plan) (s : State) (busy : AsksFly (shared_plan plan) s) (flight
     record IsMine (asking : Option AskBegun) : Type 0 where
       flight : InFlight
       is : found own next ≡ Some flight
-      whole : flight.is_whole ≡ is_whole_ask end
+      whole : flight.is_whole ≡ ends_an_ask end
       first_is : flight.first ≡ unwrap_or (first_ask asking) beat
       fields : SameFields flight.first beat
       port : flight.port ≡ plan.route flight.first.address flight.first.size
@@ -152,7 +152,7 @@ module _ (plan : Plan) (s : State) (busy : AsksFly (shared_plan plan) s) (flight
             let none : found own flights ≡ None =
             subst (λ t. IsKeptAs plan t (found own flights)) (allowed.free is) (kept.turns own) in
             record {
-              flight = grown bus beat (is_whole_ask end) (begun plan own beat);
+              flight = grown bus beat (ends_an_ask end) (begun plan own beat);
               is = own_begins plan own beat flights bus end none;
               whole = refl;
               first_is = refl;
@@ -165,7 +165,7 @@ module _ (plan : Plan) (s : State) (busy : AsksFly (shared_plan plan) s) (flight
             subst (λ n. IsBegunAs plan b.first (found (wide_of p link n) flights)) (sym same.source)
             (kept.begins link b refl is) in
             record {
-              flight = grown bus beat (is_whole_ask end) was.flight;
+              flight = grown bus beat (ends_an_ask end) was.flight;
               is = own_goes_on plan own beat flights bus end was.flight was.is;
               whole = refl;
               first_is = was.first_is;
@@ -173,11 +173,11 @@ module _ (plan : Plan) (s : State) (busy : AsksFly (shared_plan plan) s) (flight
               port = was.port;
             }
 
-    own_turn : IsKeptAs plan (turn_by (number_of link) (ask_by under beat lanes)) (found own next)
+    own_turn : IsKeptAs plan (turn_by (link_number link) (ask_by under beat lanes)) (found own next)
     own_turn = by_end (ends_ask under.bus under.asking beat) refl
       where
         by_end : (ends : Bool) → ends_ask under.bus under.asking beat ≡ ends
-            → IsKeptAs plan (turn_by (number_of link)
+            → IsKeptAs plan (turn_by (link_number link)
             (if ends then Some (ask_of under.bus under.asking beat lanes) else None)) (found own next)
         by_end false is = tt
         by_end true is = record {
@@ -197,7 +197,7 @@ module _ (plan : Plan) (s : State) (busy : AsksFly (shared_plan plan) s) (flight
             → IsKeptAs plan (if of then flight_after p.layout link (scene_of p s link (A beat)) (A beat) lanes
             else s.flights (side_of link) wide).turn (found wide next)
         go true is =
-            subst (λ w. IsKeptAs plan (turn_by (number_of link) (ask_by under beat lanes)) (found w next))
+            subst (λ w. IsKeptAs plan (turn_by (link_number link) (ask_by under beat lanes)) (found w next))
             (of_is p (ask_at link known lanes beat) (side_of link) wide is).1 own_turn
         go false is =
             subst (λ o. IsKeptAs plan (s.flights (side_of link) wide).turn o)
@@ -205,22 +205,22 @@ module _ (plan : Plan) (s : State) (busy : AsksFly (shared_plan plan) s) (flight
 
     -- a request that is under way at another link is of another source
     elsewhere : (at : Link) (b : AskBegun) → side_of at ≡ side_of link
-        → (s.links (side_of at) (number_of at)).asking ≡ Some b
-        → is_link link (side_of at) (number_of at) ≡ false → (own == wide_of p at b.first.source) ≡ false
+        → (s.links (side_of at) (link_number at)).asking ≡ Some b
+        → is_link link (side_of at) (link_number at) ≡ false → (own == wide_of p at b.first.source) ≡ false
     elsewhere at b side asks other = go (own == wide_of p at b.first.source) refl
       where
-        turn : own ≡ wide_of p at b.first.source → (s.flights (side_of link) own).turn ≡ Asking (number_of at)
+        turn : own ≡ wide_of p at b.first.source → (s.flights (side_of link) own).turn ≡ Asking (link_number at)
         turn same =
-            subst (λ sd. (s.flights sd own).turn ≡ Asking (number_of at)) side
-            (subst (λ w. (s.flights (side_of at) w).turn ≡ Asking (number_of at)) (sym same) (busy at b asks))
+            subst (λ sd. (s.flights sd own).turn ≡ Asking (link_number at)) side
+            (subst (λ w. (s.flights (side_of at) w).turn ≡ Asking (link_number at)) (sym same) (busy at b asks))
 
         clash : own ≡ wide_of p at b.first.source → ⊥
         clash same =
             ⊎_elim
-            (λ (free : (s.flights (side_of link) own).turn ≡ Idle). idle_or_asking (number_of at) (sym free ∙ turn same))
-            (λ (asking : (s.flights (side_of link) own).turn ≡ Asking (number_of link)).
-            true_or_false (is_link link (side_of at) (number_of at))
-            (is_link_by link at (sym side) (asking_same (number_of link) (number_of at) (sym asking ∙ turn same))) other)
+            (λ (free : (s.flights (side_of link) own).turn ≡ Idle). idle_or_asking (link_number at) (sym free ∙ turn same))
+            (λ (asking : (s.flights (side_of link) own).turn ≡ Asking (link_number link)).
+            true_or_false (is_link link (side_of at) (link_number at))
+            (is_link_by link at (sym side) (asking_same (link_number link) (link_number at) (sym asking ∙ turn same))) other)
             (open_before p s busy link known lanes beat allowed)
 
         go : (same : Bool) → (own == wide_of p at b.first.source) ≡ same → same ≡ false
@@ -236,12 +236,12 @@ module _ (plan : Plan) (s : State) (busy : AsksFly (shared_plan plan) s) (flight
         (record { flight = mine.flight; is = mine.is; first_is = first; port = mine.port })
 
     ask_begun : (at : Link) (b : AskBegun) → side_of at ≡ side_of link
-        → (then_state.links (side_of at) (number_of at)).asking ≡ Some b
+        → (then_state.links (side_of at) (link_number at)).asking ≡ Some b
         → IsBegunAs plan b.first (found (wide_of p at b.first.source) next)
-    ask_begun at b side = go (is_link link (side_of at) (number_of at)) refl
+    ask_begun at b side = go (is_link link (side_of at) (link_number at)) refl
       where
-        go : (here : Bool) → is_link link (side_of at) (number_of at) ≡ here
-            → (if here then under_after under (A beat) known lanes else s.links (side_of at) (number_of at)).asking ≡ Some b
+        go : (here : Bool) → is_link link (side_of at) (link_number at) ≡ here
+            → (if here then under_after under (A beat) known lanes else s.links (side_of at) (link_number at)).asking ≡ Some b
             → IsBegunAs plan b.first (found (wide_of p at b.first.source) next)
         go true here is =
             subst (λ l. IsBegunAs plan b.first (found (wide_of p l b.first.source) next)) (same_link link at here)
@@ -259,14 +259,14 @@ module _ (plan : Plan) (s : State) (busy : AsksFly (shared_plan plan) s) (flight
   pub reply_answers : (beat : ReplyHead)
       → IsAllowedReply (shared_plan plan).layout link (scene_of (shared_plan plan) s link (D beat)) beat known lanes
       → (ask : Request)
-      × ((s.flights (side_of link) (wide_of (shared_plan plan) link beat.source)).turn ≡ Asked (number_of link) ask)
+      × ((s.flights (side_of link) (wide_of (shared_plan plan) link beat.source)).turn ≡ Asked (link_number link) ask)
   reply_answers beat allowed =
-      let is = asked_at (number_of link) (s.flights (side_of link) (wide_of p link beat.source)).turn _ allowed.answers in
+      let is = asked_at (link_number link) (s.flights (side_of link) (wide_of p link beat.source)).turn _ allowed.answers in
       (is.0, is.1)
 
   module _ (beat : ReplyHead)
       (allowed : IsAllowedReply (shared_plan plan).layout link (scene_of (shared_plan plan) s link (D beat)) beat known lanes)
-      (end : Ended) (end_is : is_whole_reply end ≡ ends_reply under.bus under.replying beat) where
+      (end : Ended) (end_is : ends_a_reply end ≡ ends_reply under.bus under.replying beat) where
     abbrev owner : ℕ
     owner = wide_of p link beat.source
 
@@ -302,27 +302,27 @@ module _ (plan : Plan) (s : State) (busy : AsksFly (shared_plan plan) s) (flight
 
     -- a request that is under way is not the one that is answered
     not_answered : (at : Link) (b : AskBegun) → side_of at ≡ side_of link
-        → (s.links (side_of at) (number_of at)).asking ≡ Some b → (owner == wide_of p at b.first.source) ≡ false
+        → (s.links (side_of at) (link_number at)).asking ≡ Some b → (owner == wide_of p at b.first.source) ≡ false
     not_answered at b side asks = go (owner == wide_of p at b.first.source) refl
       where
-        turn : owner ≡ wide_of p at b.first.source → (s.flights (side_of link) owner).turn ≡ Asking (number_of at)
+        turn : owner ≡ wide_of p at b.first.source → (s.flights (side_of link) owner).turn ≡ Asking (link_number at)
         turn same =
-            subst (λ sd. (s.flights sd owner).turn ≡ Asking (number_of at)) side
-            (subst (λ w. (s.flights (side_of at) w).turn ≡ Asking (number_of at)) (sym same) (busy at b asks))
+            subst (λ sd. (s.flights sd owner).turn ≡ Asking (link_number at)) side
+            (subst (λ w. (s.flights (side_of at) w).turn ≡ Asking (link_number at)) (sym same) (busy at b asks))
 
         go : (same : Bool) → (owner == wide_of p at b.first.source) ≡ same → same ≡ false
         go true is =
             let asked = reply_answers beat allowed in
-            absurd (asked_or_asking (number_of link) (number_of at) asked.0
+            absurd (asked_or_asking (link_number link) (link_number at) asked.0
             (sym asked.1 ∙ turn (eqb-true owner (wide_of p at b.first.source) is)))
         go false is = refl
 
     reply_begun : (ends : Bool) (at : Link) (b : AskBegun) → side_of at ≡ side_of link
-        → (replied.links (side_of at) (number_of at)).asking ≡ Some b
+        → (replied.links (side_of at) (link_number at)).asking ≡ Some b
         → IsBegunAs plan b.first (found (wide_of p at b.first.source) (rest ends))
-    reply_begun ends at b side = go (is_link link (side_of at) (number_of at)) refl
+    reply_begun ends at b side = go (is_link link (side_of at) (link_number at)) refl
       where
-        stays : (ends : Bool) → (s.links (side_of at) (number_of at)).asking ≡ Some b
+        stays : (ends : Bool) → (s.links (side_of at) (link_number at)).asking ≡ Some b
             → IsBegunAs plan b.first (found (wide_of p at b.first.source) (rest ends))
         stays true is =
             subst (λ o. IsBegunAs plan b.first o)
@@ -330,11 +330,11 @@ module _ (plan : Plan) (s : State) (busy : AsksFly (shared_plan plan) s) (flight
             (kept.begins at b side is)
         stays false is = kept.begins at b side is
 
-        go : (here : Bool) → is_link link (side_of at) (number_of at) ≡ here
-            → (if here then under_after under (D beat) known lanes else s.links (side_of at) (number_of at)).asking ≡ Some b
+        go : (here : Bool) → is_link link (side_of at) (link_number at) ≡ here
+            → (if here then under_after under (D beat) known lanes else s.links (side_of at) (link_number at)).asking ≡ Some b
             → IsBegunAs plan b.first (found (wide_of p at b.first.source) (rest ends))
         go true here is =
-            stays ends (ap (λ (l : Link). (s.links (side_of l) (number_of l)).asking) (sym (same_link link at here)) ∙ is)
+            stays ends (ap (λ (l : Link). (s.links (side_of l) (link_number l)).asking) (sym (same_link link at here)) ∙ is)
         go false here is = stays ends is
 
     pub reply_kept : AreKept plan (state_after (shared_plan plan) s (reply_at link known lanes beat)) (side_of link)

@@ -5,15 +5,15 @@ use Rattle.std.specs.List.{range_with_len}
 use Rattle.std.proofs.lemmas.List.{length-map, length-replicate}
 use Rattle.std.proofs.lemmas.List.FromFn.{length-map-range_with_len}
 use Rattle.check_beats.specs.declared.bus.Bus.{Bus}
-use Rattle.check_rows.specs.Buses.{bus_of}
-use Rattle.check_rows.specs.Lanes.{Lanes, all_of, byte_in, lane_at, lanes_of, seen_of, shown_by, zeros}
+use Rattle.check_rows.specs.Buses.{bus_of_link}
+use Rattle.check_rows.specs.Lanes.{SeenLanes, all_of, byte_or_zero, lane_at, lanes_of, seen_of, shown_by, zeros}
 use Rattle.check_rows.specs.Column.{column}
 use Rattle.check_rows.specs.Columns.{channel_of, flag_of, link_of, nothing_of}
 use Rattle.check_rows.specs.Number.{address_of, decimal_of, mask_of}
-use Rattle.check_rows.specs.Reading.{◌>>=◌}
-use Rattle.check_rows.specs.Row.{SeenBeat, SeenRow, ask_of, beat_of, reply_of, row_of}
-use Rattle.check_rows.specs.declared.columns.Channel.{Channel}
-use Rattle.check_rows.specs.declared.columns.Channel.TheVariants as channel
+use Rattle.tl_text.specs.Reading.{◌>>=◌}
+use Rattle.check_rows.specs.Row.{SeenBeat, SeenRow, ask_of_words, beat_of, reply_of_words, row_of}
+use Rattle.check_rows.specs.declared.columns.RowChannel.{RowChannel}
+use Rattle.check_rows.specs.declared.columns.RowChannel.TheVariants as channel
 use Rattle.check_rows.specs.declared.column.Column.TheVariants as named
 use Rattle.check_rows.specs.declared.fault.RowFault.{RowFault}
 
@@ -53,22 +53,22 @@ shown_counted bus word =
     go : (all : Option (List (Option ℕ))) → IfSome all (λ l. length l ≡ length (map (lane_at bus word) (range_with_len 0 bus)))
         → IfSome (option_map seen_of all) (λ lanes. length lanes.bytes ≡ bus)
     go None is = tt
-    go (Some l) is = length-map l byte_in ∙ is ∙ length-map-range_with_len (lane_at bus word) 0 bus
+    go (Some l) is = length-map l byte_or_zero ∙ is ∙ length-map-range_with_len (lane_at bus word) 0 bus
 
-ok_counted : (bus : ℕ) (shown : Option Lanes) (e : RowFault) (lanes : Lanes)
+ok_counted : (bus : ℕ) (shown : Option SeenLanes) (e : RowFault) (lanes : SeenLanes)
     → IfSome shown (λ l. length l.bytes ≡ bus) → ok_or shown e ≡ Ok lanes → length lanes.bytes ≡ bus
 ok_counted bus None e lanes counted is = absurd (cc)
 ok_counted bus (Some shown) e lanes counted is = let same : shown ≡ lanes = cc in
-    subst (λ (l : Lanes). length l.bytes ≡ bus) same counted
+    subst (λ (l : SeenLanes). length l.bytes ≡ bus) same counted
 
-zeros_or : (bus : ℕ) (b : Bool) (rest : Result Lanes RowFault) (lanes : Lanes)
+zeros_or : (bus : ℕ) (b : Bool) (rest : Result SeenLanes RowFault) (lanes : SeenLanes)
     → (rest ≡ Ok lanes → length lanes.bytes ≡ bus) → (if b then Ok (zeros bus) else rest) ≡ Ok lanes
     → length lanes.bytes ≡ bus
 zeros_or bus true rest lanes other is = let same : zeros bus ≡ lanes = cc in
-    subst (λ (l : Lanes). length l.bytes ≡ bus) same (length-replicate bus 0)
+    subst (λ (l : SeenLanes). length l.bytes ≡ bus) same (length-replicate bus 0)
 zeros_or bus false rest lanes other is = other is
 
-lanes_counted : (bus : ℕ) (word : List ℕ) (lanes : Lanes) → lanes_of bus word ≡ Ok lanes → length lanes.bytes ≡ bus
+lanes_counted : (bus : ℕ) (word : List ℕ) (lanes : SeenLanes) → lanes_of bus word ≡ Ok lanes → length lanes.bytes ≡ bus
 unfolding lanes_of
 lanes_counted bus word lanes is =
     zeros_or bus (length word == 0) _ lanes
@@ -81,9 +81,9 @@ seen_counted : (bus : ℕ) (beat seen : SeenBeat) → length beat.lanes.bytes �
 seen_counted bus beat seen counted is = let same : beat ≡ seen = cc in
     subst (λ (b : SeenBeat). length b.lanes.bytes ≡ bus) same counted
 
-ask_counted : (bus : ℕ) (columns : List (List ℕ)) (seen : SeenBeat) → ask_of bus columns ≡ Ok seen
+ask_counted : (bus : ℕ) (columns : List (List ℕ)) (seen : SeenBeat) → ask_of_words bus columns ≡ Ok seen
     → length seen.lanes.bytes ≡ bus
-unfolding ask_of
+unfolding ask_of_words
 ask_counted bus columns seen is =
     let opcode = step (decimal_of 255 (column columns named.Opcode)) _ seen is in
     let param = step (decimal_of 255 (column columns named.Param)) _ seen opcode.2 in
@@ -96,9 +96,9 @@ ask_counted bus columns seen is =
     let corrupt = step (nothing_of (column columns named.Corrupt)) _ seen denied.2 in
     seen_counted bus _ seen (lanes_counted bus (column columns named.Data) lanes.0 lanes.1) corrupt.2
 
-reply_counted : (bus : ℕ) (columns : List (List ℕ)) (seen : SeenBeat) → reply_of bus columns ≡ Ok seen
+reply_counted : (bus : ℕ) (columns : List (List ℕ)) (seen : SeenBeat) → reply_of_words bus columns ≡ Ok seen
     → length seen.lanes.bytes ≡ bus
-unfolding reply_of
+unfolding reply_of_words
 reply_counted bus columns seen is =
     let opcode = step (decimal_of 255 (column columns named.Opcode)) _ seen is in
     let param = step (nothing_of (column columns named.Param)) _ seen opcode.2 in
@@ -111,13 +111,13 @@ reply_counted bus columns seen is =
     let corrupt = step (flag_of (column columns named.Corrupt)) _ seen denied.2 in
     seen_counted bus _ seen (lanes_counted bus (column columns named.Data) lanes.0 lanes.1) corrupt.2
 
-beat_counted : (bus : ℕ) (channel : Channel) (columns : List (List ℕ)) (seen : SeenBeat)
+beat_counted : (bus : ℕ) (channel : RowChannel) (columns : List (List ℕ)) (seen : SeenBeat)
     → beat_of bus channel columns ≡ Ok seen → length seen.lanes.bytes ≡ bus
 beat_counted bus channel.A columns seen is = ask_counted bus columns seen is
 beat_counted bus channel.D columns seen is = reply_counted bus columns seen is
 
 abbrev HasItsLanes : List Bus → List Bus → SeenRow → Type 0
-HasItsLanes masters ports row = length row.sighting.lanes ≡ bus_of masters ports row.sighting.link
+HasItsLanes masters ports row = length row.sighting.lanes ≡ bus_of_link masters ports row.sighting.link
 
 row_counted : (masters ports : List Bus) (made row : SeenRow) → HasItsLanes masters ports made
     → ok made ≡ Ok row → HasItsLanes masters ports row
@@ -132,5 +132,5 @@ lanes_of_row_are masters ports line columns row is =
     let time = step (decimal_of (2 ^ 64 - 1) (column columns named.Time)) _ row read in
     let link = step (link_of masters ports (column columns named.Link)) _ row time.2 in
     let channel = step (channel_of (column columns named.Channel)) _ row link.2 in
-    let seen = step (beat_of (bus_of masters ports link.0) channel.0 columns) _ row channel.2 in
-    row_counted masters ports _ row (beat_counted (bus_of masters ports link.0) channel.0 columns seen.0 seen.1) seen.2
+    let seen = step (beat_of (bus_of_link masters ports link.0) channel.0 columns) _ row channel.2 in
+    row_counted masters ports _ row (beat_counted (bus_of_link masters ports link.0) channel.0 columns seen.0 seen.1) seen.2

@@ -14,9 +14,9 @@ use Rattle.check_sides.specs.Plan.{Plan, bus_of}
 use Rattle.check_rows.specs.Row.{SeenRow}
 use Rattle.check_coverage.specs.declared.bin.Bin.{Bin}
 use Rattle.check_coverage.specs.declared.bin.Bin.TheVariants as bin
-use Rattle.check_coverage.specs.declared.bin.Channel.TheVariants as channel
-use Rattle.check_coverage.specs.Bins.{ask_bins, bins, bins_by, bins_of, contested_bins, contests, first_bins, is_of_port, last_bins, mask_bins, meets, of_found, operation_of, pair_of, writes}
-use Rattle.check_coverage.specs.Flights.{InFlight, answered_at, end_of, flights_after, in_flight, is_counted, is_of, is_unaligned, is_whole_ask, is_whole_reply, wide_at}
+use Rattle.check_coverage.specs.declared.bin.CountedChannel.TheVariants as channel
+use Rattle.check_coverage.specs.Bins.{ask_bins, bins, bins_by, bins_of, contested_bins, contests, first_bins, is_of_port, last_bins, mask_bins, meets, of_found, operation_of, bin_pair, writes}
+use Rattle.check_coverage.specs.Flights.{InFlight, answered_at, end_of, flights_after, in_flight, is_counted, is_of, is_unaligned, ends_an_ask, ends_a_reply, wide_at}
 use Rattle.check_coverage.specs.View.{bin_cmp, how_often}
 use Rattle.check_coverage.proofs.Counted.{how_often-append}
 use Rattle.check_coverage.proofs.Exact.{same}
@@ -117,7 +117,7 @@ module _ (plan : Plan) (port bus own : ℕ) (flights : List InFlight) (time : �
     next = flights_after plan bus own flights (A beat) end
 
     -- a request of the port that ends with this beat is contested by none
-    uncontested : (one : InFlight) → found own next ≡ Some one → is_whole_ask end ≡ true → one.port ≡ port
+    uncontested : (one : InFlight) → found own next ≡ Some one → ends_an_ask end ≡ true → one.port ≡ port
         → list_any (contests one) next ≡ false
     uncontested one here whole is_port = by (list_any (contests one) next) refl
       where
@@ -132,8 +132,8 @@ module _ (plan : Plan) (port bus own : ℕ) (flights : List InFlight) (time : �
 
         mine : how_often contested (contested_bins next one) ≡ 0
         mine =
-            let pair = bin.Asked (pair_of one) (operation_of one) (is_unaligned one.first) in
-            let beats = bin.Beats (pair_of one) channel.A (ask_beats bus beat) in
+            let pair = bin.Asked (bin_pair one) (operation_of one) (is_unaligned one.first) in
+            let beats = bin.Beats (bin_pair one) channel.A (ask_beats bus beat) in
             let tail = mask_bins one ++ contested_bins next one in
             never_last contested (mask_bins one) (contested_bins next one)
             (never_more contested beats tail (never_more contested pair (beats ∷ tail) all))
@@ -154,7 +154,7 @@ module _ (plan : Plan) (port bus own : ℕ) (flights : List InFlight) (time : �
     own_apart other one two apart here there whole its_whole is_port its_port =
         let mine = own_found plan own beat flights bus end in
         let same_one : mine.0 ≡ one = some_same mine.0 one (sym mine.1 ∙ here) in
-        let ends : is_whole_ask end ≡ true = sym mine.2 ∙ ap (λ (f : InFlight). f.is_whole) same_one ∙ whole in
+        let ends : ends_an_ask end ≡ true = sym mine.2 ∙ ap (λ (f : InFlight). f.is_whole) same_one ∙ whole in
         not_contests one two
         (found_fails (contests one) other next two (uncontested one here ends is_port) there)
         (found_apart own other next one two apart here there) (its_port ∙ sym is_port) its_whole
@@ -188,7 +188,7 @@ module _ (plan : Plan) (port bus own : ℕ) (flights : List InFlight) (time : �
       go false so = sym (other_left own wide so flights) ∙ is
 
   pub reply_apart : (beat : ReplyHead) → ApartAt port (flights_after plan bus own flights (D beat) end)
-  reply_apart beat = go (is_whole_reply end)
+  reply_apart beat = go (ends_a_reply end)
     where
       go : (b : Bool) → ApartAt port (if b then left own flights else flights)
       go true = λ wide other one two apart here there.

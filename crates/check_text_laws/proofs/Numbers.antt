@@ -5,9 +5,9 @@ use Rattle.std.specs.List.{list_any}
 use Rattle.check_beats.specs.State.{ends_reply}
 use Rattle.check_beats.specs.declared.beat.AskHead.{AskHead}
 use Rattle.check_beats.specs.declared.beat.ReplyHead.{ReplyHead}
-use Rattle.check_watch.specs.Past.{scene, state}
-use Rattle.check_watch.specs.Plan.{Layout as GroupLayout}
-use Rattle.check_watch.specs.Scene.{Scene, ask_by, captured, ended, is_given, must_by, seen, seen_ask, seen_reply}
+use Rattle.check_watch.specs.Past.{scene_in_group, state}
+use Rattle.check_watch.specs.Plan.{GroupLayout}
+use Rattle.check_watch.specs.Scene.{Scene, ask_by, captured, ended_by, is_given, must_by, seen, seen_ask, seen_reply}
 use Rattle.check_watch.specs.declared.beat.Beat.{Beat}
 use Rattle.check_watch.specs.declared.beat.Beat.TheVariants.{A, D}
 use Rattle.check_watch.specs.declared.beat.Link.{Link}
@@ -29,10 +29,10 @@ use Rattle.check_rows.specs.Row.{SeenRow}
 use Rattle.check_unanswered.specs.Began.{beats_of}
 use Rattle.check_coverage.specs.declared.bin.Bin.{Bin}
 use Rattle.check_coverage.specs.declared.bin.Bin.TheVariants as bin
-use Rattle.check_coverage.specs.Bins.{again, ask_bins, begin_bins, bins, bins_by, bins_of, contested_bins, contests, first_bins, last_bins, mask_bins, of_found, is_of_master, is_younger, pair_of, reply_bins}
-use Rattle.check_coverage.specs.Flights.{InFlight, answered_at, begun, end_of, flights_after, in_flight, is_counted, is_of, is_whole_ask, is_whole_reply, wide_at}
+use Rattle.check_coverage.specs.Bins.{again, ask_bins, begin_bins, bins, bins_by, bins_of, contested_bins, contests, first_bins, last_bins, mask_bins, of_found, is_of_master, is_younger, bin_pair, reply_bins}
+use Rattle.check_coverage.specs.Flights.{InFlight, answered_at, begun, end_of, flights_after, in_flight, is_counted, is_of, ends_an_ask, ends_a_reply, wide_at}
 use Rattle.check_coverage.specs.Shape.{shape_of}
-use Rattle.check_review.specs.Count.{answered, asked, ends_a_reply, ends_an_ask, is_counted as is_counted_too, one_more}
+use Rattle.check_review.specs.Count.{answered_in_past, asked_in_past, one_more}
 use Rattle.check_text_laws.specs.Sums.{is_answered, is_asked}
 use Rattle.check_text_laws.proofs.Finding.{found, own_found}
 use Rattle.check_text_laws.proofs.Kept.{AreKept}
@@ -84,7 +84,7 @@ mask_none : (k : Bool) (flight : InFlight) → how_many (kind k) (mask_bins flig
 mask_none k flight = go k (flight.first.opcode == 1)
   where
     go : (k b : Bool) → how_many (kind k)
-        (if b then bin.Mask (pair_of flight) (shape_of flight.first.size flight.given) ∷ [] else []) ≡ 0
+        (if b then bin.Mask (bin_pair flight) (shape_of flight.first.size flight.given) ∷ [] else []) ≡ 0
     go true true = refl
     go true false = refl
     go false true = refl
@@ -101,7 +101,7 @@ contested_none k flights flight = go k (list_any (contests flight) flights)
     go false false = refl
 
 overtook_none : (k b : Bool) (flight : InFlight)
-    → how_many (kind k) (if b then bin.Overtook (pair_of flight) ∷ [] else []) ≡ 0
+    → how_many (kind k) (if b then bin.Overtook (bin_pair flight) ∷ [] else []) ≡ 0
 overtook_none true true flight = refl
 overtook_none true false flight = refl
 overtook_none false true flight = refl
@@ -135,22 +135,22 @@ reply_one bus flights beat flight =
 
 -- a beat of channel A ends no reply, and one of channel D no request
 abbrev EndsOwn : Beat → Ended → Type 0
-EndsOwn (A beat) end = is_whole_reply end ≡ false
-EndsOwn (D beat) end = is_whole_ask end ≡ false
+EndsOwn (A beat) end = ends_a_reply end ≡ false
+EndsOwn (D beat) end = ends_an_ask end ≡ false
 
-ends_no_reply : (ask : Option Request) → is_whole_reply (ended (seen_ask ask)) ≡ false
+ends_no_reply : (ask : Option Request) → ends_a_reply (ended_by (seen_ask ask)) ≡ false
 ends_no_reply None = refl
 ends_no_reply (Some ask) = refl
 
 ends_no_ask : (turn : Turn) (reply : Pattern) (must : Option Answer)
-    → is_whole_ask (ended (seen_reply turn reply must)) ≡ false
+    → ends_an_ask (ended_by (seen_reply turn reply must)) ≡ false
 ends_no_ask Idle reply must = refl
 ends_no_ask (Asking n) reply must = refl
 ends_no_ask (Asked n ask) reply None = refl
 ends_no_ask (Asked n ask) reply (Some answer) = refl
 
 ends_own : (layout : GroupLayout) (link : Link) (here : Scene) (beat : Beat) (known : ℕ) (lanes : List ℕ)
-    → EndsOwn beat (ended (seen layout link here beat known lanes))
+    → EndsOwn beat (ended_by (seen layout link here beat known lanes))
 ends_own layout link here (A beat) known lanes = ends_no_reply (ask_by here.under beat lanes)
 ends_own layout link here (D beat) known lanes = go (ends_reply here.under.bus here.under.replying beat)
   where
@@ -160,7 +160,7 @@ ends_own layout link here (D beat) known lanes = go (ends_reply here.under.bus h
     must : Option Answer
     must = must_by (is_given layout link here.port) here.crossing here.flight.due
 
-    go : (ends : Bool) → is_whole_ask (ended (if ends then seen_reply here.flight.turn reply must else Part)) ≡ false
+    go : (ends : Bool) → ends_an_ask (ended_by (if ends then seen_reply here.flight.turn reply must else Part)) ≡ false
     go true = ends_no_ask here.flight.turn reply must
     go false = refl
 
@@ -172,14 +172,14 @@ module _ (plan : Plan) (bus wide : ℕ) (flights : List InFlight) (time : ℕ) (
   both_one false b = 0
 
   ask_kinds : (k : Bool) (beat : AskHead)
-      → how_many (kind k) (bins_by plan bus wide flights time at (A beat) end) ≡ both_one k (is_whole_ask end)
+      → how_many (kind k) (bins_by plan bus wide flights time at (A beat) end) ≡ both_one k (ends_an_ask end)
   ask_kinds k beat =
       let next = flights_after plan bus wide flights (A beat) end in
       let sum = how_many-append (kind k) (first_bins plan wide flights time at beat) (last_bins bus wide next beat end) in
       let none = first_none k plan wide flights time at beat in
       let mine = own_found plan wide beat flights bus end in
-      let last : how_many (kind k) (last_bins bus wide next beat end) ≡ both_one k (is_whole_ask end) =
-      last_one k (is_whole_ask end) next beat mine.0 mine.1 in
+      let last : how_many (kind k) (last_bins bus wide next beat end) ≡ both_one k (ends_an_ask end) =
+      last_one k (ends_an_ask end) next beat mine.0 mine.1 in
       omega (arith, sum, none, last)
     where
       last_one : (k b : Bool) (next : List InFlight) (beat : AskHead) (f : InFlight) → found wide next ≡ Some f
@@ -192,9 +192,9 @@ module _ (plan : Plan) (bus wide : ℕ) (flights : List InFlight) (time : ℕ) (
       last_one false false next beat f is = refl
 
   asked_by : (beat : Beat) → EndsOwn beat end
-      → how_many is_asked (bins_by plan bus wide flights time at beat end) ≡ one_if (is_whole_ask end)
+      → how_many is_asked (bins_by plan bus wide flights time at beat end) ≡ one_if (ends_an_ask end)
   asked_by (A beat) own = ask_kinds true beat
-  asked_by (D beat) own = none (is_whole_reply end) (found wide flights) ∙ ap one_if (sym own)
+  asked_by (D beat) own = none (ends_a_reply end) (found wide flights) ∙ ap one_if (sym own)
     where
       none : (b : Bool) (o : Option InFlight)
           → how_many is_asked (if b then of_found o (reply_bins bus flights beat) else []) ≡ 0
@@ -208,9 +208,9 @@ module _ (plan : Plan) (bus wide : ℕ) (flights : List InFlight) (time : ℕ) (
   IsFound (D beat) = (f : InFlight) × (found wide flights ≡ Some f)
 
   answered_by : (beat : Beat) → EndsOwn beat end → IsFound beat
-      → how_many is_answered (bins_by plan bus wide flights time at beat end) ≡ one_if (is_whole_reply end)
+      → how_many is_answered (bins_by plan bus wide flights time at beat end) ≡ one_if (ends_a_reply end)
   answered_by (A beat) own has = ask_kinds false beat ∙ ap one_if (sym own)
-  answered_by (D beat) own has = one (is_whole_reply end)
+  answered_by (D beat) own has = one (ends_a_reply end)
     where
       one : (b : Bool)
           → how_many is_answered (if b then of_found (found wide flights) (reply_bins bus flights beat) else []) ≡ one_if b
@@ -220,26 +220,6 @@ module _ (plan : Plan) (bus wide : ℕ) (flights : List InFlight) (time : ℕ) (
       one false = refl
 
 -- ---- one row
-
-same_counted : (links : Links) (link : Link) → is_counted links link ≡ is_counted_too links link
-same_counted Both (Master m) = refl
-same_counted Both (Port p) = refl
-same_counted Masters (Master m) = refl
-same_counted Masters (Port p) = refl
-same_counted Ports (Master m) = refl
-same_counted Ports (Port p) = refl
-same_counted Each (Master m) = refl
-same_counted Each (Port p) = refl
-
-same_ask : (end : Ended) → is_whole_ask end ≡ ends_an_ask end
-same_ask ends.Part = refl
-same_ask ends.Ask = refl
-same_ask ends.Reply = refl
-
-same_reply : (end : Ended) → is_whole_reply end ≡ ends_a_reply end
-same_reply ends.Part = refl
-same_reply ends.Ask = refl
-same_reply ends.Reply = refl
 
 more_of : (b : Bool) (n one m a : ℕ) → n % 2 ^ 64 ≡ a → one ≡ one_if b → m ≡ one + n → m % 2 ^ 64 ≡ one_more b a
 more_of true n one m a was is sum = omega (arith, was, is, sum)
@@ -261,7 +241,7 @@ module _ (plan : Plan) (before : List SeenRow) (row : SeenRow) where
 
   own_end : EndsOwn row.sighting.beat end
   own_end = ends_own (plan_at plan row.sighting.link).layout row.sighting.link
-      (scene (plan_at plan row.sighting.link) (past_at plan.layout.links row.sighting.link (beats_of before)) row.sighting)
+      (scene_in_group (plan_at plan row.sighting.link) (past_at plan.layout.links row.sighting.link (beats_of before)) row.sighting)
       row.sighting.beat row.sighting.known row.sighting.lanes
 
   abbrev added : Bool → List Bin
@@ -272,21 +252,19 @@ module _ (plan : Plan) (before : List SeenRow) (row : SeenRow) where
       else []
 
   asked_here : how_many is_asked (bins_of plan before row)
-      ≡ one_if (is_counted_too plan.layout.links row.sighting.link && ends_an_ask end)
+      ≡ one_if (is_counted plan.layout.links row.sighting.link && ends_an_ask end)
   asked_here =
       go (is_counted plan.layout.links row.sighting.link)
-      ∙ (λ i. one_if (same_counted plan.layout.links row.sighting.link i && same_ask end i))
     where
-      go : (b : Bool) → how_many is_asked (added b) ≡ one_if (b && is_whole_ask end)
+      go : (b : Bool) → how_many is_asked (added b) ≡ one_if (b && ends_an_ask end)
       go true = asked_by plan (bus_of plan.layout row.sighting.link) wide now row.time (answered_at plan before wide) end
           row.sighting.beat own_end
       go false = refl
 
   answered_here : IsLawful plan (beats_of (row ∷ before)) → how_many is_answered (bins_of plan before row)
-      ≡ one_if (is_counted_too plan.layout.links row.sighting.link && ends_a_reply end)
+      ≡ one_if (is_counted plan.layout.links row.sighting.link && ends_a_reply end)
   answered_here lawful =
       go (is_counted plan.layout.links row.sighting.link) refl
-      ∙ (λ i. one_if (same_counted plan.layout.links row.sighting.link i && same_reply end i))
     where
       has : is_counted plan.layout.links row.sighting.link ≡ true → (beat : Beat) → row.sighting.beat ≡ beat
           → IsFound plan (bus_of plan.layout row.sighting.link) wide now row.time (answered_at plan before wide) end beat
@@ -298,7 +276,7 @@ module _ (plan : Plan) (before : List SeenRow) (row : SeenRow) where
           (counted_together plan.layout.links row.sighting.link counted) lawful beat is
 
       go : (b : Bool) → is_counted plan.layout.links row.sighting.link ≡ b
-          → how_many is_answered (added b) ≡ one_if (b && is_whole_reply end)
+          → how_many is_answered (added b) ≡ one_if (b && ends_a_reply end)
       go true counted =
           answered_by plan (bus_of plan.layout row.sighting.link) wide now row.time (answered_at plan before wide) end
           row.sighting.beat own_end (has counted row.sighting.beat refl)
@@ -307,19 +285,19 @@ module _ (plan : Plan) (before : List SeenRow) (row : SeenRow) where
 -- ---- all rows
 
 pub asked_is : (plan : Plan) (rows : List SeenRow)
-    → how_many is_asked (bins plan rows) % 2 ^ 64 ≡ asked plan (beats_of rows)
+    → how_many is_asked (bins plan rows) % 2 ^ 64 ≡ asked_in_past plan (beats_of rows)
 asked_is plan [] = refl
 asked_is plan (row ∷ before) =
-    more_of (is_counted_too plan.layout.links row.sighting.link && ends_an_ask (end_of plan before row))
+    more_of (is_counted plan.layout.links row.sighting.link && ends_an_ask (end_of plan before row))
     (how_many is_asked (bins plan before)) (how_many is_asked (bins_of plan before row))
-    (how_many is_asked (bins plan (row ∷ before))) (asked plan (beats_of before))
+    (how_many is_asked (bins plan (row ∷ before))) (asked_in_past plan (beats_of before))
     (asked_is plan before) (asked_here plan before row)
     (how_many-append is_asked (bins_of plan before row) (bins plan before))
 
 pub asked_at_most : (plan : Plan) (rows : List SeenRow) → how_many is_asked (bins plan rows) ≤ length rows
 asked_at_most plan [] = omega arith
 asked_at_most plan (row ∷ before) =
-    let more = at_most (is_counted_too plan.layout.links row.sighting.link && ends_an_ask (end_of plan before row))
+    let more = at_most (is_counted plan.layout.links row.sighting.link && ends_an_ask (end_of plan before row))
     (how_many is_asked (bins plan before)) (how_many is_asked (bins_of plan before row))
     (how_many is_asked (bins plan (row ∷ before))) (length before)
     (asked_at_most plan before) (asked_here plan before row)
@@ -327,12 +305,12 @@ asked_at_most plan (row ∷ before) =
     omega (arith, more)
 
 pub answered_is : (plan : Plan) (rows : List SeenRow) → IsLawful plan (beats_of rows)
-    → how_many is_answered (bins plan rows) % 2 ^ 64 ≡ answered plan (beats_of rows)
+    → how_many is_answered (bins plan rows) % 2 ^ 64 ≡ answered_in_past plan (beats_of rows)
 answered_is plan [] lawful = refl
 answered_is plan (row ∷ before) lawful =
-    more_of (is_counted_too plan.layout.links row.sighting.link && ends_a_reply (end_of plan before row))
+    more_of (is_counted plan.layout.links row.sighting.link && ends_a_reply (end_of plan before row))
     (how_many is_answered (bins plan before)) (how_many is_answered (bins_of plan before row))
-    (how_many is_answered (bins plan (row ∷ before))) (answered plan (beats_of before))
+    (how_many is_answered (bins plan (row ∷ before))) (answered_in_past plan (beats_of before))
     (answered_is plan before lawful.0) (answered_here plan before row lawful)
     (how_many-append is_answered (bins_of plan before row) (bins plan before))
 
@@ -340,7 +318,7 @@ pub answered_at_most : (plan : Plan) (rows : List SeenRow) → IsLawful plan (be
     → how_many is_answered (bins plan rows) ≤ length rows
 answered_at_most plan [] lawful = omega arith
 answered_at_most plan (row ∷ before) lawful =
-    let more = at_most (is_counted_too plan.layout.links row.sighting.link && ends_a_reply (end_of plan before row))
+    let more = at_most (is_counted plan.layout.links row.sighting.link && ends_a_reply (end_of plan before row))
     (how_many is_answered (bins plan before)) (how_many is_answered (bins_of plan before row))
     (how_many is_answered (bins plan (row ∷ before))) (length before)
     (answered_at_most plan before lawful.0) (answered_here plan before row lawful)

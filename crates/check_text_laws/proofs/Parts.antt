@@ -7,8 +7,8 @@ use Rattle.check_watch.specs.declared.beat.Link.{Link}
 use Rattle.check_watch.specs.declared.beat.Link.TheVariants.{Master, Port}
 use Rattle.check_watch.specs.Lawful as group_lawful
 use Rattle.check_watch.specs.Lawful.{IsAllowed}
-use Rattle.check_watch.specs.Past.{scene}
-use Rattle.check_watch.specs.Plan.{Sighting, number_of, seen_at}
+use Rattle.check_watch.specs.Past.{scene_in_group}
+use Rattle.check_watch.specs.Plan.{Sighting, link_number, seen_at}
 use Rattle.check_sides.specs.declared.links.Links.{Links}
 use Rattle.check_sides.specs.declared.links.Links.TheVariants.{Both, Masters, Ports, Each}
 use Rattle.check_sides.specs.Groups.{are_apart, is_alone, plan_at, past_at, shared_plan, shared_past, port_plan, port_past}
@@ -41,52 +41,52 @@ master_shared Each master = refl
 -- a beat is lawful after these of its group
 abbrev IsNext : Plan → List Sighting → Sighting → Type 0
 IsNext plan past x =
-    IsAllowed (plan_at plan x.link) (scene (plan_at plan x.link) (past_at plan.layout.links x.link past) x) x
+    IsAllowed (plan_at plan x.link) (scene_in_group (plan_at plan x.link) (past_at plan.layout.links x.link past) x) x
 
 shared_next : (plan : Plan) (past : List Sighting) (x : Sighting) (b : Bool) → is_alone plan.layout.links x.link ≡ b
-    → group_lawful.IsLawful (shared_plan plan) (shared_past plan.layout.links past) → IsNext plan past x
-    → group_lawful.IsLawful (shared_plan plan) (shared_past plan.layout.links (x ∷ past))
+    → group_lawful.IsLawfulGroup (shared_plan plan) (shared_past plan.layout.links past) → IsNext plan past x
+    → group_lawful.IsLawfulGroup (shared_plan plan) (shared_past plan.layout.links (x ∷ past))
 shared_next plan past x false is before next =
-    subst (λ l. group_lawful.IsLawful (shared_plan plan) l)
+    subst (λ l. group_lawful.IsLawfulGroup (shared_plan plan) l)
     (sym (shared_more x.beat x.known x.lanes past plan.layout.links x.link is))
-    (before, in_group plan past x.link (λ p l. IsAllowed p (scene p l x) x) false is next)
+    (before, in_group plan past x.link (λ p l. IsAllowed p (scene_in_group p l x) x) false is next)
 shared_next plan past x true is before next =
-    subst (λ l. group_lawful.IsLawful (shared_plan plan) l)
+    subst (λ l. group_lawful.IsLawfulGroup (shared_plan plan) l)
     (sym (shared_same x.beat x.known x.lanes past plan.layout.links x.link is)) before
 
 pub shared_part : (plan : Plan) (past : List Sighting) → IsLawful plan past
-    → group_lawful.IsLawful (shared_plan plan) (shared_past plan.layout.links past)
+    → group_lawful.IsLawfulGroup (shared_plan plan) (shared_past plan.layout.links past)
 shared_part plan [] lawful =
-    subst (λ l. group_lawful.IsLawful (shared_plan plan) l) (sym (shared_none plan.layout.links)) tt
+    subst (λ l. group_lawful.IsLawfulGroup (shared_plan plan) l) (sym (shared_none plan.layout.links)) tt
 shared_part plan (x ∷ past) lawful =
     shared_next plan past x (is_alone plan.layout.links x.link) refl (shared_part plan past lawful.0) lawful.1
 
 module _ (plan : Plan) (apart : IsTrue (are_apart plan.layout.links)) (port : ℕ) where
   port_next : (past : List Sighting) (beat : Beat) (known : ℕ) (lanes : List ℕ) (link : Link)
-      → group_lawful.IsLawful (port_plan plan) (port_past port past)
+      → group_lawful.IsLawfulGroup (port_plan plan) (port_past port past)
       → IsNext plan past (seen_at link beat known lanes)
-      → group_lawful.IsLawful (port_plan plan)
+      → group_lawful.IsLawfulGroup (port_plan plan)
       (port_past port (seen_at link beat known lanes ∷ past))
   port_next past beat known lanes (Master m) before next = before
   port_next past beat known lanes (Port q) before next = go (q == port) refl
     where
-      go : (same : Bool) → (q == port) ≡ same → group_lawful.IsLawful (port_plan plan)
+      go : (same : Bool) → (q == port) ≡ same → group_lawful.IsLawfulGroup (port_plan plan)
           (port_past port (seen_at (Port q) beat known lanes ∷ past))
       go true is =
           let e = eqb-true q port is in
           let x : Sighting = seen_at (Port q) beat known lanes in
-          subst (λ k. group_lawful.IsLawful (port_plan plan) (port_past k (x ∷ past))) e
-          (subst (λ l. group_lawful.IsLawful (port_plan plan) l) (sym (port_more beat known lanes past q)) (
-            subst (λ k. group_lawful.IsLawful (port_plan plan) (port_past k past)) (sym e) before,
-            in_group plan past (Port q) (λ p l. IsAllowed p (scene p l x) x) true
+          subst (λ k. group_lawful.IsLawfulGroup (port_plan plan) (port_past k (x ∷ past))) e
+          (subst (λ l. group_lawful.IsLawfulGroup (port_plan plan) l) (sym (port_more beat known lanes past q)) (
+            subst (λ k. group_lawful.IsLawfulGroup (port_plan plan) (port_past k past)) (sym e) before,
+            in_group plan past (Port q) (λ p l. IsAllowed p (scene_in_group p l x) x) true
                 (alone_port plan.layout.links q apart) next,
           ))
       go false is =
-          subst (λ l. group_lawful.IsLawful (port_plan plan) l)
+          subst (λ l. group_lawful.IsLawfulGroup (port_plan plan) l)
           (sym (port_other beat known lanes past q port (eqb-false q port is))) before
 
   pub port_part : (past : List Sighting) → IsLawful plan past
-      → group_lawful.IsLawful (port_plan plan) (port_past port past)
+      → group_lawful.IsLawfulGroup (port_plan plan) (port_past port past)
   port_part [] lawful = tt
   port_part (x ∷ past) lawful = port_next past x.beat x.known x.lanes x.link (port_part past lawful.0) lawful.1
 
@@ -94,9 +94,9 @@ module _ (plan : Plan) (apart : IsTrue (are_apart plan.layout.links)) (port : �
 
 -- the beats of each group are lawful
 pub record AreLawfulApart (plan : Plan) (past : List Sighting) : Type 0 where
-  pub shared : group_lawful.IsLawful (shared_plan plan) (shared_past plan.layout.links past)
+  pub shared : group_lawful.IsLawfulGroup (shared_plan plan) (shared_past plan.layout.links past)
   pub ports : IsTrue (are_apart plan.layout.links) → (port : ℕ)
-      → group_lawful.IsLawful (port_plan plan) (port_past port past)
+      → group_lawful.IsLawfulGroup (port_plan plan) (port_past port past)
 
 pub apart : (plan : Plan) (past : List Sighting) → IsLawful plan past → AreLawfulApart plan past
 apart plan past lawful = record {
@@ -105,21 +105,21 @@ apart plan past lawful = record {
 }
 
 ports_before : (plan : Plan) (past : List Sighting) (beat : Beat) (known : ℕ) (lanes : List ℕ) (q port : ℕ)
-    → group_lawful.IsLawful (port_plan plan)
+    → group_lawful.IsLawfulGroup (port_plan plan)
     (port_past port (seen_at (Port q) beat known lanes ∷ past))
-    → group_lawful.IsLawful (port_plan plan) (port_past port past)
+    → group_lawful.IsLawfulGroup (port_plan plan) (port_past port past)
 ports_before plan past beat known lanes q port after = go (q == port) refl
   where
-    go : (same : Bool) → (q == port) ≡ same → group_lawful.IsLawful (port_plan plan) (port_past port past)
+    go : (same : Bool) → (q == port) ≡ same → group_lawful.IsLawfulGroup (port_plan plan) (port_past port past)
     go true is =
         let e = eqb-true q port is in
         let x : Sighting = seen_at (Port q) beat known lanes in
-        let here : group_lawful.IsLawful (port_plan plan) (x ∷ port_past q past) =
-        subst (λ l. group_lawful.IsLawful (port_plan plan) l) (port_more beat known lanes past q)
-        (subst (λ k. group_lawful.IsLawful (port_plan plan) (port_past k (x ∷ past))) (sym e) after) in
-        subst (λ k. group_lawful.IsLawful (port_plan plan) (port_past k past)) e here.0
+        let here : group_lawful.IsLawfulGroup (port_plan plan) (x ∷ port_past q past) =
+        subst (λ l. group_lawful.IsLawfulGroup (port_plan plan) l) (port_more beat known lanes past q)
+        (subst (λ k. group_lawful.IsLawfulGroup (port_plan plan) (port_past k (x ∷ past))) (sym e) after) in
+        subst (λ k. group_lawful.IsLawfulGroup (port_plan plan) (port_past k past)) e here.0
     go false is =
-        subst (λ l. group_lawful.IsLawful (port_plan plan) l)
+        subst (λ l. group_lawful.IsLawfulGroup (port_plan plan) l)
         (port_other beat known lanes past q port (eqb-false q port is)) after
 
 -- what is said of the beats before, and of the beat
@@ -129,29 +129,29 @@ before : (plan : Plan) (past : List Sighting) (beat : Beat) (known : ℕ) (lanes
     → AreLawfulApart plan past × IsNext plan past (seen_at link beat known lanes)
 before plan past beat known lanes link false is after =
     let x : Sighting = seen_at link beat known lanes in
-    let shared : group_lawful.IsLawful (shared_plan plan) (x ∷ shared_past plan.layout.links past) =
-    subst (λ l. group_lawful.IsLawful (shared_plan plan) l)
+    let shared : group_lawful.IsLawfulGroup (shared_plan plan) (x ∷ shared_past plan.layout.links past) =
+    subst (λ l. group_lawful.IsLawfulGroup (shared_plan plan) l)
     (shared_more beat known lanes past plan.layout.links link is) after.shared in (
       record {
         shared = shared.0;
-        ports = λ are port. subst (λ l. group_lawful.IsLawful (port_plan plan) l)
+        ports = λ are port. subst (λ l. group_lawful.IsLawfulGroup (port_plan plan) l)
             (port_same beat known lanes past plan.layout.links link port is are) (after.ports are port);
       },
-      of_group plan past link (λ p l. IsAllowed p (scene p l x) x) false is shared.1,
+      of_group plan past link (λ p l. IsAllowed p (scene_in_group p l x) x) false is shared.1,
     )
 before plan past beat known lanes (Master m) true is after =
     let shared = master_shared plan.layout.links m in absurd (cc)
 before plan past beat known lanes (Port q) true is after =
     let x : Sighting = seen_at (Port q) beat known lanes in
-    let here : group_lawful.IsLawful (port_plan plan) (x ∷ port_past q past) =
-    subst (λ l. group_lawful.IsLawful (port_plan plan) l) (port_more beat known lanes past q)
+    let here : group_lawful.IsLawfulGroup (port_plan plan) (x ∷ port_past q past) =
+    subst (λ l. group_lawful.IsLawfulGroup (port_plan plan) l) (port_more beat known lanes past q)
     (after.ports (apart_from plan.layout.links (Port q) is) q) in (
       record {
-        shared = subst (λ l. group_lawful.IsLawful (shared_plan plan) l)
+        shared = subst (λ l. group_lawful.IsLawfulGroup (shared_plan plan) l)
             (shared_same beat known lanes past plan.layout.links (Port q) is) after.shared;
         ports = λ are port. ports_before plan past beat known lanes q port (after.ports are port);
       },
-      of_group plan past (Port q) (λ p l. IsAllowed p (scene p l x) x) true is here.1,
+      of_group plan past (Port q) (λ p l. IsAllowed p (scene_in_group p l x) x) true is here.1,
     )
 
 pub together : (plan : Plan) (past : List Sighting) → AreLawfulApart plan past → IsLawful plan past
@@ -163,22 +163,22 @@ together plan (x ∷ past) are =
 -- ---- link by link
 
 pub at_each : (plan : Plan) (past : List Sighting) → AreLawfulApart plan past → (link : Link)
-    → group_lawful.IsLawful (plan_at plan link) (past_at plan.layout.links link past)
+    → group_lawful.IsLawfulGroup (plan_at plan link) (past_at plan.layout.links link past)
 at_each plan past are link = go (is_alone plan.layout.links link) refl
   where
     go : (b : Bool) → is_alone plan.layout.links link ≡ b
-        → group_lawful.IsLawful (plan_at plan link) (past_at plan.layout.links link past)
-    go false is = of_group plan past link (λ p l. group_lawful.IsLawful p l) false is are.shared
-    go true is = of_group plan past link (λ p l. group_lawful.IsLawful p l) true is
-        (are.ports (apart_from plan.layout.links link is) (number_of link))
+        → group_lawful.IsLawfulGroup (plan_at plan link) (past_at plan.layout.links link past)
+    go false is = of_group plan past link (λ p l. group_lawful.IsLawfulGroup p l) false is are.shared
+    go true is = of_group plan past link (λ p l. group_lawful.IsLawfulGroup p l) true is
+        (are.ports (apart_from plan.layout.links link is) (link_number link))
 
 pub from_each : (plan : Plan) (past : List Sighting)
-    → ((link : Link) → group_lawful.IsLawful (plan_at plan link) (past_at plan.layout.links link past))
+    → ((link : Link) → group_lawful.IsLawfulGroup (plan_at plan link) (past_at plan.layout.links link past))
     → AreLawfulApart plan past
 from_each plan past each = record {
-  shared = in_group plan past (Master 0) (λ p l. group_lawful.IsLawful p l) false
+  shared = in_group plan past (Master 0) (λ p l. group_lawful.IsLawfulGroup p l) false
       (master_shared plan.layout.links 0) (each (Master 0));
-  ports = λ are port. in_group plan past (Port port) (λ p l. group_lawful.IsLawful p l) true
+  ports = λ are port. in_group plan past (Port port) (λ p l. group_lawful.IsLawfulGroup p l) true
       (alone_port plan.layout.links port are) (each (Port port));
 }
 
@@ -188,15 +188,15 @@ each_apart : (links : Links) → links ≡ Each → IsTrue (are_apart links)
 each_apart links is = rw is refl
 
 pub with_each : (plan : Plan) (past : List Sighting) → plan.layout.links ≡ Each
-    → IsLawful plan past ↔ (group_lawful.IsLawful (shared_plan plan) (shared_past Each past)
-    × ((port : ℕ) → group_lawful.IsLawful (port_plan plan) (port_past port past)))
+    → IsLawful plan past ↔ (group_lawful.IsLawfulGroup (shared_plan plan) (shared_past Each past)
+    × ((port : ℕ) → group_lawful.IsLawfulGroup (port_plan plan) (port_past port past)))
 with_each plan past is = (
   λ lawful. (
-    subst (λ k. group_lawful.IsLawful (shared_plan plan) (shared_past k past)) is (shared_part plan past lawful),
+    subst (λ k. group_lawful.IsLawfulGroup (shared_plan plan) (shared_past k past)) is (shared_part plan past lawful),
     λ port. port_part plan (each_apart plan.layout.links is) port past lawful,
   ),
   λ both. together plan past (record {
-    shared = subst (λ k. group_lawful.IsLawful (shared_plan plan) (shared_past k past)) (sym is) both.0;
+    shared = subst (λ k. group_lawful.IsLawfulGroup (shared_plan plan) (shared_past k past)) (sym is) both.0;
     ports = λ are port. both.1 port;
   }),
 )
@@ -214,12 +214,12 @@ not_apart Ports other are = cc
 not_apart Each other are = other refl
 
 pub with_others : (plan : Plan) (past : List Sighting) → (plan.layout.links ≡ Each → ⊥)
-    → IsLawful plan past ↔ group_lawful.IsLawful (shared_plan plan) past
+    → IsLawful plan past ↔ group_lawful.IsLawfulGroup (shared_plan plan) past
 with_others plan past other = (
-  λ lawful. subst (λ l. group_lawful.IsLawful (shared_plan plan) l) (same_past plan.layout.links past other)
+  λ lawful. subst (λ l. group_lawful.IsLawfulGroup (shared_plan plan) l) (same_past plan.layout.links past other)
       (shared_part plan past lawful),
   λ lawful. together plan past (record {
-    shared = subst (λ l. group_lawful.IsLawful (shared_plan plan) l)
+    shared = subst (λ l. group_lawful.IsLawfulGroup (shared_plan plan) l)
         (sym (same_past plan.layout.links past other)) lawful;
     ports = λ are. absurd (not_apart plan.layout.links other are);
   }),

@@ -1,11 +1,11 @@
 -- The order `any` let nothing pass where no line tells of a contested request.
 use Rattle.std.proofs.Common.{◌≡◌, ◌∙◌, ⊎_elim, ℕ, List, ap, sym, subst}
-use Rattle.check_map.specs.Ranges.{IsLawfulMap}
+use Rattle.check_map.specs.Ranges.{IsLawfulAddressMap}
 use Rattle.check_memory.specs.declared.slave.Slave.{Slave}
 use Rattle.check_flight.specs.PortSlave.{PortSlave}
 use Rattle.check_flight.specs.declared.order.Order.TheVariants.{Any}
-use Rattle.check_watch.specs.Lawful.{IsLawful as IsGroupLawful}
-use Rattle.check_watch.specs.Plan.{IsPlan as IsGroupPlan, Layout, Plan as GroupPlan, Sighting}
+use Rattle.check_watch.specs.Lawful.{IsLawfulGroup as IsGroupLawful}
+use Rattle.check_watch.specs.Plan.{IsGroupPlan, GroupLayout, GroupPlan, Sighting}
 use Rattle.check_watch_laws.specs.Crossed.{AreWatched as AreGroupWatched}
 use Rattle.check_watch_laws.specs.Memories.{reset_of}
 use Rattle.check_watch_laws.specs.Moments.{moments}
@@ -49,10 +49,10 @@ module _ (loose strict : GroupPlan) (looser : IsLooser loose strict) where
 
   strict_watched : (past : List Sighting) → AreGroupWatched loose.layout past → AreGroupWatched strict.layout past
   strict_watched past watched =
-      subst (λ (layout : Layout). AreGroupWatched layout past) (ap (λ (p : GroupPlan). p.layout) looser.same) watched
+      subst (λ (layout : GroupLayout). AreGroupWatched layout past) (ap (λ (p : GroupPlan). p.layout) looser.same) watched
 
 pub nothing_passed : (loose : Plan) (strict : GroupPlan) (rows : List SeenRow) (old new : List ℕ) → IsPlan loose
-    → IsLawfulMap loose.layout.ports
+    → IsLawfulAddressMap loose.layout.ports
     → AreGroupWatched (shared_plan loose).layout (shared_past loose.layout.links (beats_of rows))
     → IsLawful loose (beats_of rows)
     → (tells : TellsCoverage loose rows old new) → IsLooser (shared_plan loose) strict → AreFresh strict

@@ -7,10 +7,10 @@ use Rattle.check_beats.specs.declared.beat.ReplyHead.{ReplyHead}
 use Rattle.check_flight.specs.Flight.{Flight}
 use Rattle.check_watch.specs.Lawful as group_lawful
 use Rattle.check_watch.specs.Lawful.{IsAllowed, IsAllowedBeat}
-use Rattle.check_watch.specs.Past.{State, scene, scene_of, state, state_after}
-use Rattle.check_watch.specs.Plan.{Plan as GroupPlan, Side, Sighting, is_link, number_of, same_side, seen_at, side_of, source_of, wide_of}
-use Rattle.check_watch.specs.Plan.Side.{AtMasters, AtPorts}
-use Rattle.check_watch.specs.Scene.{ended, seen, under_after}
+use Rattle.check_watch.specs.Past.{State, scene_in_group, scene_of, state, state_after}
+use Rattle.check_watch.specs.Plan.{GroupPlan, LinkSide, Sighting, is_link, link_number, same_side, seen_at, side_of, source_of, wide_of}
+use Rattle.check_watch.specs.Plan.LinkSide.{AtMasters, AtPorts}
+use Rattle.check_watch.specs.Scene.{ended_by, seen, under_after}
 use Rattle.check_watch.specs.declared.beat.Beat.{Beat}
 use Rattle.check_watch.specs.declared.beat.Beat.TheVariants.{A, D}
 use Rattle.check_watch.specs.declared.beat.Link.{Link}
@@ -27,14 +27,14 @@ use Rattle.check_sides.proofs.Fresh.{shared_none}
 use Rattle.check_sides.proofs.Grouping.{in_group, shared_more, shared_same}
 use Rattle.check_rows.specs.Row.{SeenRow}
 use Rattle.check_unanswered.specs.Began.{beats_of}
-use Rattle.check_coverage.specs.Flights.{InFlight, end_of, flights_after, in_flight, is_counted, is_whole_ask, is_whole_reply, wide_at}
+use Rattle.check_coverage.specs.Flights.{InFlight, end_of, flights_after, in_flight, is_counted, ends_an_ask, ends_a_reply, wide_at}
 use Rattle.check_text_laws.proofs.Finding.{found}
 use Rattle.check_text_laws.proofs.Kept.{AreKept, IsKeptAs, IsWholeAs, ask_kept, ask_whole, reply_answers, reply_kept, reply_whole}
 
 -- ---- which links are counted
 
 -- the side of the links that are counted
-abbrev pub counted_side : Links → Side
+abbrev pub counted_side : Links → LinkSide
 counted_side Both = AtMasters
 counted_side Masters = AtMasters
 counted_side Ports = AtPorts
@@ -73,28 +73,28 @@ uncounted Each (Port p) is = inl refl
 -- ---- the links that are judged together
 
 shared_next : (plan : Plan) (past : List Sighting) (x : Sighting) (b : Bool) → is_alone plan.layout.links x.link ≡ b
-    → group_lawful.IsLawful (shared_plan plan) (shared_past plan.layout.links past)
-    → IsAllowed (plan_at plan x.link) (scene (plan_at plan x.link) (past_at plan.layout.links x.link past) x) x
-    → group_lawful.IsLawful (shared_plan plan) (shared_past plan.layout.links (x ∷ past))
+    → group_lawful.IsLawfulGroup (shared_plan plan) (shared_past plan.layout.links past)
+    → IsAllowed (plan_at plan x.link) (scene_in_group (plan_at plan x.link) (past_at plan.layout.links x.link past) x) x
+    → group_lawful.IsLawfulGroup (shared_plan plan) (shared_past plan.layout.links (x ∷ past))
 shared_next plan past x false is before next =
-    subst (λ l. group_lawful.IsLawful (shared_plan plan) l)
+    subst (λ l. group_lawful.IsLawfulGroup (shared_plan plan) l)
     (sym (shared_more x.beat x.known x.lanes past plan.layout.links x.link is))
-    (before, in_group plan past x.link (λ p l. IsAllowed p (scene p l x) x) false is next)
+    (before, in_group plan past x.link (λ p l. IsAllowed p (scene_in_group p l x) x) false is next)
 shared_next plan past x true is before next =
-    subst (λ l. group_lawful.IsLawful (shared_plan plan) l)
+    subst (λ l. group_lawful.IsLawfulGroup (shared_plan plan) l)
     (sym (shared_same x.beat x.known x.lanes past plan.layout.links x.link is)) before
 
 -- their beats are lawful
 pub shared_part : (plan : Plan) (past : List Sighting) → IsLawful plan past
-    → group_lawful.IsLawful (shared_plan plan) (shared_past plan.layout.links past)
+    → group_lawful.IsLawfulGroup (shared_plan plan) (shared_past plan.layout.links past)
 shared_part plan [] lawful =
-    subst (λ l. group_lawful.IsLawful (shared_plan plan) l) (sym (shared_none plan.layout.links)) tt
+    subst (λ l. group_lawful.IsLawfulGroup (shared_plan plan) l) (sym (shared_none plan.layout.links)) tt
 shared_part plan (x ∷ past) lawful =
     shared_next plan past x (is_alone plan.layout.links x.link) refl (shared_part plan past lawful.0) lawful.1
 
 -- ---- a beat of the other side
 
-module _ (plan : Plan) (s : State) (side : Side) (flights : List InFlight) (kept : AreKept plan s side flights) (x : Sighting)
+module _ (plan : Plan) (s : State) (side : LinkSide) (flights : List InFlight) (kept : AreKept plan s side flights) (x : Sighting)
     (apart : same_side (side_of x.link) side ≡ false) where
   abbrev then_state : State
   then_state = state_after (shared_plan plan) s x
@@ -106,19 +106,19 @@ module _ (plan : Plan) (s : State) (side : Side) (flights : List InFlight) (kept
       (ap (λ b. b && (wide_of (shared_plan plan) x.link (source_of x.beat) == wide)) apart))) (kept.turns wide)
 
   other_asking : (at : Link) (b : AskBegun) → side_of at ≡ side
-      → (then_state.links (side_of at) (number_of at)).asking ≡ Some b
-      → (s.links (side_of at) (number_of at)).asking ≡ Some b
-  other_asking at b same = go (is_link x.link (side_of at) (number_of at)) not_here
+      → (then_state.links (side_of at) (link_number at)).asking ≡ Some b
+      → (s.links (side_of at) (link_number at)).asking ≡ Some b
+  other_asking at b same = go (is_link x.link (side_of at) (link_number at)) not_here
     where
-      not_here : is_link x.link (side_of at) (number_of at) ≡ false
+      not_here : is_link x.link (side_of at) (link_number at) ≡ false
       not_here =
-          ap (λ sd. same_side (side_of x.link) sd && (number_of x.link == number_of at)) same
-          ∙ ap (λ b. b && (number_of x.link == number_of at)) apart
+          ap (λ sd. same_side (side_of x.link) sd && (link_number x.link == link_number at)) same
+          ∙ ap (λ b. b && (link_number x.link == link_number at)) apart
 
       go : (here : Bool) → here ≡ false
           → (if here then under_after (scene_of (shared_plan plan) s x.link x.beat).under x.beat x.known x.lanes
-          else s.links (side_of at) (number_of at)).asking ≡ Some b
-          → (s.links (side_of at) (number_of at)).asking ≡ Some b
+          else s.links (side_of at) (link_number at)).asking ≡ Some b
+          → (s.links (side_of at) (link_number at)).asking ≡ Some b
       go true is so = absurd (cc)
       go false is so = so
 
@@ -153,16 +153,16 @@ module _ (plan : Plan) (before : List SeenRow) (row : SeenRow) where
   module _ (together : is_alone plan.layout.links row.sighting.link ≡ false) where
     -- what its beat ends, by the plan of the links that are judged together
     pub end_together : end_of plan before row
-        ≡ ended (group_lawful.what_is_seen (shared_plan plan) (shared_past plan.layout.links (beats_of before)) row.sighting)
+        ≡ ended_by (group_lawful.seen_in_group (shared_plan plan) (shared_past plan.layout.links (beats_of before)) row.sighting)
     end_together =
-        ap (λ b. ended (group_lawful.what_is_seen (if b then port_plan plan else shared_plan plan)
-        (if b then port_past (number_of x.link) (beats_of before) else past) x)) together
+        ap (λ b. ended_by (group_lawful.seen_in_group (if b then port_plan plan else shared_plan plan)
+        (if b then port_past (link_number x.link) (beats_of before) else past) x)) together
 
     pub allowed_together : IsLawful plan (beats_of (row ∷ before))
-        → IsAllowed (shared_plan plan) (scene (shared_plan plan) (shared_past plan.layout.links (beats_of before)) row.sighting)
+        → IsAllowed (shared_plan plan) (scene_in_group (shared_plan plan) (shared_past plan.layout.links (beats_of before)) row.sighting)
         row.sighting
     allowed_together lawful =
-        in_group plan (beats_of before) x.link (λ q l. IsAllowed q (scene q l x) x) false together lawful.1
+        in_group plan (beats_of before) x.link (λ q l. IsAllowed q (scene_in_group q l x) x) false together lawful.1
 
   module _ (lawful : IsLawful plan (beats_of before)) (flights : List InFlight)
       (kept : AreKept plan (state (shared_plan plan) (shared_past plan.layout.links (beats_of before)))
@@ -174,15 +174,15 @@ module _ (plan : Plan) (before : List SeenRow) (row : SeenRow) where
     busy = asks_fly p past (shared_part plan (beats_of before) lawful)
 
     by_beat : (beat : Beat) → IsAllowedBeat p (scene_of p s x.link beat) (seen_at x.link beat x.known x.lanes) beat
-        → (end : Ended) → end ≡ ended (seen p.layout x.link (scene_of p s x.link beat) beat x.known x.lanes)
+        → (end : Ended) → end ≡ ended_by (seen p.layout x.link (scene_of p s x.link beat) beat x.known x.lanes)
         → AreKept plan (state_after p s (seen_at x.link beat x.known x.lanes)) (side_of x.link)
         (flights_after plan (bus_of plan.layout x.link) (wide_of p x.link (source_of beat)) flights beat end)
     by_beat (A beat) allowed end is =
         ask_kept plan s busy flights x.link x.known x.lanes kept (bus_of plan.layout x.link) beat allowed end
-        (ap is_whole_ask is ∙ ask_whole (s.links (side_of x.link) (number_of x.link)) beat x.lanes)
+        (ap ends_an_ask is ∙ ask_whole (s.links (side_of x.link) (link_number x.link)) beat x.lanes)
     by_beat (D beat) allowed end is =
         reply_kept plan s busy flights x.link x.known x.lanes kept (bus_of plan.layout x.link) beat allowed end
-        (ap is_whole_reply is ∙ reply_whole p.layout x.link (scene_of p s x.link (D beat)) beat x.known x.lanes allowed)
+        (ap ends_a_reply is ∙ reply_whole p.layout x.link (scene_of p s x.link (D beat)) beat x.known x.lanes allowed)
 
     pub row_kept : (together : is_alone plan.layout.links row.sighting.link ≡ false)
         → IsLawful plan (beats_of (row ∷ before))
@@ -211,7 +211,7 @@ module _ (plan : Plan) (before : List SeenRow) (row : SeenRow) where
             (whole.flight, whole.is)
 
   module _ (lawful : IsLawful plan (beats_of (row ∷ before))) where
-    abbrev side : Side
+    abbrev side : LinkSide
     side = counted_side plan.layout.links
 
     abbrev all : List Sighting

@@ -10,20 +10,20 @@ use Rattle.check_watch.specs.declared.beat.Link.TheVariants.{Master, Port}
 use Rattle.check_sides.specs.declared.links.Links.{Links}
 use Rattle.check_sides.specs.declared.links.Links.TheVariants.{Both, Masters, Ports, Each}
 use Rattle.check_sides.specs.Plan.{Plan, Layout, IsPlan, HasLink, IsWatched, bus_of}
-use Rattle.check_rows.specs.Buses.{bus_of as row_bus}
+use Rattle.check_rows.specs.Buses.{bus_of_link as row_bus}
 use Rattle.check_rows.specs.Row.{SeenRow}
-use Rattle.check_review.specs.Order.{are_masters_watched, are_ports_watched, is_watched, seen}
+use Rattle.check_review.specs.Order.{are_masters_watched, are_ports_watched, is_watched, sightings_of}
 use Rattle.check_review.specs.Verdict.{IsLawfulFile, IsFirstUnlawful}
 use Rattle.check_unanswered.specs.declared.request.Left.{Left}
-use Rattle.check_lines.specs.declared.verdict.Counts.{Counts}
+use Rattle.check_lines.specs.declared.verdict.VerdictCounts.{VerdictCounts}
 use Rattle.check_review.specs.declared.stop.Unlawful.{Unlawful}
-use Rattle.check_records.specs.Text.{Place}
-use Rattle.check_records.specs.Text.{Row as Record}
+use Rattle.check_records.specs.Text.{TextPlace}
+use Rattle.check_records.specs.Text.{RecordRow as Record}
 use Rattle.check_text.specs.Buses.{HasBuses, LinkBuses}
 use Rattle.check_text.specs.Capture.{IsVerdict}
 use Rattle.check_text.specs.Rows.{HasRows, SpellAll}
 use Rattle.check_text.specs.declared.fault.Verdict.TheVariants.{Incomplete, Lawful, Unlawful as Not}
-use Rattle.check_text_laws.specs.Groups.{AreWatched}
+use Rattle.check_text_laws.specs.Groups.{AreAllWatched}
 use Rattle.check_text_laws.proofs.GroupRules.{always_keeps, rules_make_lawful, seen_whole}
 use Rattle.check_text_laws.proofs.Lanes.{lanes_of_row_are}
 use Rattle.check_text_laws.specs.Rules.{FileKeepsRules, BreaksRules, CaptureKeepsRules, CaptureBreaksRules, CaptureLeaves, HaveLanes}
@@ -57,13 +57,13 @@ watched_link layout (Port p) is =
     (less p (length layout.ports) both.1, ports_watched layout.links p both.0)
 
 -- what is seen of rows with their lanes is at links that are watched
-seen_watched : (layout : Layout) (crossed : List SeenRow) → HaveLanes layout crossed → AreWatched layout (seen layout crossed)
+seen_watched : (layout : Layout) (crossed : List SeenRow) → HaveLanes layout crossed → AreAllWatched layout (sightings_of layout crossed)
 seen_watched layout [] have = tt
 seen_watched layout (row ∷ crossed) have =
     go (seen_watched layout crossed have.1) (is_watched layout row.sighting.link) refl
   where
-    go : AreWatched layout (seen layout crossed) → (watched : Bool) → is_watched layout row.sighting.link ≡ watched
-        → AreWatched layout (map (λ (r : SeenRow). r.sighting)
+    go : AreAllWatched layout (sightings_of layout crossed) → (watched : Bool) → is_watched layout row.sighting.link ≡ watched
+        → AreAllWatched layout (map (λ (r : SeenRow). r.sighting)
         (if watched then row ∷ filter (λ (r : SeenRow). is_watched layout r.sighting.link) crossed else filter
         (λ (r : SeenRow). is_watched layout r.sighting.link) crossed))
     go before true is =
@@ -85,9 +85,9 @@ file_keeps plan file is have lawful =
     record {
       crossed = lawful.crossed;
       crossing = lawful.crossing;
-      keeps = always_keeps plan (seen plan.layout lawful.crossed) is
+      keeps = always_keeps plan (sightings_of plan.layout lawful.crossed) is
           (seen_watched plan.layout lawful.crossed crossed) lawful.lawful;
-      whole = seen_whole plan (seen plan.layout lawful.crossed) lawful.lawful;
+      whole = seen_whole plan (sightings_of plan.layout lawful.crossed) lawful.lawful;
     }
 
 pub rules_make_lawful_file : (plan : Plan) (file : List SeenRow) → IsPlan plan → HaveLanes plan.layout file
@@ -97,7 +97,7 @@ rules_make_lawful_file plan file is have rules =
     record {
       crossed = rules.crossed;
       crossing = rules.crossing;
-      lawful = rules_make_lawful plan (seen plan.layout rules.crossed) is
+      lawful = rules_make_lawful plan (sightings_of plan.layout rules.crossed) is
           (seen_watched plan.layout rules.crossed crossed) rules.whole rules.keeps;
     }
 
@@ -111,7 +111,7 @@ pub unlawful_breaks : (plan : Plan) (file : List SeenRow) (found : Unlawful) →
     → IsFirstUnlawful plan file found → BreaksRules plan file found.row
 unlawful_breaks plan file found is have first =
     let row = first.row in
-    let before = seen plan.layout first.before in
+    let before = sightings_of plan.layout first.before in
     let here : HaveLanes plan.layout (row ∷ first.before) = rest_have plan.layout first.after (row ∷ first.before)
     (have_crossed plan.layout file (first.after ++ row ∷ first.before) have first.crossing.same) in
     let watched = seen_watched plan.layout first.before here.1 in
@@ -146,11 +146,11 @@ all_have layout buses (r ∷ records) (row ∷ rows) same spell =
     let bus = bus_same layout buses row.sighting.link same in
     (omega (arith, lanes, bus), all_have layout buses records rows same spell.1)
 
-pub rows_have : (layout : Layout) (buses : LinkBuses) (rows : List SeenRow) (from at : Place) → HasBuses layout buses
+pub rows_have : (layout : Layout) (buses : LinkBuses) (rows : List SeenRow) (from at : TextPlace) → HasBuses layout buses
     → HasRows buses rows from at → HaveLanes layout rows
 rows_have layout buses rows from at same has = all_have layout buses has.records rows same has.spell
 
-pub capture_keeps : (asked : Bool) (plan : Plan) (buses : LinkBuses) (from : Place) (counts : Counts) → IsPlan plan
+pub capture_keeps : (asked : Bool) (plan : Plan) (buses : LinkBuses) (from : TextPlace) (counts : VerdictCounts) → IsPlan plan
     → HasBuses plan.layout buses → IsVerdict asked plan buses from (Lawful counts)
     → CaptureKeepsRules asked plan buses from counts
 capture_keeps asked plan buses from counts is same verdict =
@@ -163,7 +163,7 @@ capture_keeps asked plan buses from counts is same verdict =
       complete = verdict.4;
     }
 
-pub capture_leaves : (asked : Bool) (plan : Plan) (buses : LinkBuses) (from : Place) (over : Left) → IsPlan plan
+pub capture_leaves : (asked : Bool) (plan : Plan) (buses : LinkBuses) (from : TextPlace) (over : Left) → IsPlan plan
     → HasBuses plan.layout buses → IsVerdict asked plan buses from (Incomplete over)
     → CaptureLeaves asked plan buses from over
 capture_leaves asked plan buses from over is same verdict =
@@ -175,7 +175,7 @@ capture_leaves asked plan buses from over is same verdict =
       left = verdict.3;
     }
 
-pub capture_breaks : (asked : Bool) (plan : Plan) (buses : LinkBuses) (from : Place) (found : Unlawful) → IsPlan plan
+pub capture_breaks : (asked : Bool) (plan : Plan) (buses : LinkBuses) (from : TextPlace) (found : Unlawful) → IsPlan plan
     → HasBuses plan.layout buses → IsVerdict asked plan buses from (Not found)
     → CaptureBreaksRules plan buses from found
 capture_breaks asked plan buses from found is same verdict = record {

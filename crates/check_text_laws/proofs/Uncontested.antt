@@ -9,7 +9,7 @@ use Rattle.std.proofs.lemmas.Bool.{leb-true, lt-ltb, ltb-true, ne_eqb, true≢fa
 use Rattle.tl_types.specs.Request.{Request}
 use Rattle.tl_types.specs.declared.operation.AskOp.TheVariants.{Arithmetic, Get, Intent, Logical, PutFull, PutPartial}
 use Rattle.tl_types.specs.declared.operation.Hint.TheVariants.{PrefetchRead, PrefetchWrite}
-use Rattle.check_map.specs.Ranges.{IsLawfulMap}
+use Rattle.check_map.specs.Ranges.{IsLawfulAddressMap}
 use Rattle.check_beats.specs.Message.{arith_of, logic_of, op_of}
 use Rattle.check_beats.specs.declared.beat.AskHead.{AskHead}
 use Rattle.check_contests.specs.Laws.{AreUncontested}
@@ -17,7 +17,7 @@ use Rattle.check_contests.specs.Writes.{writes as writes_at}
 use Rattle.check_memory.specs.Partial.{Partial, permits}
 use Rattle.check_memory.specs.declared.slave.Slave.{Slave}
 use Rattle.check_memory.specs.declared.slave.Slave.TheVariants.{Memory, Device}
-use Rattle.check_watch.specs.Plan.{Plan as GroupPlan, Sighting}
+use Rattle.check_watch.specs.Plan.{GroupPlan, Sighting}
 use Rattle.check_watch_laws.specs.Crossed.{AreWatched}
 use Rattle.check_watch_laws.specs.Memories.{reset_of}
 use Rattle.check_watch_laws.specs.Moments.{moments}
@@ -124,7 +124,7 @@ apart_by : (wide other : ℕ) → wide ≢ other → (wide == other) ≡ false
 apart_by wide other apart = ne_eqb wide other apart
 
 -- after the rows so far no two requests that are open are contested
-module _ (plan : Plan) (is_plan : IsPlan plan) (map : IsLawfulMap plan.layout.ports) (port : ℕ) where
+module _ (plan : Plan) (is_plan : IsPlan plan) (map : IsLawfulAddressMap plan.layout.ports) (port : ℕ) where
   abbrev p : GroupPlan
   p = shared_plan plan
 
@@ -213,7 +213,7 @@ none_found bin (e ∷ es) none = go (is_eq (bin_cmp bin e.0)) refl (none_found b
     go false is rest = rest
 
 pub nothing_is_contested : (plan : Plan) (rows : List SeenRow) (old new : List ℕ) (port : ℕ) → IsPlan plan
-    → IsLawfulMap plan.layout.ports → AreWatched (shared_plan plan).layout (shared_past plan.layout.links (beats_of rows))
+    → IsLawfulAddressMap plan.layout.ports → AreWatched (shared_plan plan).layout (shared_past plan.layout.links (beats_of rows))
     → IsLawful plan (beats_of rows) → (tells : TellsCoverage plan rows old new) → TellsNoContest port tells.entries
     → NothingIsContested (shared_plan plan) port (shared_past plan.layout.links (beats_of rows))
 nothing_is_contested plan rows old new port is_plan map watched lawful tells none =

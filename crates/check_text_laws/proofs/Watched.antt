@@ -2,7 +2,7 @@
 use Rattle.std.proofs.Common.{◌≡◌, ◌∙◌, ℕ, zero, suc, ◌<◌, Bool, true, false, List, [], ◌∷◌, get_or, refl, sym, subst, arith, eqb-true}
 use Rattle.std.specs.Prelude.{◌==◌}
 use Rattle.std.proofs.lemmas.Bool.{eqb-false}
-use Rattle.check_map.specs.Owner.{IsOf, IsWide}
+use Rattle.check_map.specs.Owner.{IsOf, IsWideSource}
 use Rattle.check_map.specs.Sources.{IsLawfulOwner}
 use Rattle.check_map.specs.declared.sources.Owner.{Owner}
 use Rattle.check_watch.specs.declared.beat.Beat.{Beat}
@@ -17,7 +17,7 @@ use Rattle.check_sides.specs.Groups.{everybody, is_alone, shared_layout, shared_
 use Rattle.check_sides.specs.Plan.{Layout, Plan, IsPlan, IsWatched}
 use Rattle.check_sides.proofs.Fresh.{shared_none}
 use Rattle.check_sides.proofs.Grouping.{port_more, port_other, shared_more, shared_same}
-use Rattle.check_text_laws.specs.Groups.{AreWatched, IsWatchedAt}
+use Rattle.check_text_laws.specs.Groups.{AreAllWatched, IsAtWatchedLink}
 
 -- ---- everybody
 
@@ -25,7 +25,7 @@ everybody_zero : (one wide : ℕ) → IsOf (everybody ∷ []) one wide → one �
 everybody_zero zero wide of = refl
 everybody_zero (suc one) wide of = absurd of.1
 
-everybody_own : (master source wide : ℕ) → IsWide (everybody ∷ []) master source wide → source ≡ wide
+everybody_own : (master source wide : ℕ) → IsWideSource (everybody ∷ []) master source wide → source ≡ wide
 everybody_own zero source wide is = omega (arith, is.at)
 everybody_own (suc master) source wide is = absurd is
 
@@ -41,7 +41,7 @@ everybody_each : (k : ℕ) (d : Owner) → k < 1 → IsLawfulOwner (get_or (ever
 everybody_each zero d inside = everybody_lawful
 everybody_each (suc k) d inside = absurd (omega (arith, inside))
 
-pub port_is_plan : (plan : Plan) → IsPlan plan → group.IsPlan (port_plan plan)
+pub port_is_plan : (plan : Plan) → IsPlan plan → group.IsGroupPlan (port_plan plan)
 port_is_plan plan is = record {
   owners = record {
     masters = omega arith;
@@ -55,7 +55,7 @@ port_is_plan plan is = record {
 -- ---- the links of a group
 
 watches : (links : Links) (link : Link) → is_alone links link ≡ false → IsWatched links link
-    → group.IsWatched (together_of links) link
+    → group.IsGroupLink (together_of links) link
 watches Both link is has = tt
 watches Masters (Master m) is has = tt
 watches Masters (Port p) is has = has
@@ -64,7 +64,7 @@ watches Ports (Port p) is has = tt
 watches Each (Master m) is has = tt
 watches Each (Port p) is has = cc
 
-watched_one : (layout : Layout) (x : Sighting) → is_alone layout.links x.link ≡ false → IsWatchedAt layout x
+watched_one : (layout : Layout) (x : Sighting) → is_alone layout.links x.link ≡ false → IsAtWatchedLink layout x
     → group_crossed.IsWatchedAt (shared_layout layout) x
 watched_one layout x is at = record {
   link = at.link;
@@ -72,7 +72,7 @@ watched_one layout x is at = record {
   lanes = at.lanes;
 }
 
-pub shared_watched : (plan : Plan) (past : List Sighting) → AreWatched plan.layout past
+pub shared_watched : (plan : Plan) (past : List Sighting) → AreAllWatched plan.layout past
     → group_crossed.AreWatched (shared_plan plan).layout (shared_past plan.layout.links past)
 shared_watched plan [] are =
     subst (λ l. group_crossed.AreWatched (shared_plan plan).layout l) (sym (shared_none plan.layout.links)) tt
@@ -91,7 +91,7 @@ shared_watched plan (x ∷ past) are = go (is_alone plan.layout.links x.link) re
 
 module _ (plan : Plan) (port : ℕ) where
   port_next : (past : List Sighting) (beat : Beat) (known : ℕ) (lanes : List ℕ) (link : Link)
-      → IsWatchedAt plan.layout (seen_at link beat known lanes)
+      → IsAtWatchedLink plan.layout (seen_at link beat known lanes)
       → group_crossed.AreWatched (port_plan plan).layout (port_past port past)
       → group_crossed.AreWatched (port_plan plan).layout
       (port_past port (seen_at link beat known lanes ∷ past))
@@ -112,7 +112,7 @@ module _ (plan : Plan) (port : ℕ) where
           subst (λ l. group_crossed.AreWatched (port_plan plan).layout l)
           (sym (port_other beat known lanes past q port (eqb-false q port is))) before
 
-  pub port_watched : (past : List Sighting) → AreWatched plan.layout past
+  pub port_watched : (past : List Sighting) → AreAllWatched plan.layout past
       → group_crossed.AreWatched (port_plan plan).layout (port_past port past)
   port_watched [] are = tt
   port_watched (x ∷ past) are = port_next past x.beat x.known x.lanes x.link are.0 (port_watched past are.1)

@@ -9,20 +9,20 @@ use Rattle.check_sides.specs.Groups.{plan_at, past_at}
 use Rattle.check_sides.specs.Plan.{Layout, Plan, HasLink, IsWatched, bus_of}
 
 -- a sighting is at a link of the system that is watched, and has a lane for each byte of its bus
-pub record IsWatchedAt (layout : Layout) (x : Sighting) : Type 0 where
+pub record IsAtWatchedLink (layout : Layout) (x : Sighting) : Type 0 where
   pub link : HasLink layout x.link
   pub watched : IsWatched layout.links x.link
   pub lanes : bus_of layout x.link ≤ length x.lanes
 
-abbrev pub AreWatched : Layout → List Sighting → Type 0
-AreWatched layout past = AllByRecursion (IsWatchedAt layout) past
+abbrev pub AreAllWatched : Layout → List Sighting → Type 0
+AreAllWatched layout past = AllByRecursion (IsAtWatchedLink layout) past
 
 -- the beats of each group are whole messages that come in turn; replies fit what slaves may reply that do one request at
 -- a time, each group's from reset on; and if both sides are watched together messages cross: so it is at each moment
-abbrev pub AlwaysKeepsRules : Plan → List Sighting → Type 0
-AlwaysKeepsRules plan past =
+abbrev pub EachGroupKeepsRules : Plan → List Sighting → Type 0
+EachGroupKeepsRules plan past =
     (link : Link) → group.AlwaysKeepsRules (plan_at plan link) (past_at plan.layout.links link past)
 
 -- each lane that carries a byte, and has to be known, was known
-abbrev pub AreSeenWhole : Plan → List Sighting → Type 0
-AreSeenWhole plan past = (link : Link) → group.AreSeenWhole (plan_at plan link) (past_at plan.layout.links link past)
+abbrev pub AreAllSeenWhole : Plan → List Sighting → Type 0
+AreAllSeenWhole plan past = (link : Link) → group.AreSeenWhole (plan_at plan link) (past_at plan.layout.links link past)

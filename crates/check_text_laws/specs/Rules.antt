@@ -4,16 +4,16 @@ use Rattle.std.specs.List.{AllByRecursion}
 use Rattle.check_sides.specs.Plan.{Layout, Plan, bus_of}
 use Rattle.check_rows.specs.Row.{SeenRow}
 use Rattle.check_rows.specs.declared.row.Row.{Row}
-use Rattle.check_review.specs.Order.{IsCrossing, seen}
+use Rattle.check_review.specs.Order.{IsCrossing, sightings_of}
 use Rattle.check_review.specs.Verdict.{HasCounts, HasLeft, IsNamedBy}
 use Rattle.check_unanswered.specs.declared.request.Left.{Left}
-use Rattle.check_lines.specs.declared.verdict.Counts.{Counts}
+use Rattle.check_lines.specs.declared.verdict.VerdictCounts.{VerdictCounts}
 use Rattle.check_review.specs.declared.stop.Unlawful.{Unlawful}
-use Rattle.check_records.specs.Text.{Place}
+use Rattle.check_records.specs.Text.{TextPlace}
 use Rattle.check_text.specs.Capture.{Begins, IsCapture}
 use Rattle.check_text.specs.Rows.{IsTimeOver}
 use Rattle.check_text.specs.Buses.{LinkBuses}
-use Rattle.check_text_laws.specs.Groups.{AlwaysKeepsRules, AreSeenWhole}
+use Rattle.check_text_laws.specs.Groups.{EachGroupKeepsRules, AreAllSeenWhole}
 
 -- each row has a lane for each byte of its link's bus
 abbrev pub HaveLanes : Layout → List SeenRow → Type 0
@@ -24,8 +24,8 @@ HaveLanes layout rows = AllByRecursion (λ row. bus_of layout row.sighting.link 
 pub record FileKeepsRules (plan : Plan) (file : List SeenRow) : Type 0 where
   pub crossed : List SeenRow
   pub crossing : IsCrossing file crossed
-  pub keeps : AlwaysKeepsRules plan (seen plan.layout crossed)
-  pub whole : AreSeenWhole plan (seen plan.layout crossed)
+  pub keeps : EachGroupKeepsRules plan (sightings_of plan.layout crossed)
+  pub whole : AreAllSeenWhole plan (sightings_of plan.layout crossed)
 
 -- up to the row that is named the rules are kept at each moment, and with it they are not, or a lane of it that carries a
 -- byte, and has to be known, was not
@@ -35,13 +35,13 @@ pub record BreaksRules (plan : Plan) (file : List SeenRow) (named : Row) : Type 
   pub after : List SeenRow
   pub before : List SeenRow
   pub crossing : IsCrossing file (after ++ row ∷ before)
-  pub kept : AlwaysKeepsRules plan (seen plan.layout before)
-  pub whole : AreSeenWhole plan (seen plan.layout before)
-  pub broken : AreSeenWhole plan (row.sighting ∷ seen plan.layout before)
-      → AlwaysKeepsRules plan (row.sighting ∷ seen plan.layout before) → ⊥
+  pub kept : EachGroupKeepsRules plan (sightings_of plan.layout before)
+  pub whole : AreAllSeenWhole plan (sightings_of plan.layout before)
+  pub broken : AreAllSeenWhole plan (row.sighting ∷ sightings_of plan.layout before)
+      → EachGroupKeepsRules plan (row.sighting ∷ sightings_of plan.layout before) → ⊥
 
 -- from a place on a text is a capture, its rows keep the rules, and so many they are; if it is asked, no request is left
-pub record CaptureKeepsRules (asked : Bool) (plan : Plan) (buses : LinkBuses) (from : Place) (counts : Counts) : Type 0 where
+pub record CaptureKeepsRules (asked : Bool) (plan : Plan) (buses : LinkBuses) (from : TextPlace) (counts : VerdictCounts) : Type 0 where
   pub rows : List SeenRow
   pub is : IsCapture buses from rows
   pub keeps : FileKeepsRules plan rows
@@ -49,16 +49,16 @@ pub record CaptureKeepsRules (asked : Bool) (plan : Plan) (buses : LinkBuses) (f
   pub complete : HasLeft asked plan rows None
 
 -- from a place on a text is a capture, its rows keep the rules, and these requests are left at its end
-pub record CaptureLeaves (asked : Bool) (plan : Plan) (buses : LinkBuses) (from : Place) (over : Left) : Type 0 where
+pub record CaptureLeaves (asked : Bool) (plan : Plan) (buses : LinkBuses) (from : TextPlace) (over : Left) : Type 0 where
   pub rows : List SeenRow
   pub is : IsCapture buses from rows
   pub keeps : FileKeepsRules plan rows
   pub left : HasLeft asked plan rows (Some over)
 
 -- from a place on a text has the header and rows up to the end of some time, and with this row they break the rules
-pub record CaptureBreaksRules (plan : Plan) (buses : LinkBuses) (from : Place) (found : Unlawful) : Type 0 where
+pub record CaptureBreaksRules (plan : Plan) (buses : LinkBuses) (from : TextPlace) (found : Unlawful) : Type 0 where
   pub rows : List SeenRow
-  pub place : Place
+  pub place : TextPlace
   pub begins : Begins buses from rows place
   pub over : IsTimeOver buses rows place
   pub breaks : BreaksRules plan rows found.row

@@ -1,8 +1,8 @@
 //! Laws of what was covered, each on a function that does nothing but carry it.
 ghost use Rattle.std.specs.Prelude.{◌≡◌, ◌<◌, ◌^◌, List, ℕ, length};
-ghost use Rattle.check_map.specs.Ranges.{IsLawfulMap};
+ghost use Rattle.check_map.specs.Ranges.{IsLawfulAddressMap};
 ghost use Rattle.check_watch.specs.Lawful as group_lawful;
-ghost use Rattle.check_watch.specs.Plan.{Plan as GroupPlan};
+ghost use Rattle.check_watch.specs.Plan.{GroupPlan};
 ghost use Rattle.check_watch_laws.specs.Crossed.{AreWatched};
 ghost use Rattle.check_watch_laws.specs.Whenever.{AreFresh};
 ghost use Rattle.check_sides.specs.Groups.{shared_past, shared_plan};
@@ -13,21 +13,21 @@ ghost use Rattle.check_unanswered.specs.Began.{beats_of};
 ghost use Rattle.check_order_laws.specs.Looser.{IsLooser};
 ghost use Rattle.check_order_laws.specs.Open.{NothingIsContested};
 ghost use Rattle.check_coverage.specs.Text.{TellsCoverage};
-ghost use Rattle.check_lines.specs.declared.verdict.Counts.{Counts};
-ghost use Rattle.check_review.specs.Order.{IsCrossing, seen, watched};
+ghost use Rattle.check_lines.specs.declared.verdict.VerdictCounts.{VerdictCounts};
+ghost use Rattle.check_review.specs.Order.{IsCrossing, sightings_of, watched};
 ghost use Rattle.check_review.specs.Verdict.{HasCounts};
 ghost use Rattle.check_text_laws.specs.Sums.{DifferUntold, TellsNoContest, is_answered, is_asked, sum_of};
 
 /// Of a file of fewer than 2^64 rows: the counts of all bins `asked` add up to the requests that the verdict counts; if the
 /// file is lawful, those of all bins `answered` to the replies.
 pub fn counts_add_up_to_the_verdict()
-    ensures asked { (plan : Plan) (file crossed : List SeenRow) (counts : Counts) (old new : List ℕ)
+    ensures asked { (plan : Plan) (file crossed : List SeenRow) (counts : VerdictCounts) (old new : List ℕ)
         → IsCrossing file crossed → HasCounts plan file counts → length file < 2 ^ 64
         → (tells : TellsCoverage plan (watched plan.layout crossed) old new)
         → sum_of is_asked tells.entries ≡ counts.requests }
-    ensures answered { (plan : Plan) (file crossed : List SeenRow) (counts : Counts) (old new : List ℕ)
+    ensures answered { (plan : Plan) (file crossed : List SeenRow) (counts : VerdictCounts) (old new : List ℕ)
         → IsCrossing file crossed → HasCounts plan file counts → length file < 2 ^ 64
-        → IsLawful plan (seen plan.layout crossed)
+        → IsLawful plan (sightings_of plan.layout crossed)
         → (tells : TellsCoverage plan (watched plan.layout crossed) old new)
         → sum_of is_answered tells.entries ≡ counts.answered }
 {}
@@ -36,7 +36,7 @@ pub fn counts_add_up_to_the_verdict()
 /// together. No two ports have a byte in common, as those of each system that is taken.
 pub fn no_contest_is_left_out()
     ensures { (plan : Plan) (rows : List SeenRow) (old new : List ℕ) (port : ℕ) → IsPlan plan
-        → IsLawfulMap plan.layout.ports
+        → IsLawfulAddressMap plan.layout.ports
         → AreWatched (shared_plan plan).layout (shared_past plan.layout.links (beats_of rows))
         → IsLawful plan (beats_of rows) → (tells : TellsCoverage plan rows old new) → TellsNoContest port tells.entries
         → NothingIsContested (shared_plan plan) port (shared_past plan.layout.links (beats_of rows)) }
@@ -46,10 +46,10 @@ pub fn no_contest_is_left_out()
 /// by the orders of those ports at which requests take effect as they are accepted: so the order `any` let nothing pass.
 pub fn any_let_nothing_pass()
     ensures { (loose : Plan) (strict : GroupPlan) (rows : List SeenRow) (old new : List ℕ) → IsPlan loose
-        → IsLawfulMap loose.layout.ports
+        → IsLawfulAddressMap loose.layout.ports
         → AreWatched (shared_plan loose).layout (shared_past loose.layout.links (beats_of rows))
         → IsLawful loose (beats_of rows) → (tells : TellsCoverage loose rows old new)
         → IsLooser (shared_plan loose) strict → AreFresh strict
         → DifferUntold (shared_plan loose) strict tells.entries
-        → group_lawful.IsLawful strict (shared_past loose.layout.links (beats_of rows)) }
+        → group_lawful.IsLawfulGroup strict (shared_past loose.layout.links (beats_of rows)) }
 {}

@@ -7,22 +7,22 @@ ghost use Rattle.check_sides.specs.declared.links.Links.TheVariants.{Each};
 ghost use Rattle.check_sides.specs.Groups.{plan_at, past_at, shared_plan, shared_past, port_plan, port_past};
 ghost use Rattle.check_sides.specs.Lawful.{IsLawful};
 ghost use Rattle.check_sides.specs.Plan.{Plan, IsPlan};
-ghost use Rattle.check_text_laws.specs.Groups.{AlwaysKeepsRules, AreSeenWhole, AreWatched};
+ghost use Rattle.check_text_laws.specs.Groups.{EachGroupKeepsRules, AreAllSeenWhole, AreAllWatched};
 
 /// A list is lawful exactly if the beats of the group of each link are.
 pub fn each_group_is_lawful()
     ensures groups { (plan : Plan) (past : List Sighting)
         → IsLawful plan past ↔ ((link : Link)
-        → group_lawful.IsLawful (plan_at plan link) (past_at plan.layout.links link past)) }
+        → group_lawful.IsLawfulGroup (plan_at plan link) (past_at plan.layout.links link past)) }
     ensures each { (plan : Plan) (past : List Sighting) → plan.layout.links ≡ Each
-        → IsLawful plan past ↔ (group_lawful.IsLawful (shared_plan plan) (shared_past Each past)
-        × ((port : ℕ) → group_lawful.IsLawful (port_plan plan) (port_past port past))) }
+        → IsLawful plan past ↔ (group_lawful.IsLawfulGroup (shared_plan plan) (shared_past Each past)
+        × ((port : ℕ) → group_lawful.IsLawfulGroup (port_plan plan) (port_past port past))) }
 {}
 
 /// With the other three words it is lawful exactly if it is by the plan of the links that are judged together.
 pub fn other_words_say_what_they_said()
     ensures { (plan : Plan) (past : List Sighting) → (plan.layout.links ≡ Each → ⊥)
-        → IsLawful plan past ↔ group_lawful.IsLawful (shared_plan plan) past }
+        → IsLawful plan past ↔ group_lawful.IsLawfulGroup (shared_plan plan) past }
 {}
 
 /// A beginning of what is lawful is lawful. Lists of sightings have the latest first.
@@ -35,13 +35,13 @@ pub fn a_beginning_is_lawful()
 /// what slaves of its own may reply, and with `Both` messages cross; and each lane that carries a byte, and has to be
 /// known, was known.
 pub fn lawful_beats_keep_the_rules()
-    ensures rules { (plan : Plan) (past : List Sighting) → IsPlan plan → AreWatched plan.layout past → IsLawful plan past
-        → AlwaysKeepsRules plan past }
-    ensures lanes { (plan : Plan) (past : List Sighting) → IsLawful plan past → AreSeenWhole plan past }
+    ensures rules { (plan : Plan) (past : List Sighting) → IsPlan plan → AreAllWatched plan.layout past → IsLawful plan past
+        → EachGroupKeepsRules plan past }
+    ensures lanes { (plan : Plan) (past : List Sighting) → IsLawful plan past → AreAllSeenWhole plan past }
 {}
 
 /// And the way back: beats of which each group keeps these rules at each moment are lawful.
 pub fn beats_that_keep_the_rules_are_lawful()
-    ensures { (plan : Plan) (past : List Sighting) → IsPlan plan → AreWatched plan.layout past → AreSeenWhole plan past
-        → AlwaysKeepsRules plan past → IsLawful plan past }
+    ensures { (plan : Plan) (past : List Sighting) → IsPlan plan → AreAllWatched plan.layout past → AreAllSeenWhole plan past
+        → EachGroupKeepsRules plan past → IsLawful plan past }
 {}

@@ -4,9 +4,9 @@ ghost use Rattle.check_sides.specs.Plan.{Plan, IsPlan};
 ghost use Rattle.check_rows.specs.Row.{SeenRow};
 ghost use Rattle.check_review.specs.Verdict.{IsLawfulFile};
 ghost use Rattle.check_unanswered.specs.declared.request.Left.{Left};
-ghost use Rattle.check_lines.specs.declared.verdict.Counts.{Counts};
+ghost use Rattle.check_lines.specs.declared.verdict.VerdictCounts.{VerdictCounts};
 ghost use Rattle.check_review.specs.declared.stop.Unlawful.{Unlawful as Found};
-ghost use Rattle.check_records.specs.Text.{Place};
+ghost use Rattle.check_records.specs.Text.{TextPlace};
 ghost use Rattle.check_text.specs.Capture.{IsVerdict};
 ghost use Rattle.check_text.specs.declared.fault.Verdict.TheVariants.{Incomplete, Lawful, Unlawful};
 ghost use Rattle.check_text.specs.Buses.{HasBuses, LinkBuses};
@@ -24,13 +24,13 @@ pub fn lawful_files_keep_the_rules()
 /// moment, and so is one whose verdict is `incomplete`, at whose end requests are left; one whose verdict is `unlawful`
 /// names the first row with which they do not.
 pub fn lawful_captures_keep_the_rules()
-    ensures lawful { (asked : Bool) (plan : Plan) (buses : LinkBuses) (from : Place) (counts : Counts) → IsPlan plan
+    ensures lawful { (asked : Bool) (plan : Plan) (buses : LinkBuses) (from : TextPlace) (counts : VerdictCounts) → IsPlan plan
         → HasBuses plan.layout buses → IsVerdict asked plan buses from (Lawful counts)
         → CaptureKeepsRules asked plan buses from counts }
-    ensures incomplete { (asked : Bool) (plan : Plan) (buses : LinkBuses) (from : Place) (over : Left) → IsPlan plan
+    ensures incomplete { (asked : Bool) (plan : Plan) (buses : LinkBuses) (from : TextPlace) (over : Left) → IsPlan plan
         → HasBuses plan.layout buses → IsVerdict asked plan buses from (Incomplete over)
         → CaptureLeaves asked plan buses from over }
-    ensures unlawful { (asked : Bool) (plan : Plan) (buses : LinkBuses) (from : Place) (found : Found) → IsPlan plan
+    ensures unlawful { (asked : Bool) (plan : Plan) (buses : LinkBuses) (from : TextPlace) (found : Found) → IsPlan plan
         → HasBuses plan.layout buses → IsVerdict asked plan buses from (Unlawful found)
         → CaptureBreaksRules plan buses from found }
 {}

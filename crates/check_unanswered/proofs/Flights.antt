@@ -3,7 +3,7 @@ use Rattle.std.proofs.Common.{◌≡◌, ◌≢◌, ◌∙◌, ℕ, Bool, true, 
 use Rattle.std.specs.Prelude.{◌↔◌}
 use Rattle.check_flight.specs.Flight.{Turn}
 use Rattle.check_flight.specs.Flight.Turn.{Idle, Asking, Asked}
-use Rattle.check_watch.specs.Plan.{Side}
+use Rattle.check_watch.specs.Plan.{LinkSide}
 use Rattle.check_watch.proofs.InFlight.{idle_or_asked, idle_or_asking}
 use Rattle.check_watch.specs.Past.{state}
 use Rattle.check_sides.specs.Groups.{shared_past, shared_plan}
@@ -39,7 +39,7 @@ busy_of (Asked n ask) is = λ idle. idle_or_asked n ask (sym idle)
 
 -- ---- one row more
 
-module _ (plan : Plan) (row : SeenRow) (before : List SeenRow) (side : Side) (wide : ℕ) where
+module _ (plan : Plan) (row : SeenRow) (before : List SeenRow) (side : LinkSide) (wide : ℕ) where
   abbrev now : Turn
   now = turn_at plan (row ∷ before) side wide
 
@@ -80,12 +80,12 @@ none_shared Masters = refl
 none_shared Ports = refl
 none_shared Each = refl
 
-turn_none : (plan : Plan) (side : Side) (wide : ℕ) → turn_at plan [] side wide ≡ Idle
+turn_none : (plan : Plan) (side : LinkSide) (wide : ℕ) → turn_at plan [] side wide ≡ Idle
 turn_none plan side wide =
     ap (λ past. ((state (shared_plan plan) past).flights side wide).turn) (none_shared plan.layout.links)
 
 -- what is in flight has begun
-pub began_some : (plan : Plan) (rows : List SeenRow) (side : Side) (wide : ℕ)
+pub began_some : (plan : Plan) (rows : List SeenRow) (side : LinkSide) (wide : ℕ)
     → IsInFlightAt plan (beats_of rows) side wide → (b : Began) × (began plan rows side wide ≡ Some b)
 began_some plan [] side wide busy = absurd (busy (turn_none plan side wide))
 began_some plan (row ∷ before) side wide busy =
@@ -104,19 +104,19 @@ began_some plan (row ∷ before) side wide busy =
         (found.0, began_before plan row before side wide busy h ∙ found.1)
 
 -- and nothing else has
-pub began_busy : (plan : Plan) (rows : List SeenRow) (side : Side) (wide : ℕ) (b : Began)
+pub began_busy : (plan : Plan) (rows : List SeenRow) (side : LinkSide) (wide : ℕ) (b : Began)
     → began plan rows side wide ≡ Some b → IsInFlightAt plan (beats_of rows) side wide
 began_busy plan [] side wide b is idle = absurd (cc)
 began_busy plan (row ∷ before) side wide b is idle =
     let none = began_none plan row before side wide (λ busy. busy idle) in absurd (cc)
 
-pub began_idle : (plan : Plan) (rows : List SeenRow) (side : Side) (wide : ℕ)
+pub began_idle : (plan : Plan) (rows : List SeenRow) (side : LinkSide) (wide : ℕ)
     → (IsInFlightAt plan (beats_of rows) side wide → ⊥) → began plan rows side wide ≡ None
 began_idle plan [] side wide not = refl
 began_idle plan (row ∷ before) side wide not = began_none plan row before side wide not
 
 -- where a row changes nothing, what began stays
-pub began_stays : (plan : Plan) (row : SeenRow) (before : List SeenRow) (side : Side) (wide : ℕ)
+pub began_stays : (plan : Plan) (row : SeenRow) (before : List SeenRow) (side : LinkSide) (wide : ℕ)
     → (IsInFlightAt plan (beats_of (row ∷ before)) side wide ↔ IsInFlightAt plan (beats_of before) side wide)
     → began plan (row ∷ before) side wide ≡ began plan before side wide
 began_stays plan row before side wide same = go (is_idle (turn_at plan (row ∷ before) side wide)) refl

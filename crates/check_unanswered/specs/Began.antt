@@ -2,12 +2,12 @@
 -- are rows of links that are watched. This project's own.
 use Rattle.std.specs.Prelude.{◌≡◌, ◌⊎◌, ◌↔◌, ℕ, ◌≤◌, ◌%◌, ◌^◌, Bool, true, false, if◌then◌else◌, List, [], ◌∷◌, map, length, Contains, Option, Some, None}
 use Rattle.std.specs.List.Sorted.{IsStrictlyIncreasing}
-use Rattle.check_map.specs.Owner.{IsWide}
+use Rattle.check_map.specs.Owner.{IsWideSource}
 use Rattle.check_watch.specs.Plan.{Sighting, seen_at}
 use Rattle.check_flight.specs.Flight.{Turn}
 use Rattle.check_flight.specs.Flight.Turn.{Idle, Asking, Asked}
-use Rattle.check_watch.specs.Plan.{Side}
-use Rattle.check_watch.specs.Plan.Side.{AtMasters, AtPorts}
+use Rattle.check_watch.specs.Plan.{LinkSide}
+use Rattle.check_watch.specs.Plan.LinkSide.{AtMasters, AtPorts}
 use Rattle.check_watch.specs.Past.{state}
 use Rattle.check_sides.specs.Groups.{shared_past, shared_plan}
 use Rattle.check_sides.specs.Pending.{IsInFlightAt}
@@ -30,7 +30,7 @@ abbrev pub beats_of : List SeenRow → List Sighting
 beats_of rows = map (λ (row : SeenRow). row.sighting) rows
 
 -- what is in flight of a wide source, on a side of the links that are judged together
-abbrev pub turn_at : Plan → List SeenRow → Side → ℕ → Turn
+abbrev pub turn_at : Plan → List SeenRow → LinkSide → ℕ → Turn
 turn_at plan rows side wide =
     ((state (shared_plan plan) (shared_past plan.layout.links (beats_of rows))).flights side wide).turn
 
@@ -44,7 +44,7 @@ abbrev pub began_with : SeenRow → ℕ → Began
 began_with row place = record { line = row.line; time = row.time; beat = row.sighting.beat; place = place }
 
 -- how the request in flight of a wide source began: it is in flight after that row, and none was before it
-abbrev pub began : Plan → List SeenRow → Side → ℕ → Option Began
+abbrev pub began : Plan → List SeenRow → LinkSide → ℕ → Option Began
 began plan [] side wide = None
 began plan (row ∷ before) side wide =
     if is_idle (turn_at plan (row ∷ before) side wide) then None
@@ -52,20 +52,20 @@ began plan (row ∷ before) side wide =
     else began plan before side wide
 
 -- no request is in flight on a side
-abbrev pub IsCompleteOn : Plan → List SeenRow → Side → Type 0
+abbrev pub IsCompleteOn : Plan → List SeenRow → LinkSide → Type 0
 IsCompleteOn plan rows side = (wide : ℕ) → IsInFlightAt plan (beats_of rows) side wide → ⊥
 
 -- no request is in flight at the links that are judged together
 abbrev pub IsComplete : Plan → List SeenRow → Type 0
-IsComplete plan rows = (side : Side) → IsCompleteOn plan rows side
+IsComplete plan rows = (side : LinkSide) → IsCompleteOn plan rows side
 
 -- so many requests are in flight on a side, and this is the one that began first, with its owner
-pub record IsLeftOn (plan : Plan) (rows : List SeenRow) (side : Side) (left : Left) : Type 0 where
+pub record IsLeftOn (plan : Plan) (rows : List SeenRow) (side : LinkSide) (left : Left) : Type 0 where
   pub wides : List ℕ
   pub rising : IsStrictlyIncreasing wides
   pub are : (wide : ℕ) → Contains wides wide ↔ IsInFlightAt plan (beats_of rows) side wide
   pub count : left.requests ≡ length wides
-  pub own : IsWide plan.layout.owners left.first.origin.master left.first.origin.source left.first.origin.wide
+  pub own : IsWideSource plan.layout.owners left.first.origin.master left.first.origin.source left.first.origin.wide
   pub is : began plan rows side left.first.origin.wide ≡ Some left.first.began
   pub oldest : (wide : ℕ) (other : Began) → began plan rows side wide ≡ Some other
       → left.first.began.place ≤ other.place

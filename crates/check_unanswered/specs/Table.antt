@@ -20,6 +20,6 @@ IsOldestOf opens (Some first) =
     Contains opens first × ((ask : Open) → Contains opens ask → first.began.place ≤ ask.began.place)
 
 -- so many requests are in flight, and this is the one that began first
-pub record IsFirstOf (table : List (Option Open)) (left : Left) : Type 0 where
+pub record IsEarliestOf (table : List (Option Open)) (left : Left) : Type 0 where
   pub count : left.requests ≡ length (opens table)
   pub oldest : IsOldestOf (opens table) (Some left.first)

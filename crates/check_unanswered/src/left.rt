@@ -1,6 +1,6 @@
 //! What is in flight on one side.
 ghost use Rattle.std.specs.Prelude.{◌≡◌, ◌+◌, ◌^◌, ◌<◌, [], ◌∷◌, ◌++◌, List, Option, Some, length, IfNone, IfSome};
-ghost use Rattle.check_unanswered.specs.Table.{IsFirstOf, IsOldestOf, opens};
+ghost use Rattle.check_unanswered.specs.Table.{IsEarliestOf, IsOldestOf, opens};
 ghost use Rattle.check_unanswered.specs.declared.request.Open.{Open as IsOpen};
 
 use crate::request::{Left, Open};
@@ -42,7 +42,7 @@ fn count_with(requests: usize, ask: &Option<Open>) -> usize
 /// How many requests are in flight, and the one that began first; `None` if none is.
 pub fn left_in(table: &[Option<Open>]) -> Option<Left>
     ensures none { IfNone result (opens table.now ≡ []) }
-    ensures some { IfSome result (IsFirstOf table.now) }
+    ensures some { IfSome result (IsEarliestOf table.now) }
 {
     let mut requests = 0;
     let mut first = None;

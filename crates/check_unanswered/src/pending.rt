@@ -10,7 +10,7 @@ ghost use Rattle.check_watch.specs.Plan.{side_of};
 
 use crate::left::left_in;
 use crate::request::{Began, Left, Open};
-use check_map::Sources;
+use check_map::SourceOwners;
 use check_rows::Row;
 use check_watch::{Change, Link};
 use std::alloc::{AllocError, Global};
@@ -59,7 +59,7 @@ fn put(table: &mut Vec<Option<Open>>, wide: u16, ask: Option<Open>)
 
 impl Pending {
     /// Nothing is in flight, and no row was judged, of a crossbar with these sources.
-    pub fn new(alloc: Global, sources: &Sources) -> Result<Pending, AllocError>
+    pub fn new(alloc: Global, sources: &SourceOwners) -> Result<Pending, AllocError>
         ensures { IfOk result (λ pending. (plan : Plan) → plan.layout.owners ≡ sources.now → Holds plan [] pending) }
     {
         let wides = sources.wides();

@@ -3,9 +3,9 @@ use Rattle.std.proofs.Common.{◌≡◌, ℕ, List, [], ◌∷◌, Option, Some,
 use Rattle.std.specs.Option.{IfSome, option_map}
 use Rattle.check_vcd.specs.Body as body
 use Rattle.check_vcd.specs.Body.{Body, Find, Happens, followed, happenings}
-use Rattle.check_vcd.specs.Header.{Header, Opening, behind, blank, opening}
+use Rattle.check_vcd.specs.Header.{Header, Opening, words_behind, blank, opening}
 use Rattle.check_vcd.specs.Header as header
-use Rattle.check_vcd.specs.Dump.{Dumping, Happened, IsNoDump, IsRefused, IsWrongHeader}
+use Rattle.check_vcd.specs.Dump.{Dumping, Happened, IsNoDump, IsMistakeAt, IsWrongHeader}
 use Rattle.check_vcd.specs.Codes.{find_in}
 use Rattle.check_vcd.specs.Fault.{on_line}
 use Rattle.check_vcd.specs.declared.body.Event.{Event}
@@ -22,18 +22,18 @@ use Rattle.check_vcd.proofs.LeftLemmas.{both-trans}
 
 opening-word : (word : Word) (words : List Word) (h : Header) (does : header.Step)
     → header.step_of h word.bytes ≡ does
-    → opening (word ∷ words) h ≡ behind does word words (opening words)
+    → opening (word ∷ words) h ≡ words_behind does word words (opening words)
 unfolding opening
-opening-word word words h does is = ap (λ (step : header.Step). behind step word words (opening words)) is
+opening-word word words h does is = ap (λ (step : header.Step). words_behind step word words (opening words)) is
 
 -- the header, after one word more
 pub opens-on : (start old new : Option (List Word)) (word : Word) (h : Header) (does : header.Step)
     → Both start old (λ from to. opening from blank ≡ opening to h) → Both old new (λ from to. from ≡ word ∷ to)
     → header.step_of h word.bytes ≡ does
-    → Both start new (λ from to. opening from blank ≡ behind does word to (opening to))
+    → Both start new (λ from to. opening from blank ≡ words_behind does word to (opening to))
 opens-on start old new word h does so_far reads is =
     both-trans start old new (λ from to. opening from blank ≡ opening to h) (λ from to. from ≡ word ∷ to)
-    (λ from to. opening from blank ≡ behind does word to (opening to))
+    (λ from to. opening from blank ≡ words_behind does word to (opening to))
     (λ x y z one two. one ∙ ap (λ (ws : List Word). opening ws h) two ∙ opening-word word z h does is)
     so_far reads
 
@@ -114,7 +114,7 @@ pub refused-by : (start old new : Option (List Word)) (word : Word) (h : Header)
     (next : code_header.Header) (line : ℕ) (mistake : Mistake)
     → Both start old (λ from to. opening from blank ≡ opening to h) → Both old new (λ from to. from ≡ word ∷ to)
     → header.Leads (Err fault) (header.step_of h word.bytes) next → on_line word.line fault ≡ dump.At line mistake
-    → IsRefused start line mistake
+    → IsMistakeAt start line mistake
 refused-by start old new word h (wrong.Wrong m) next line mistake so_far reads does is =
     let lines : word.line ≡ line = cc in
     let mistakes : m ≡ mistake = cc in
@@ -128,7 +128,7 @@ refused-by start old new word h wrong.Memory next line mistake so_far reads does
 
 pub cut-by : (start old new : Option (List Word)) (h : Header) (line : ℕ) (mistake : Mistake)
     → Both start old (λ from to. opening from blank ≡ opening to h) → Both old new (λ from to. (from ≡ []) × (to ≡ []))
-    → mistake ≡ CutInHeader → IsRefused start line mistake
+    → mistake ≡ CutInHeader → IsMistakeAt start line mistake
 cut-by start old new h line mistake so_far none is =
     at-start start new (λ words. IsWrongHeader words line mistake)
     (both-map start new (λ from to. opening from blank ≡ header.Cut) (λ from to. IsWrongHeader from line mistake)
@@ -159,7 +159,7 @@ same-faults r s is = cc
 
 -- the words of a reader are those that are left
 pub no-dump : (text : Option (List ℕ)) (left : Option (List Word)) (line : ℕ) (mistake : Mistake)
-    → HasWordsOf text left → IsRefused left line mistake → IsNoDump text line mistake
+    → HasWordsOf text left → IsMistakeAt left line mistake → IsNoDump text line mistake
 no-dump None left line mistake has is = tt
 no-dump (Some text) left line mistake has is = rw has at is
 

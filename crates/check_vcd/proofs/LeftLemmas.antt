@@ -3,7 +3,7 @@ use Rattle.std.proofs.Common.{◌≡◌, ℕ, true, false, List, [], ◌∷◌, 
 use Rattle.std.specs.Option.{option_map}
 use Rattle.std.specs.Io.KnownBytes.{IsAtEnd, Keeps, prepend_known}
 use Rattle.check_vcd.specs.Words.{Both, Front, Word, nothing, words_from}
-use Rattle.check_vcd.specs.Scanner.{Takes, at_hand, front, left, left_of, word_at_hand}
+use Rattle.check_vcd.specs.Scanner.{TakesWord, at_hand, front, left, scanner_left, word_at_hand}
 use Rattle.check_vcd.specs.declared.scanner.Scanner.{Scanner}
 
 pub both-trans : {A : Type 0} (a b c : Option A) (P Q S : A → A → Type 0) → ((x y z : A) → P x y → Q y z → S x z)
@@ -39,14 +39,14 @@ hand old new from to f g None P all = tt
 hand old new from to f g (Some rest) P all = all rest
 
 pub goes-on : {R : Type 0} (remaining : R → Option (List ℕ)) (old new : Scanner R) → new.reader ≡ old.reader
-    → Takes old new false
+    → TakesWord old new false
     → AreSame (left remaining old (front old)) (left remaining new (front new))
 goes-on remaining old new same takes =
     rw same (hand (at_hand old) (at_hand new) old.next_line new.next_line (front old) (front new)
     (remaining old.reader) (λ x y. x ≡ y) takes.0)
 
 pub ends-word : {R : Type 0} (remaining : R → Option (List ℕ)) (old new : Scanner R) → new.reader ≡ old.reader
-    → Takes old new true
+    → TakesWord old new true
     → Both (left remaining old (front old)) (left remaining new nothing) (λ x y. x ≡ word_at_hand new ∷ y)
 ends-word remaining old new same takes =
     rw same (hand (at_hand old) (at_hand new) old.next_line new.next_line (front old) nothing
@@ -60,11 +60,11 @@ kept (Some xs) None line f keeps = absurd keeps
 kept (Some xs) (Some ys) line f keeps = ap (words_from line f) (sym keeps)
 
 pub refilled : {R : Type 0} (remaining : R → Option (List ℕ)) (old new : Scanner R) → at_hand old ≡ []
-    → Keeps (remaining old.reader) (left_of remaining new)
+    → Keeps (remaining old.reader) (scanner_left remaining new)
     → new.next_line ≡ old.next_line → front new ≡ front old
     → AreSame (left remaining old (front old)) (left remaining new (front new))
 refilled remaining old new none keeps lines fronts =
-    rw (none, lines, fronts) (kept (remaining old.reader) (left_of remaining new) old.next_line (front old) keeps)
+    rw (none, lines, fronts) (kept (remaining old.reader) (scanner_left remaining new) old.next_line (front old) keeps)
 
 -- no byte is left
 at-end : (known : Option (List ℕ)) (line : ℕ) (f : Front) → IsAtEnd known

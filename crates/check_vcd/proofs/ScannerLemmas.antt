@@ -3,7 +3,7 @@ use Rattle.std.proofs.Common.{◌≡◌, ℕ, ◌+◌, ◌<◌, ◌≤◌, Bool,
 use Rattle.std.proofs.lemmas.Bool.Decides.{nat_tests}
 use Rattle.std.specs.Result.{IfOk, OnOk}
 use Rattle.check_vcd.specs.Words.{Front, IsFront, Word, is_blank, line_after, nothing, with_byte, words_from}
-use Rattle.check_vcd.specs.Scanner.{HasMoved, Takes, at_hand, front, word_at_hand}
+use Rattle.check_vcd.specs.Scanner.{HasMoved, TakesWord, at_hand, front, word_at_hand}
 use Rattle.check_vcd.specs.declared.fault.DumpFault.{DumpFault}
 use Rattle.check_vcd.specs.declared.scanner.Scanner.{Scanner}
 use Rattle.check_vcd.proofs.HandLemmas.{hand-first}
@@ -25,7 +25,7 @@ first old new byte next moved =
 
 pub took-letter : {R : Type 0} (old new : Scanner R) (byte : ℕ) → HasNext old byte → HasMoved old new
     → is_blank byte ≡ false
-    → front new ≡ with_byte (front old) byte → new.next_line ≡ old.next_line → Takes old new false
+    → front new ≡ with_byte (front old) byte → new.next_line ≡ old.next_line → TakesWord old new false
 took-letter old new byte next moved not fronts lines = (
   (λ rest.
       ap (λ (hand : List ℕ). words_from old.next_line (front old) (hand ++ rest)) (first old new byte next moved)
@@ -39,7 +39,7 @@ took-letter old new byte next moved not fronts lines = (
 blank : {R : Type 0} (old new : Scanner R) (byte : ℕ) (ended : Bool) → HasNext old byte → HasMoved old new
     → is_blank byte ≡ true → IsFront (front old) → front new ≡ front old → new.line ≡ old.next_line
     → new.next_line ≡ line_after old.next_line byte
-    → ended ≡ nat_lt 0 old.size → Takes old new ended
+    → ended ≡ nat_lt 0 old.size → TakesWord old new ended
 blank old new byte true next moved is front_is fronts line lines test = λ rest.
     let some : 0 < old.size = grind (arith, nat_tests) in
     let word : word_at_hand new ≡ record { line = old.next_line; bytes = old.word.items; size = old.size } =
@@ -60,13 +60,13 @@ pub took-blank : {R : Type 0} (old new : Scanner R) (byte : ℕ) (r : Result Boo
     → HasMoved old new
     → is_blank byte ≡ true → IsFront (front old) → front new ≡ front old
     → IfOk r (λ ended. ended ≡ nat_lt 0 old.size)
-    → OnOk r ((new.line ≡ old.next_line) × (new.next_line ≡ line_after old.next_line byte)) → IfOk r (Takes old new)
+    → OnOk r ((new.line ≡ old.next_line) × (new.next_line ≡ line_after old.next_line byte)) → IfOk r (TakesWord old new)
 took-blank old new byte (Err fault) next moved is front_is fronts test lines = tt
 took-blank old new byte (Ok ended) next moved is front_is fronts test lines =
     blank old new byte ended next moved is front_is fronts lines.0 lines.1 test
 
 -- one byte more
-pub takes-more : {R : Type 0} (old mid new : Scanner R) (ended : Bool) → Takes old mid false → Takes mid new ended
-    → Takes old new ended
+pub takes-more : {R : Type 0} (old mid new : Scanner R) (ended : Bool) → TakesWord old mid false → TakesWord mid new ended
+    → TakesWord old new ended
 takes-more old mid new true one two = λ rest. one.0 rest ∙ two rest
 takes-more old mid new false one two = ((λ rest. one.0 rest ∙ two.0 rest), two.1)

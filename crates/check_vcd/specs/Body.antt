@@ -2,21 +2,21 @@
 -- what they are called then, is this project's own.
 use Rattle.std.specs.Prelude.{◌≡◌, ℕ, ◌-◌, ◌||◌, ◌==◌, Bool, false, not, nat_lt, List, [], ◌∷◌, length, Option, None, Some, Result, Ok, Err, if◌then◌else◌}
 use Rattle.tl_text.specs.Number.{number_of}
-use Rattle.check_vcd.specs.Token.{are_bits, is_end, kind_of}
+use Rattle.check_vcd.specs.Token.{are_bits, is_end, token_kind}
 use Rattle.check_vcd.specs.Words.{Word}
 use Rattle.check_vcd.specs.declared.body.TheConstants.{TIME_DIGITS}
 use Rattle.check_vcd.specs.declared.body.Body as code_body
 use Rattle.check_vcd.specs.declared.body.Event.{Event}
 use Rattle.check_vcd.specs.declared.body.Event.TheVariants as event
-use Rattle.check_vcd.specs.declared.body.Place.{Place}
-use Rattle.check_vcd.specs.declared.body.Place.TheVariants.{Plain, InComment, BehindVector, BehindOther}
+use Rattle.check_vcd.specs.declared.body.BodyPlace.{BodyPlace}
+use Rattle.check_vcd.specs.declared.body.BodyPlace.TheVariants.{Plain, InComment, BehindVector, BehindOther}
 use Rattle.check_vcd.specs.declared.codes.Coded.{Coded}
 use Rattle.check_vcd.specs.declared.fault.Mistake.{Mistake}
 use Rattle.check_vcd.specs.declared.fault.Mistake.TheVariants.{NotADump, NoSuchIdentifier, BadValue, TooWide, TimeFalls}
 use Rattle.check_vcd.specs.declared.fault.WordFault.{WordFault}
 use Rattle.check_vcd.specs.declared.fault.WordFault.TheVariants as word
-use Rattle.check_vcd.specs.declared.token.Kind.{Kind}
-use Rattle.check_vcd.specs.declared.token.Kind.TheVariants as kind
+use Rattle.check_vcd.specs.declared.token.TokenKind.{TokenKind}
+use Rattle.check_vcd.specs.declared.token.TokenKind.TheVariants as kind
 
 -- ---- what happens
 
@@ -35,7 +35,7 @@ Find = List ℕ → Option Coded
 
 -- where a word stands: after what, after which value of how many digits, and after which time
 pub record Body : Type 0 where
-  pub place : Place
+  pub place : BodyPlace
   pub value : List ℕ
   pub size : ℕ
   pub time : Option ℕ
@@ -95,7 +95,7 @@ with_digits body digits size =
     else Goes (record body { place = BehindVector; value = digits; size = size })
 
 -- a word that begins something new, by its first byte and the others
-abbrev pub begun_by : Kind → Find → Body → ℕ → ℕ → List ℕ → Step
+abbrev pub begun_by : TokenKind → Find → Body → ℕ → ℕ → List ℕ → Step
 begun_by kind.Scalar find body size first rest = changed find (with_bit body first) rest
 begun_by kind.Vector find body size first rest = with_digits body rest (size - 1)
 begun_by kind.Time find body size first rest = timed body rest
@@ -106,10 +106,10 @@ begun_by kind.Unknown find body size first rest = Fails NotADump
 
 abbrev pub begun : Find → Body → ℕ → List ℕ → Step
 begun find body size [] = Fails NotADump
-begun find body size (first ∷ rest) = begun_by (kind_of first (first ∷ rest)) find body size first rest
+begun find body size (first ∷ rest) = begun_by (token_kind first (first ∷ rest)) find body size first rest
 
 -- a word of so many bytes, by where it stands
-abbrev pub step_at : Place → Find → Body → ℕ → List ℕ → Step
+abbrev pub step_at : BodyPlace → Find → Body → ℕ → List ℕ → Step
 step_at Plain find body size word = begun find body size word
 step_at InComment find body size word = Goes (if is_end word then record body { place = Plain } else body)
 step_at BehindVector find body size word = changed find (record body { place = Plain }) word

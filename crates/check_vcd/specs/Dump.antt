@@ -4,7 +4,7 @@ use Rattle.std.specs.Str.{bytes_eq}
 use Rattle.check_vcd.specs.Body.{Body, Happens, Wrong, happenings, happens_of, start}
 use Rattle.check_vcd.specs.Codes.{coded_in, find_in}
 use Rattle.check_vcd.specs.Header.{Cut, Opened, Refused, Var, blank, opening}
-use Rattle.check_vcd.specs.Words.{Both, Word, words_of}
+use Rattle.check_vcd.specs.Words.{Both, Word, dump_words}
 use Rattle.check_vcd.specs.declared.body.Event.{Event}
 use Rattle.check_vcd.specs.declared.codes.Coded.{Coded}
 use Rattle.check_vcd.specs.declared.codes.Codes.{Codes}
@@ -33,17 +33,17 @@ abbrev pub IsWrongHeader : List Word → ℕ → Mistake → Type 0
 IsWrongHeader words line mistake =
     (opening words blank ≡ Refused line mistake) ⊎ ((opening words blank ≡ Cut) × (mistake ≡ CutInHeader))
 
-abbrev pub IsRefused : Option (List Word) → ℕ → Mistake → Type 0
-IsRefused left line mistake = IfSome left (λ words. IsWrongHeader words line mistake)
+abbrev pub IsMistakeAt : Option (List Word) → ℕ → Mistake → Type 0
+IsMistakeAt left line mistake = IfSome left (λ words. IsWrongHeader words line mistake)
 
 -- the text of a reader begins with a header that declares these signals, and the dump is what stands after it
 pub record Opens (text : Option (List ℕ)) (vars : List Var) (dump : Dumping) : Type 0 where
-  pub words : Both (option_map words_of text) dump.words (λ from to. opening from blank ≡ Opened vars to)
+  pub words : Both (option_map dump_words text) dump.words (λ from to. opening from blank ≡ Opened vars to)
   pub find : (code : List ℕ) → find_in dump.codes code ≡ coded_in vars code
   pub body : dump.body ≡ start
 
 abbrev pub IsNoDump : Option (List ℕ) → ℕ → Mistake → Type 0
-IsNoDump text line mistake = IfSome text (λ bytes. IsWrongHeader (words_of bytes) line mistake)
+IsNoDump text line mistake = IfSome text (λ bytes. IsWrongHeader (dump_words bytes) line mistake)
 
 -- ---- the body
 
@@ -52,8 +52,8 @@ abbrev pub with_slot : ℕ → Option Coded → Option Coded
 with_slot slot known = option_map (λ coded. record { width = coded.width; slot = Some slot }) known
 
 -- its values are kept there, and nothing else is changed
-abbrev pub Keeps : Dumping → List ℕ → ℕ → Dumping → Type 0
-Keeps old code slot new =
+abbrev pub KeepsValue : Dumping → List ℕ → ℕ → Dumping → Type 0
+KeepsValue old code slot new =
     (other : List ℕ) → find_in new.codes other
     ≡ (if bytes_eq code other then with_slot slot (find_in old.codes other) else find_in old.codes other)
 

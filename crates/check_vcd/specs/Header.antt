@@ -146,14 +146,14 @@ pub data Opening : Type 0 where
   Refused : ℕ → Mistake → Opening
   Cut : Opening
 
-abbrev pub behind : Step → Word → List Word → (Header → Opening) → Opening
-behind (Goes header) word words others = others header
-behind (Ends header) word words others = Opened header.vars words
-behind (Fails mistake) word words others = Refused word.line mistake
+abbrev pub words_behind : Step → Word → List Word → (Header → Opening) → Opening
+words_behind (Goes header) word words others = others header
+words_behind (Ends header) word words others = Opened header.vars words
+words_behind (Fails mistake) word words others = Refused word.line mistake
 
 unfoldable pub opening : List Word → Header → Opening
 opening [] header = Cut
-opening (word ∷ words) header = behind (step_of header word.bytes) word words (opening words)
+opening (word ∷ words) header = words_behind (step_of header word.bytes) word words (opening words)
 
 -- ---- what calls answer
 

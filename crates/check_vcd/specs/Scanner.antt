@@ -9,12 +9,12 @@ abbrev pub at_hand : {R : Type 0} → Scanner R → List ℕ
 at_hand scanner = slice_range scanner.chunk.items scanner.next scanner.filled
 
 -- the text that is left, where the reader tells its bytes
-abbrev pub left_of : {R : Type 0} → (R → Option (List ℕ)) → Scanner R → Option (List ℕ)
-left_of remaining scanner = prepend_known (at_hand scanner) (remaining scanner.reader)
+abbrev pub scanner_left : {R : Type 0} → (R → Option (List ℕ)) → Scanner R → Option (List ℕ)
+scanner_left remaining scanner = prepend_known (at_hand scanner) (remaining scanner.reader)
 
 -- the words that are left after a front
 abbrev pub left : {R : Type 0} → (R → Option (List ℕ)) → Scanner R → Front → Option (List Word)
-left remaining scanner front = option_map (words_from scanner.next_line front) (left_of remaining scanner)
+left remaining scanner front = option_map (words_from scanner.next_line front) (scanner_left remaining scanner)
 
 -- the front of the word at hand
 abbrev pub front : {R : Type 0} → Scanner R → Front
@@ -40,11 +40,11 @@ pub record HasMoved {R : Type 0} (old new : Scanner R) : Type 0 where
 
 -- the bytes that were taken end a word, or else they belong to the one at hand or stand before it; whatever follows
 -- those at hand
-abbrev pub Takes : {R : Type 0} → Scanner R → Scanner R → Bool → Type 0
-Takes old new true =
+abbrev pub TakesWord : {R : Type 0} → Scanner R → Scanner R → Bool → Type 0
+TakesWord old new true =
     (rest : List ℕ) → words_from old.next_line (front old) (at_hand old ++ rest)
     ≡ word_at_hand new ∷ words_from new.next_line nothing (at_hand new ++ rest)
-Takes old new false =
+TakesWord old new false =
     ((rest : List ℕ) → words_from old.next_line (front old) (at_hand old ++ rest)
     ≡ words_from new.next_line (front new) (at_hand new ++ rest))
     × IsFront (front new)

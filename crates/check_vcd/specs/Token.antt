@@ -2,8 +2,8 @@
 use Rattle.std.specs.Prelude.{ℕ, ◌==◌, ◌||◌, Bool, List, codes, if◌then◌else◌}
 use Rattle.std.specs.List.{list_all}
 use Rattle.std.specs.Str.{bytes_eq}
-use Rattle.check_vcd.specs.declared.token.Kind.{Kind}
-use Rattle.check_vcd.specs.declared.token.Kind.TheVariants.{Ignored, Comment, Time, Scalar, Vector, Other, Unknown}
+use Rattle.check_vcd.specs.declared.token.TokenKind.{TokenKind}
+use Rattle.check_vcd.specs.declared.token.TokenKind.TheVariants.{Ignored, Comment, Time, Scalar, Vector, Other, Unknown}
 
 -- 0, 1, x or z
 abbrev pub is_bit : ℕ → Bool
@@ -29,8 +29,8 @@ is_ignored word =
     || bytes_eq word (codes "$dumpon") || bytes_eq word (codes "$dumpoff")
 
 -- what a word with this first byte begins
-abbrev pub kind_of : ℕ → List ℕ → Kind
-kind_of first word =
+abbrev pub token_kind : ℕ → List ℕ → TokenKind
+token_kind first word =
     if is_bit first then Scalar
     else if starts_vector first then Vector
     else if first == 35 then Time

@@ -50,8 +50,8 @@ words_from line front (byte ∷ text) =
     else words_from line (with_byte front byte) text
 
 -- the words of a text
-abbrev pub words_of : List ℕ → List Word
-words_of text = words_from 1 nothing text
+abbrev pub dump_words : List ℕ → List Word
+dump_words text = words_from 1 nothing text
 
 -- ---- what a reader of words answers
 
@@ -67,11 +67,11 @@ pub record Reading : Type 0 where
   pub word : Word
 
 -- the next word is this one, or else there is none
-abbrev pub Answers : Option (List Word) → Option (List Word) → Word → Bool → Type 0
-Answers old new word true = Both old new (λ from to. from ≡ word ∷ to)
-Answers old new word false = Both old new (λ from to. (from ≡ []) × (to ≡ []))
+abbrev pub AnswersWord : Option (List Word) → Option (List Word) → Word → Bool → Type 0
+AnswersWord old new word true = Both old new (λ from to. from ≡ word ∷ to)
+AnswersWord old new word false = Both old new (λ from to. (from ≡ []) × (to ≡ []))
 
 -- all words of a text are left, if it is known
 abbrev pub HasWordsOf : Option (List ℕ) → Option (List Word) → Type 0
 HasWordsOf None left = ⊤
-HasWordsOf (Some text) left = left ≡ Some (words_of text)
+HasWordsOf (Some text) left = left ≡ Some (dump_words text)

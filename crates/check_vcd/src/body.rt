@@ -5,7 +5,7 @@ ghost use Rattle.check_vcd.specs.Codes.{find_in};
 
 use crate::codes::Codes;
 use crate::fault::{Mistake, WordFault};
-use crate::token::{Kind, are_bits, is_end, kind_of};
+use crate::token::{TokenKind, are_bits, is_end, token_kind};
 use std::alloc::Global;
 use tl_text::read_number;
 
@@ -14,7 +14,7 @@ pub const TIME_DIGITS: usize = 20;
 
 /// Where a word of a dump's body stands.
 #[derive(Debug, Clone, Copy, PartialEq, Eq)]
-pub enum Place {
+pub enum BodyPlace {
     /// Where something new begins.
     Plain,
     InComment,
@@ -38,7 +38,7 @@ pub enum Event {
 #[derive(Drop)]
 pub(crate) struct Body {
     pub(crate) codes: Codes,
-    place: Place,
+    place: BodyPlace,
     pub(crate) value: Vec<u8>,
     size: u64,
     time: Option<u64>,
@@ -52,7 +52,7 @@ impl Body {
     {
         Body {
             codes,
-            place: Place::Plain,
+            place: BodyPlace::Plain,
             value: Vec::new(alloc),
             size: 0,
             time: None,
@@ -127,7 +127,7 @@ impl Body {
         self.value.clear();
         self.value.extend_from_slice(digits)?;
         self.size = size;
-        self.place = Place::BehindVector;
+        self.place = BodyPlace::BehindVector;
         Ok(None)
     }
 
@@ -139,20 +139,20 @@ impl Body {
         let [first, rest @ ..] = word else {
             return Err(WordFault::Wrong(Mistake::NotADump));
         };
-        match kind_of(*first, word) {
-            Kind::Scalar => self.take_scalar(*first, rest),
-            Kind::Vector => self.take_vector(rest, size.saturating_sub(1)),
-            Kind::Time => self.take_time(rest),
-            Kind::Other => {
-                self.place = Place::BehindOther;
+        match token_kind(*first, word) {
+            TokenKind::Scalar => self.take_scalar(*first, rest),
+            TokenKind::Vector => self.take_vector(rest, size.saturating_sub(1)),
+            TokenKind::Time => self.take_time(rest),
+            TokenKind::Other => {
+                self.place = BodyPlace::BehindOther;
                 Ok(None)
             }
-            Kind::Comment => {
-                self.place = Place::InComment;
+            TokenKind::Comment => {
+                self.place = BodyPlace::InComment;
                 Ok(None)
             }
-            Kind::Ignored => Ok(None),
-            Kind::Unknown => Err(WordFault::Wrong(Mistake::NotADump)),
+            TokenKind::Ignored => Ok(None),
+            TokenKind::Unknown => Err(WordFault::Wrong(Mistake::NotADump)),
         }
     }
 
@@ -162,19 +162,19 @@ impl Body {
         ensures codes { self.new.codes ≡ self.old.codes }
     {
         match self.place {
-            Place::Plain => self.begin(word, size),
-            Place::InComment => {
+            BodyPlace::Plain => self.begin(word, size),
+            BodyPlace::InComment => {
                 if is_end(word) {
-                    self.place = Place::Plain;
+                    self.place = BodyPlace::Plain;
                 }
                 Ok(None)
             }
-            Place::BehindVector => {
-                self.place = Place::Plain;
+            BodyPlace::BehindVector => {
+                self.place = BodyPlace::Plain;
                 self.change(word)
             }
-            Place::BehindOther => {
-                self.place = Place::Plain;
+            BodyPlace::BehindOther => {
+                self.place = BodyPlace::Plain;
                 self.pass(word)
             }
         }

@@ -1,7 +1,7 @@
 //! A dump, read from a stream: its header, and then what happens in it.
 ghost use Rattle.std.specs.Prelude.{◌≡◌, ℕ, List, Err, IfOk, OnOk, map};
 ghost use Rattle.check_vcd.specs.Codes.{coded_in, find_in};
-ghost use Rattle.check_vcd.specs.Dump.{Happened, IsNoDump, IsOpened, IsRefused, IsWrong, Keeps, Opens};
+ghost use Rattle.check_vcd.specs.Dump.{Happened, IsNoDump, IsOpened, IsMistakeAt, IsWrong, KeepsValue, Opens};
 ghost use Rattle.check_vcd.specs.Header.{var_view};
 ghost use Rattle.check_vcd.specs.declared.fault.Mistake.{Mistake};
 
@@ -36,7 +36,7 @@ fn codes_of(alloc: Global, vars: &[Var]) -> Result<Codes, AllocError>
 fn read_header<R: Read + Drop>(alloc: Global, words: &mut Words<R>) -> Result<Vec<Var>, DumpFault>
     ensures ok { IfOk result (λ vars. IsOpened words.old.left words.new.left (map var_view vars.items)) }
     ensures wrong { (line : ℕ) (mistake : Mistake) → result ≡ Err (DumpFault.At line mistake)
-        → IsRefused words.old.left line mistake }
+        → IsMistakeAt words.old.left line mistake }
 {
     let mut header = Header::new(alloc);
     for _ in 0..u64::MAX {
@@ -92,7 +92,7 @@ impl<R: Read + Drop> Dump<R> {
 
     /// Keeps the values of an identifier in a slot, if it is declared. It may be called before anything was read.
     pub fn keep(&mut self, alloc: Global, code: &[u8], slot: usize) -> Result<(), AllocError>
-        ensures kept { OnOk result (Keeps self.old code.now slot self.new) }
+        ensures kept { OnOk result (KeepsValue self.old code.now slot self.new) }
         ensures words { self.new.words ≡ self.old.words }
         ensures body { self.new.body ≡ self.old.body }
     {

@@ -75,8 +75,8 @@ pub(crate) struct Scanner<R> {
 }
 
 impl<R: Read + Drop> Scanner<R> {
-    ghost use Rattle.check_vcd.specs.Words.{Answers, HasWordsOf, IsFront, line_after, nothing, with_byte};
-    ghost use Rattle.check_vcd.specs.Scanner.{HasMoved, HasSameBytes, Takes, at_hand, front, left, left_of, word_at_hand};
+    ghost use Rattle.check_vcd.specs.Words.{AnswersWord, HasWordsOf, IsFront, line_after, nothing, with_byte};
+    ghost use Rattle.check_vcd.specs.Scanner.{HasMoved, HasSameBytes, TakesWord, at_hand, front, left, scanner_left, word_at_hand};
 
     /// The words of what a reader gives.
     pub(crate) fn new(alloc: Global, reader: R) -> Result<Scanner<R>, DumpFault>
@@ -100,7 +100,7 @@ impl<R: Read + Drop> Scanner<R> {
     /// Reads more, if nothing is at hand; answers whether there was anything.
     fn refill(&mut self) -> Result<bool, DumpFault>
         requires { at_hand self.old ≡ [] }
-        ensures text { OnOk result (Keeps (R.remaining self.old.reader) (left_of R.remaining self.new)) }
+        ensures text { OnOk result (Keeps (R.remaining self.old.reader) (scanner_left R.remaining self.new)) }
         ensures end { IfOk result (λ more. more ≡ false
             → (at_hand self.new ≡ []) × IsAtEnd (R.remaining self.new.reader)) }
         ensures line { self.new.next_line ≡ self.old.next_line }
@@ -151,7 +151,7 @@ impl<R: Read + Drop> Scanner<R> {
     fn take_byte(&mut self) -> Result<bool, DumpFault>
         requires some { self.old.next < self.old.filled }
         requires front { IsFront (front self.old) }
-        ensures ok { IfOk result (Takes self.old self.new) }
+        ensures ok { IfOk result (TakesWord self.old self.new) }
         ensures moves { HasMoved self.old self.new }
         ensures fault { IfErr result IsNoMistake }
     {
@@ -168,7 +168,7 @@ impl<R: Read + Drop> Scanner<R> {
     /// Takes the bytes at hand, up to the blank that ends a word; answers whether one did.
     fn take_bytes(&mut self) -> Result<bool, DumpFault>
         requires { IsFront (front self.old) }
-        ensures ok { IfOk result (Takes self.old self.new) }
+        ensures ok { IfOk result (TakesWord self.old self.new) }
         ensures all { IfOk result (λ ended. ended ≡ false → at_hand self.new ≡ []) }
         ensures reader { self.new.reader ≡ self.old.reader }
         ensures fault { IfErr result IsNoMistake }
@@ -183,7 +183,7 @@ impl<R: Read + Drop> Scanner<R> {
 
     /// Reads the next word; answers whether there was one. A last word that no blank ends is none, since it may be cut.
     pub(crate) fn read(&mut self) -> Result<bool, DumpFault>
-        ensures ok { IfOk result (Answers (left R.remaining self.old nothing) (left R.remaining self.new nothing)
+        ensures ok { IfOk result (AnswersWord (left R.remaining self.old nothing) (left R.remaining self.new nothing)
             (word_at_hand self.new)) }
         ensures fault { IfErr result IsNoMistake }
     {

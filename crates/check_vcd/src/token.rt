@@ -1,10 +1,10 @@
 //! What a word of a dump's body begins.
 ghost use Rattle.std.specs.Prelude.{◌≡◌};
-ghost use Rattle.check_vcd.specs.Token.{are_bits, is_bit, is_end, is_ignored, kind_of, starts_other, starts_vector};
+ghost use Rattle.check_vcd.specs.Token.{are_bits, is_bit, is_end, is_ignored, token_kind, starts_other, starts_vector};
 
 /// What a word of a dump's body begins.
 #[derive(Debug, Clone, Copy, PartialEq, Eq)]
-pub enum Kind {
+pub enum TokenKind {
     /// A word that says nothing of values: `$dumpvars`, `$dumpon`, `$dumpoff`, `$dumpall` and the `$end` of one.
     Ignored,
     Comment,
@@ -63,22 +63,22 @@ fn is_ignored(word: &[u8]) -> bool
 }
 
 /// What a word with this first byte begins.
-pub fn kind_of(first: u8, word: &[u8]) -> Kind
-    ensures { result ≡ kind_of first word.now }
+pub fn token_kind(first: u8, word: &[u8]) -> TokenKind
+    ensures { result ≡ token_kind first word.now }
 {
     if is_bit(first) {
-        Kind::Scalar
+        TokenKind::Scalar
     } else if starts_vector(first) {
-        Kind::Vector
+        TokenKind::Vector
     } else if first == b'#' {
-        Kind::Time
+        TokenKind::Time
     } else if starts_other(first) {
-        Kind::Other
+        TokenKind::Other
     } else if is_ignored(word) {
-        Kind::Ignored
+        TokenKind::Ignored
     } else if word == b"$comment".as_slice() {
-        Kind::Comment
+        TokenKind::Comment
     } else {
-        Kind::Unknown
+        TokenKind::Unknown
     }
 }

@@ -1,7 +1,7 @@
 //! The words of a text, one after the other.
 ghost use Rattle.std.specs.Prelude.{◌≡◌, IfErr, IfOk};
 ghost use Rattle.check_vcd.specs.Fault.{IsNoMistake};
-ghost use Rattle.check_vcd.specs.Words.{Answers, HasWordsOf};
+ghost use Rattle.check_vcd.specs.Words.{AnswersWord, HasWordsOf};
 
 use crate::fault::DumpFault;
 use crate::scanner::Scanner;
@@ -39,7 +39,7 @@ impl<R: Read + Drop> Words<R> {
 
     /// Reads the next word; answers whether there was one. A last word that no blank ends is none, since it may be cut.
     pub fn read(&mut self) -> Result<bool, DumpFault>
-        ensures ok { IfOk result (Answers self.old.left self.new.left self.new.word) }
+        ensures ok { IfOk result (AnswersWord self.old.left self.new.left self.new.word) }
         ensures fault { IfErr result IsNoMistake }
     {
         self.scanner.read()

@@ -6,18 +6,18 @@ use Rattle.check_flight.specs.Flight.{idle}
 use Rattle.check_flight.specs.PortSlave.{PortSlave}
 use Rattle.check_flight.specs.Side.{under_at, flight_at, bus_at}
 use Rattle.check_watch.specs.Past.{slave_at}
-use Rattle.check_watch.specs.Plan.{Layout, Plan, IsPlan, Side, buses_of}
-use Rattle.check_watch.specs.Plan.Side.{AtMasters, AtPorts}
-use Rattle.check_watch.specs.View.{View, Keeps, side_in, crossing_at}
+use Rattle.check_watch.specs.Plan.{GroupLayout, GroupPlan, IsGroupPlan, LinkSide, buses_of}
+use Rattle.check_watch.specs.Plan.LinkSide.{AtMasters, AtPorts}
+use Rattle.check_watch.specs.View.{GroupView, KeepsGroup, side_in, crossing_at}
 
-module _ (plan : Plan) (view : View) (lawful : IsPlan plan) (layout : plan.layout ≡ view.layout) where
+module _ (plan : GroupPlan) (view : GroupView) (lawful : IsGroupPlan plan) (layout : plan.layout ≡ view.layout) where
   pub fresh_keeps : ((number : ℕ) → under_at view.masters.links number ≡ nothing_under
       (bus_at view.layout.master_buses number))
       → ((wide : ℕ) → flight_at view.masters.flights wide ≡ idle)
       → ((number : ℕ) → under_at view.ports.links number ≡ nothing_under (bus_at view.layout.port_buses number))
       → ((wide : ℕ) → flight_at view.ports.flights wide ≡ idle)
       → ((wide : ℕ) → crossing_at view.crossings wide ≡ Waiting) → view.slaves ≡ plan.resets
-      → Keeps plan [] view
+      → KeepsGroup plan [] view
   fresh_keeps mlinks mflights plinks pflights crossings slaves = record {
     suits = record { lawful = lawful; layout = sym layout };
     lawful = tt;
@@ -29,15 +29,15 @@ module _ (plan : Plan) (view : View) (lawful : IsPlan plan) (layout : plan.layou
     };
   }
     where
-      by_layout : (side : Side) (number : ℕ) → nothing_under (bus_at (buses_of view.layout side) number)
+      by_layout : (side : LinkSide) (number : ℕ) → nothing_under (bus_at (buses_of view.layout side) number)
           ≡ nothing_under (bus_at (buses_of plan.layout side) number)
-      by_layout side number = ap (λ (l : Layout). nothing_under (bus_at (buses_of l side) number)) (sym layout)
+      by_layout side number = ap (λ (l : GroupLayout). nothing_under (bus_at (buses_of l side) number)) (sym layout)
 
-      links : (side : Side) (number : ℕ) → under_at (side_in view side).links number
+      links : (side : LinkSide) (number : ℕ) → under_at (side_in view side).links number
           ≡ nothing_under (bus_at (buses_of plan.layout side) number)
       links AtMasters number = mlinks number ∙ by_layout AtMasters number
       links AtPorts number = plinks number ∙ by_layout AtPorts number
 
-      flights : (side : Side) (wide : ℕ) → flight_at (side_in view side).flights wide ≡ idle
+      flights : (side : LinkSide) (wide : ℕ) → flight_at (side_in view side).flights wide ≡ idle
       flights AtMasters wide = mflights wide
       flights AtPorts wide = pflights wide

@@ -7,7 +7,7 @@ use Rattle.check_beats.specs.Form.{Continues, SameFields, SameReplyFields}
 use Rattle.check_beats.specs.State.{Under, AskBegun, ReplyBegun, first_ask, first_reply, ends_ask, ends_reply, ask_of, ask_after, reply_after, asked_beats, asked_bytes, replied_beats, replied_bytes}
 use Rattle.check_beats.specs.declared.beat.AskHead.{AskHead}
 use Rattle.check_beats.specs.declared.beat.ReplyHead.{ReplyHead}
-use Rattle.check_beats.specs.Message.{ask_part, seen_at as seen_bytes}
+use Rattle.check_beats.specs.Message.{ask_part, seen_cells as seen_bytes}
 use Rattle.check_flight.specs.Flight.{Turn, Flight, idle}
 use Rattle.check_flight.specs.Flight.Turn.{Idle, Asking, Asked}
 use Rattle.check_watch.specs.declared.beat.Beat.{Beat}
@@ -15,21 +15,21 @@ use Rattle.check_watch.specs.declared.beat.Beat.TheVariants.{A, D}
 use Rattle.check_watch.specs.declared.beat.Link.{Link}
 use Rattle.check_watch.specs.declared.beat.Link.TheVariants.{Master, Port}
 use Rattle.check_watch.specs.Allowed.{OfAsked, IsAllowedAsk, IsAllowedReply}
-use Rattle.check_watch.specs.Lawful.{IsLawful, IsAllowed}
+use Rattle.check_watch.specs.Lawful.{IsLawfulGroup, IsAllowed}
 use Rattle.check_watch.specs.Past.{State, scene_of, state, state_after}
-use Rattle.check_watch.specs.Plan.{Plan, Sighting, Side, side_of, number_of, source_of, wide_of, same_side, is_link, is_of, seen_at}
-use Rattle.check_watch.specs.Plan.Side.{AtMasters, AtPorts}
+use Rattle.check_watch.specs.Plan.{GroupPlan, Sighting, LinkSide, side_of, link_number, source_of, wide_of, same_side, is_link, is_of, seen_at}
+use Rattle.check_watch.specs.Plan.LinkSide.{AtMasters, AtPorts}
 use Rattle.check_watch.specs.Scene.{turn_by, flight_after, under_after}
 
 -- ---- sides and links
 
-same_side-true : (a b : Side) → same_side a b ≡ true → a ≡ b
+same_side-true : (a b : LinkSide) → same_side a b ≡ true → a ≡ b
 same_side-true AtMasters AtMasters is = refl
 same_side-true AtMasters AtPorts is = cc
 same_side-true AtPorts AtMasters is = cc
 same_side-true AtPorts AtPorts is = refl
 
-same_side-refl : (a : Side) → same_side a a ≡ true
+same_side-refl : (a : LinkSide) → same_side a a ≡ true
 same_side-refl AtMasters = refl
 same_side-refl AtPorts = refl
 
@@ -48,25 +48,25 @@ true_or_false : (b : Bool) → b ≡ true → b ≡ false → ⊥
 true_or_false b so not = absurd (cc)
 
 -- a beat is of its own source, and of no other
-pub of_own : (plan : Plan) (x : Sighting)
+pub of_own : (plan : GroupPlan) (x : Sighting)
     → is_of plan x (side_of x.link) (wide_of plan x.link (source_of x.beat)) ≡ true
 of_own plan x = rw (same_side-refl (side_of x.link)) (eqb_own (wide_of plan x.link (source_of x.beat)))
 
-pub of_is : (plan : Plan) (x : Sighting) (side : Side) (wide : ℕ) → is_of plan x side wide ≡ true
+pub of_is : (plan : GroupPlan) (x : Sighting) (side : LinkSide) (wide : ℕ) → is_of plan x side wide ≡ true
     → (side_of x.link ≡ side) × (wide_of plan x.link (source_of x.beat) ≡ wide)
 of_is plan x side wide is =
     let both = both_true (same_side (side_of x.link) side) (wide_of plan x.link (source_of x.beat) == wide) is in
     (same_side-true (side_of x.link) side both.0, eqb-true (wide_of plan x.link (source_of x.beat)) wide both.1)
 
-same_link : (a b : Link) → is_link a (side_of b) (number_of b) ≡ true → a ≡ b
+same_link : (a b : Link) → is_link a (side_of b) (link_number b) ≡ true → a ≡ b
 same_link (Master m) (Master n) is = ap (λ k. Master k) (eqb-true m n is)
 same_link (Master m) (Port n) is = cc
 same_link (Port m) (Master n) is = cc
 same_link (Port m) (Port n) is = ap (λ k. Port k) (eqb-true m n is)
 
-link_by : (a b : Link) → side_of a ≡ side_of b → number_of a ≡ number_of b
-    → is_link a (side_of b) (number_of b) ≡ true
-link_by a b side number = rw (← side, ← number, same_side-refl (side_of a)) (eqb_own (number_of a))
+link_by : (a b : Link) → side_of a ≡ side_of b → link_number a ≡ link_number b
+    → is_link a (side_of b) (link_number b) ≡ true
+link_by a b side number = rw (← side, ← number, same_side-refl (side_of a)) (eqb_own (link_number a))
 
 -- ---- turns
 
@@ -116,19 +116,19 @@ some_same x y is = cc
 -- ---- what is in flight of a message that is under way
 
 -- a request is in flight of its source, and has not ended
-abbrev AsksFly : Plan → State → Type 0
+abbrev AsksFly : GroupPlan → State → Type 0
 AsksFly plan s =
     (link : Link) (begun : AskBegun)
-    → (s.links (side_of link) (number_of link)).asking ≡ Some begun
-    → (s.flights (side_of link) (wide_of plan link begun.first.source)).turn ≡ Asking (number_of link)
+    → (s.links (side_of link) (link_number link)).asking ≡ Some begun
+    → (s.flights (side_of link) (wide_of plan link begun.first.source)).turn ≡ Asking (link_number link)
 
 -- the request of a reply is in flight, and has ended
-abbrev RepliesFly : Plan → State → Type 0
+abbrev RepliesFly : GroupPlan → State → Type 0
 RepliesFly plan s =
     (link : Link) (begun : ReplyBegun)
-    → (s.links (side_of link) (number_of link)).replying ≡ Some begun
+    → (s.links (side_of link) (link_number link)).replying ≡ Some begun
     → (ask : Request)
-    × ((s.flights (side_of link) (wide_of plan link begun.first.source)).turn ≡ Asked (number_of link) ask)
+    × ((s.flights (side_of link) (wide_of plan link begun.first.source)).turn ≡ Asked (link_number link) ask)
 
 head_ask : (asking : Option AskBegun) (beat : AskHead) → Continues SameFields (first_ask asking) beat
     → (unwrap_or (first_ask asking) beat).source ≡ beat.source
@@ -147,27 +147,27 @@ abbrev pub reply_at : Link → ℕ → List ℕ → ReplyHead → Sighting
 reply_at link known lanes beat = seen_at link (D beat) known lanes
 
 -- what is in flight of another source stays
-pub other_stays : (plan : Plan) (s : State) (x : Sighting) (side : Side) (wide : ℕ) → is_of plan x side wide ≡ false
+pub other_stays : (plan : GroupPlan) (s : State) (x : Sighting) (side : LinkSide) (wide : ℕ) → is_of plan x side wide ≡ false
     → (state_after plan s x).flights side wide ≡ s.flights side wide
 other_stays plan s x side wide is =
     ap (λ (b : Bool). if b then flight_after plan.layout x.link (scene_of plan s x.link x.beat) x.beat x.lanes else s.flights side wide) is
 
-pub own_after : (plan : Plan) (s : State) (x : Sighting) (side : Side) (wide : ℕ) → is_of plan x side wide ≡ true
+pub own_after : (plan : GroupPlan) (s : State) (x : Sighting) (side : LinkSide) (wide : ℕ) → is_of plan x side wide ≡ true
     → (state_after plan s x).flights side wide ≡ flight_after plan.layout x.link (scene_of plan s x.link x.beat) x.beat x.lanes
 own_after plan s x side wide is =
     ap (λ (b : Bool). if b then flight_after plan.layout x.link (scene_of plan s x.link x.beat) x.beat x.lanes else s.flights side wide) is
 
-module _ (plan : Plan) (s : State) (asks : AsksFly plan s) (replies : RepliesFly plan s) (link : Link) (known : ℕ)
+module _ (plan : GroupPlan) (s : State) (asks : AsksFly plan s) (replies : RepliesFly plan s) (link : Link) (known : ℕ)
     (lanes : List ℕ) where
   -- a beat of a request finds nothing in flight of its source, or its own request
   open_before : (beat : AskHead) → IsAllowedAsk plan.layout link (scene_of plan s link (A beat)) beat known lanes
       → ((s.flights (side_of link) (wide_of plan link beat.source)).turn ≡ Idle)
-      ⊎ ((s.flights (side_of link) (wide_of plan link beat.source)).turn ≡ Asking (number_of link))
-  open_before beat allowed = go (s.links (side_of link) (number_of link)).asking refl
+      ⊎ ((s.flights (side_of link) (wide_of plan link beat.source)).turn ≡ Asking (link_number link))
+  open_before beat allowed = go (s.links (side_of link) (link_number link)).asking refl
     where
-      go : (begun : Option AskBegun) → (s.links (side_of link) (number_of link)).asking ≡ begun
+      go : (begun : Option AskBegun) → (s.links (side_of link) (link_number link)).asking ≡ begun
           → ((s.flights (side_of link) (wide_of plan link beat.source)).turn ≡ Idle)
-          ⊎ ((s.flights (side_of link) (wide_of plan link beat.source)).turn ≡ Asking (number_of link))
+          ⊎ ((s.flights (side_of link) (wide_of plan link beat.source)).turn ≡ Asking (link_number link))
       go None is = inl (allowed.free is)
       go (Some begun) is =
           let source : beat.source ≡ begun.first.source =
@@ -175,7 +175,7 @@ module _ (plan : Plan) (s : State) (asks : AsksFly plan s) (replies : RepliesFly
           inr (ap (λ n. (s.flights (side_of link) (wide_of plan link n)).turn) source ∙ asks link begun is)
 
   -- what is in flight of a source after a beat that is not of it
-  elsewhere : (x : Sighting) (side : Side) (wide : ℕ) (turn : Turn) → (s.flights side wide).turn ≡ turn
+  elsewhere : (x : Sighting) (side : LinkSide) (wide : ℕ) (turn : Turn) → (s.flights side wide).turn ≡ turn
       → (is_of plan x side wide ≡ true → ⊥) → ((state_after plan s x).flights side wide).turn ≡ turn
   elsewhere x side wide turn is none = go (is_of plan x side wide) refl
     where
@@ -184,32 +184,32 @@ module _ (plan : Plan) (s : State) (asks : AsksFly plan s) (replies : RepliesFly
       go false same = ap (λ (f : Flight). f.turn) (other_stays plan s x side wide same) ∙ is
 
   -- the turn that a beat finds of its own source
-  mine : (x : Sighting) (side : Side) (wide : ℕ) (turn : Turn) → is_of plan x side wide ≡ true
+  mine : (x : Sighting) (side : LinkSide) (wide : ℕ) (turn : Turn) → is_of plan x side wide ≡ true
       → (s.flights side wide).turn ≡ turn
       → (s.flights (side_of x.link) (wide_of plan x.link (source_of x.beat))).turn ≡ turn
   mine x side wide turn same is = let both = of_is plan x side wide same in rw (both.0, both.1) is
 
-  not_here : (at : Link) → side_of link ≡ side_of at → number_of link ≡ number_of at
-      → is_link link (side_of at) (number_of at) ≡ false → ⊥
+  not_here : (at : Link) → side_of link ≡ side_of at → link_number link ≡ link_number at
+      → is_link link (side_of at) (link_number at) ≡ false → ⊥
   not_here at side number other =
-      true_or_false (is_link link (side_of at) (number_of at)) (link_by link at side number) other
+      true_or_false (is_link link (side_of at) (link_number at)) (link_by link at side number) other
 
   -- ---- a beat of a request
 
   own_asks : (beat : AskHead) → IsAllowedAsk plan.layout link (scene_of plan s link (A beat)) beat known lanes
       → (begun : AskBegun)
-      → (under_after (s.links (side_of link) (number_of link)) (A beat) known lanes).asking ≡ Some begun
+      → (under_after (s.links (side_of link) (link_number link)) (A beat) known lanes).asking ≡ Some begun
       → ((state_after plan s (ask_at link known lanes beat)).flights (side_of link) (wide_of plan link begun.first.source)).turn
-      ≡ Asking (number_of link)
+      ≡ Asking (link_number link)
   own_asks beat allowed begun = go (ends_ask before.bus before.asking beat) refl
     where
       before : Under
-      before = s.links (side_of link) (number_of link)
+      before = s.links (side_of link) (link_number link)
 
       go : (ends : Bool) → ends_ask before.bus before.asking beat ≡ ends
           → (ask_after before.bus before.asking beat lanes) ≡ Some begun
           → ((state_after plan s (ask_at link known lanes beat)).flights (side_of link)
-          (wide_of plan link begun.first.source)).turn ≡ Asking (number_of link)
+          (wide_of plan link begun.first.source)).turn ≡ Asking (link_number link)
       go true e is =
           absurd (none_or_some begun (sym (ap (λ (b : Bool). if b then None else Some (record {
             first = unwrap_or (first_ask before.asking) beat;
@@ -233,27 +233,27 @@ module _ (plan : Plan) (s : State) (asks : AsksFly plan s) (replies : RepliesFly
           ∙ of_own plan (ask_at link known lanes beat) in
           ap (λ (f : Flight). f.turn) (own_after plan s (ask_at link known lanes beat) (side_of link)
           (wide_of plan link begun.first.source) own)
-          ∙ ap (λ (b : Bool). turn_by (number_of link)
+          ∙ ap (λ (b : Bool). turn_by (link_number link)
           (if b then Some (ask_of before.bus before.asking beat lanes) else None)) e
 
   ask_asks : (beat : AskHead) → IsAllowedAsk plan.layout link (scene_of plan s link (A beat)) beat known lanes
       → AsksFly plan (state_after plan s (ask_at link known lanes beat))
-  ask_asks beat allowed at begun = go (is_link link (side_of at) (number_of at)) refl
+  ask_asks beat allowed at begun = go (is_link link (side_of at) (link_number at)) refl
     where
-      go : (here : Bool) → is_link link (side_of at) (number_of at) ≡ here
-          → (if here then under_after (s.links (side_of link) (number_of link)) (A beat) known lanes
-          else s.links (side_of at) (number_of at)).asking ≡ Some begun
+      go : (here : Bool) → is_link link (side_of at) (link_number at) ≡ here
+          → (if here then under_after (s.links (side_of link) (link_number link)) (A beat) known lanes
+          else s.links (side_of at) (link_number at)).asking ≡ Some begun
           → ((state_after plan s (ask_at link known lanes beat)).flights (side_of at) (wide_of plan at begun.first.source)).turn
-          ≡ Asking (number_of at)
+          ≡ Asking (link_number at)
       go true here is =
           let P : Link → Type 0 =
           λ l. ((state_after plan s (ask_at link known lanes beat)).flights (side_of l) (wide_of plan l begun.first.source)).turn
-          ≡ Asking (number_of l) in
+          ≡ Asking (link_number l) in
           subst P (same_link link at here) (own_asks beat allowed begun is)
       go false here is =
-          elsewhere (ask_at link known lanes beat) (side_of at) (wide_of plan at begun.first.source) (Asking (number_of at)) was none
+          elsewhere (ask_at link known lanes beat) (side_of at) (wide_of plan at begun.first.source) (Asking (link_number at)) was none
         where
-          was : (s.flights (side_of at) (wide_of plan at begun.first.source)).turn ≡ Asking (number_of at)
+          was : (s.flights (side_of at) (wide_of plan at begun.first.source)).turn ≡ Asking (link_number at)
           was = asks at begun is
 
           none : is_of plan (ask_at link known lanes beat) (side_of at) (wide_of plan at begun.first.source) ≡ true → ⊥
@@ -262,52 +262,52 @@ module _ (plan : Plan) (s : State) (asks : AsksFly plan s) (replies : RepliesFly
               side : side_of link ≡ side_of at
               side = (of_is plan (ask_at link known lanes beat) (side_of at) (wide_of plan at begun.first.source) same).0
 
-              found : (s.flights (side_of link) (wide_of plan link beat.source)).turn ≡ Asking (number_of at)
+              found : (s.flights (side_of link) (wide_of plan link beat.source)).turn ≡ Asking (link_number at)
               found = mine (ask_at link known lanes beat) (side_of at) (wide_of plan at begun.first.source)
-                  (Asking (number_of at)) same was
+                  (Asking (link_number at)) same was
 
               either : ((s.flights (side_of link) (wide_of plan link beat.source)).turn ≡ Idle)
-                  ⊎ ((s.flights (side_of link) (wide_of plan link beat.source)).turn ≡ Asking (number_of link)) → ⊥
-              either (inl free) = idle_or_asking (number_of at) (sym free ∙ found)
+                  ⊎ ((s.flights (side_of link) (wide_of plan link beat.source)).turn ≡ Asking (link_number link)) → ⊥
+              either (inl free) = idle_or_asking (link_number at) (sym free ∙ found)
               either (inr own) = not_here at side (ap number_in (sym own ∙ found)) here
 
   ask_replies : (beat : AskHead) → IsAllowedAsk plan.layout link (scene_of plan s link (A beat)) beat known lanes
       → RepliesFly plan (state_after plan s (ask_at link known lanes beat))
-  ask_replies beat allowed at begun = go (is_link link (side_of at) (number_of at)) refl
+  ask_replies beat allowed at begun = go (is_link link (side_of at) (link_number at)) refl
     where
-      still : (s.links (side_of at) (number_of at)).replying ≡ Some begun → (ask : Request)
+      still : (s.links (side_of at) (link_number at)).replying ≡ Some begun → (ask : Request)
           × (((state_after plan s (ask_at link known lanes beat)).flights (side_of at) (wide_of plan at begun.first.source)).turn
-          ≡ Asked (number_of at) ask)
+          ≡ Asked (link_number at) ask)
       still is = (
         was.0,
         elsewhere (ask_at link known lanes beat) (side_of at) (wide_of plan at begun.first.source)
-            (Asked (number_of at) was.0) was.1 none,
+            (Asked (link_number at) was.0) was.1 none,
       )
         where
           was : (ask : Request)
-              × ((s.flights (side_of at) (wide_of plan at begun.first.source)).turn ≡ Asked (number_of at) ask)
+              × ((s.flights (side_of at) (wide_of plan at begun.first.source)).turn ≡ Asked (link_number at) ask)
           was = replies at begun is
 
           none : is_of plan (ask_at link known lanes beat) (side_of at) (wide_of plan at begun.first.source) ≡ true → ⊥
           none same = either (open_before beat allowed)
             where
-              found : (s.flights (side_of link) (wide_of plan link beat.source)).turn ≡ Asked (number_of at) was.0
+              found : (s.flights (side_of link) (wide_of plan link beat.source)).turn ≡ Asked (link_number at) was.0
               found = mine (ask_at link known lanes beat) (side_of at) (wide_of plan at begun.first.source)
-                  (Asked (number_of at) was.0) same was.1
+                  (Asked (link_number at) was.0) same was.1
 
               either : ((s.flights (side_of link) (wide_of plan link beat.source)).turn ≡ Idle)
-                  ⊎ ((s.flights (side_of link) (wide_of plan link beat.source)).turn ≡ Asking (number_of link)) → ⊥
-              either (inl free) = idle_or_asked (number_of at) was.0 (sym free ∙ found)
-              either (inr own) = asked_or_asking (number_of at) (number_of link) was.0 (sym found ∙ own)
+                  ⊎ ((s.flights (side_of link) (wide_of plan link beat.source)).turn ≡ Asking (link_number link)) → ⊥
+              either (inl free) = idle_or_asked (link_number at) was.0 (sym free ∙ found)
+              either (inr own) = asked_or_asking (link_number at) (link_number link) was.0 (sym found ∙ own)
 
-      go : (here : Bool) → is_link link (side_of at) (number_of at) ≡ here
-          → (if here then under_after (s.links (side_of link) (number_of link)) (A beat) known lanes
-          else s.links (side_of at) (number_of at)).replying ≡ Some begun
+      go : (here : Bool) → is_link link (side_of at) (link_number at) ≡ here
+          → (if here then under_after (s.links (side_of link) (link_number link)) (A beat) known lanes
+          else s.links (side_of at) (link_number at)).replying ≡ Some begun
           → (ask : Request)
           × (((state_after plan s (ask_at link known lanes beat)).flights (side_of at) (wide_of plan at begun.first.source)).turn
-          ≡ Asked (number_of at) ask)
+          ≡ Asked (link_number at) ask)
       go true here is =
-          still (ap (λ (l : Link). (s.links (side_of l) (number_of l)).replying) (sym (same_link link at here)) ∙ is)
+          still (ap (λ (l : Link). (s.links (side_of l) (link_number l)).replying) (sym (same_link link at here)) ∙ is)
       go false here is = still is
 
   -- ---- a beat of a reply
@@ -316,56 +316,56 @@ module _ (plan : Plan) (s : State) (asks : AsksFly plan s) (replies : RepliesFly
   answered : (beat : ReplyHead) → IsAllowedReply plan.layout link
       (scene_of plan s link (D beat)) beat known lanes
       → (ask : Request)
-      × ((s.flights (side_of link) (wide_of plan link beat.source)).turn ≡ Asked (number_of link) ask)
+      × ((s.flights (side_of link) (wide_of plan link beat.source)).turn ≡ Asked (link_number link) ask)
   answered beat allowed =
-      asked_at (number_of link) (s.flights (side_of link) (wide_of plan link beat.source)).turn _ allowed.answers
+      asked_at (link_number link) (s.flights (side_of link) (wide_of plan link beat.source)).turn _ allowed.answers
 
   reply_asks : (beat : ReplyHead) → IsAllowedReply plan.layout link
       (scene_of plan s link (D beat)) beat known lanes
       → AsksFly plan (state_after plan s (reply_at link known lanes beat))
-  reply_asks beat allowed at begun = go (is_link link (side_of at) (number_of at)) refl
+  reply_asks beat allowed at begun = go (is_link link (side_of at) (link_number at)) refl
     where
-      still : (s.links (side_of at) (number_of at)).asking ≡ Some begun
+      still : (s.links (side_of at) (link_number at)).asking ≡ Some begun
           → ((state_after plan s (reply_at link known lanes beat)).flights (side_of at) (wide_of plan at begun.first.source)).turn
-          ≡ Asking (number_of at)
+          ≡ Asking (link_number at)
       still is =
           let was = asks at begun is in
           let found = answered beat allowed in
-          elsewhere (reply_at link known lanes beat) (side_of at) (wide_of plan at begun.first.source) (Asking (number_of at)) was
-          (λ same. asked_or_asking (number_of link) (number_of at) found.0 (sym found.1
+          elsewhere (reply_at link known lanes beat) (side_of at) (wide_of plan at begun.first.source) (Asking (link_number at)) was
+          (λ same. asked_or_asking (link_number link) (link_number at) found.0 (sym found.1
           ∙ mine (reply_at link known lanes beat) (side_of at) (wide_of plan at begun.first.source)
-          (Asking (number_of at)) same was))
+          (Asking (link_number at)) same was))
 
-      go : (here : Bool) → is_link link (side_of at) (number_of at) ≡ here
-          → (if here then under_after (s.links (side_of link) (number_of link)) (D beat) known lanes
-          else s.links (side_of at) (number_of at)).asking ≡ Some begun
+      go : (here : Bool) → is_link link (side_of at) (link_number at) ≡ here
+          → (if here then under_after (s.links (side_of link) (link_number link)) (D beat) known lanes
+          else s.links (side_of at) (link_number at)).asking ≡ Some begun
           → ((state_after plan s (reply_at link known lanes beat)).flights (side_of at) (wide_of plan at begun.first.source)).turn
-          ≡ Asking (number_of at)
+          ≡ Asking (link_number at)
       go true here is =
-          still (ap (λ (l : Link). (s.links (side_of l) (number_of l)).asking) (sym (same_link link at here)) ∙ is)
+          still (ap (λ (l : Link). (s.links (side_of l) (link_number l)).asking) (sym (same_link link at here)) ∙ is)
       go false here is = still is
 
   own_replies : (beat : ReplyHead) → IsAllowedReply plan.layout link
       (scene_of plan s link (D beat)) beat known lanes
       → (begun : ReplyBegun)
-      → (under_after (s.links (side_of link) (number_of link)) (D beat) known lanes).replying ≡ Some begun
+      → (under_after (s.links (side_of link) (link_number link)) (D beat) known lanes).replying ≡ Some begun
       → (ask : Request)
       × (((state_after plan s (reply_at link known lanes beat)).flights (side_of link)
-      (wide_of plan link begun.first.source)).turn ≡ Asked (number_of link) ask)
+      (wide_of plan link begun.first.source)).turn ≡ Asked (link_number link) ask)
   own_replies beat allowed begun = go (ends_reply before.bus before.replying beat) refl
     where
       before : Under
-      before = s.links (side_of link) (number_of link)
+      before = s.links (side_of link) (link_number link)
 
       found : (ask : Request)
-          × ((s.flights (side_of link) (wide_of plan link beat.source)).turn ≡ Asked (number_of link) ask)
+          × ((s.flights (side_of link) (wide_of plan link beat.source)).turn ≡ Asked (link_number link) ask)
       found = answered beat allowed
 
       go : (ends : Bool) → ends_reply before.bus before.replying beat ≡ ends
           → (reply_after before.bus before.replying beat known lanes) ≡ Some begun
           → (ask : Request)
           × (((state_after plan s (reply_at link known lanes beat)).flights (side_of link)
-          (wide_of plan link begun.first.source)).turn ≡ Asked (number_of link) ask)
+          (wide_of plan link begun.first.source)).turn ≡ Asked (link_number link) ask)
       go true e is =
           absurd (none_or_some begun (sym (ap (λ (b : Bool). if b then None else Some (record {
             first = unwrap_or (first_reply before.replying) beat;
@@ -397,43 +397,43 @@ module _ (plan : Plan) (s : State) (asks : AsksFly plan s) (replies : RepliesFly
   reply_replies : (beat : ReplyHead) → IsAllowedReply plan.layout link
       (scene_of plan s link (D beat)) beat known lanes
       → RepliesFly plan (state_after plan s (reply_at link known lanes beat))
-  reply_replies beat allowed at begun = go (is_link link (side_of at) (number_of at)) refl
+  reply_replies beat allowed at begun = go (is_link link (side_of at) (link_number at)) refl
     where
       found : (ask : Request)
-          × ((s.flights (side_of link) (wide_of plan link beat.source)).turn ≡ Asked (number_of link) ask)
+          × ((s.flights (side_of link) (wide_of plan link beat.source)).turn ≡ Asked (link_number link) ask)
       found = answered beat allowed
 
-      go : (here : Bool) → is_link link (side_of at) (number_of at) ≡ here
-          → (if here then under_after (s.links (side_of link) (number_of link)) (D beat) known lanes
-          else s.links (side_of at) (number_of at)).replying ≡ Some begun
+      go : (here : Bool) → is_link link (side_of at) (link_number at) ≡ here
+          → (if here then under_after (s.links (side_of link) (link_number link)) (D beat) known lanes
+          else s.links (side_of at) (link_number at)).replying ≡ Some begun
           → (ask : Request)
           × (((state_after plan s (reply_at link known lanes beat)).flights (side_of at) (wide_of plan at begun.first.source)).turn
-          ≡ Asked (number_of at) ask)
+          ≡ Asked (link_number at) ask)
       go true here is =
           let P : Link → Type 0 =
           λ l. (ask : Request)
           × (((state_after plan s (reply_at link known lanes beat)).flights (side_of l) (wide_of plan l begun.first.source)).turn
-          ≡ Asked (number_of l) ask) in
+          ≡ Asked (link_number l) ask) in
           subst P (same_link link at here) (own_replies beat allowed begun is)
       go false here is = (
         was.0,
         elsewhere (reply_at link known lanes beat) (side_of at) (wide_of plan at begun.first.source)
-            (Asked (number_of at) was.0) was.1 none,
+            (Asked (link_number at) was.0) was.1 none,
       )
         where
           was : (ask : Request)
-              × ((s.flights (side_of at) (wide_of plan at begun.first.source)).turn ≡ Asked (number_of at) ask)
+              × ((s.flights (side_of at) (wide_of plan at begun.first.source)).turn ≡ Asked (link_number at) ask)
           was = replies at begun is
 
           none : is_of plan (reply_at link known lanes beat) (side_of at) (wide_of plan at begun.first.source) ≡ true → ⊥
           none same =
               let side = (of_is plan (reply_at link known lanes beat) (side_of at) (wide_of plan at begun.first.source) same).0 in
               let here_too = mine (reply_at link known lanes beat) (side_of at) (wide_of plan at begun.first.source)
-              (Asked (number_of at) was.0) same was.1 in
+              (Asked (link_number at) was.0) same was.1 in
               not_here at side (ap number_in (sym found.1 ∙ here_too)) here
 
 -- the messages under way are those of requests in flight
-pub under_way_flies : (plan : Plan) (past : List Sighting) → IsLawful plan past
+pub under_way_flies : (plan : GroupPlan) (past : List Sighting) → IsLawfulGroup plan past
     → AsksFly plan (state plan past) × RepliesFly plan (state plan past)
 under_way_flies plan [] lawful = ((λ link begun is. absurd (none_or_some begun is)), λ link begun is. absurd (none_or_some begun is))
 under_way_flies plan (x ∷ past) lawful = go (under_way_flies plan past lawful.0) x.beat lawful.1

@@ -9,7 +9,7 @@ use Rattle.check_beats.specs.State.{Under, nothing_under, ends_ask, ends_reply}
 use Rattle.check_beats.specs.declared.beat.AskHead.{AskHead}
 use Rattle.check_beats.specs.declared.beat.ReplyHead.{ReplyHead}
 use Rattle.check_flight.specs.declared.answer.Answer.{Answer}
-use Rattle.check_flight.specs.declared.place.Place.{Place}
+use Rattle.check_flight.specs.declared.place.FlightPlace.{FlightPlace}
 use Rattle.check_flight.specs.Crossing.{Crossing}
 use Rattle.check_flight.specs.Crossing.Crossing.{Waiting, Crossed, Given}
 use Rattle.check_flight.specs.Flight.{Turn, asked, Flight, idle, flight_due}
@@ -25,12 +25,12 @@ use Rattle.check_watch.specs.declared.fault.Fault.TheVariants as faults
 use Rattle.check_watch.specs.declared.fault.Reason.{Reason}
 use Rattle.check_watch.specs.declared.fault.Reason.TheVariants.{WrongReply}
 use Rattle.check_watch.specs.Faults.{IsFirstReplyReason, IsWrongReply, reason_of}
-use Rattle.check_watch.specs.Lawful.{IsLawful, SlaveMayNeedMemory, IsAllowedBeat, IsFirstReasonOf, IsFirstReason, IsFirstFault, TellsReplies}
-use Rattle.check_watch.specs.Past.{State, no_slave, slave_at, port_of, found_in, scene_of, state_after, state, scene}
-use Rattle.check_watch.specs.Plan.{Layout, Plan, Sighting, Side, HasLink, side_of, number_of, source_of, wide_of, same_side, is_link, is_of, seen_at}
-use Rattle.check_watch.specs.Plan.Side.{AtMasters, AtPorts}
+use Rattle.check_watch.specs.Lawful.{IsLawfulGroup, GroupMayNeedMemory, IsAllowedBeat, IsFirstReasonOf, IsFirstReason, IsFirstGroupFault, TellsReplies}
+use Rattle.check_watch.specs.Past.{State, no_slave, slave_at, port_of, scene_found, scene_of, state_after, state, scene_in_group}
+use Rattle.check_watch.specs.Plan.{GroupLayout, GroupPlan, Sighting, LinkSide, HasGroupLink, side_of, link_number, source_of, wide_of, same_side, is_link, is_of, seen_at}
+use Rattle.check_watch.specs.Plan.LinkSide.{AtMasters, AtPorts}
 use Rattle.check_watch.specs.Scene.{Scene, ask_by, under_after, accepted, once_answered, flight_after, crossing_after, given_by, captured, SlaveMayNeed}
-use Rattle.check_watch.specs.View.{View, IsSized, wides_in, Keeps, AreSame, IsPlace, state_in, side_in, own_side, crossing_at, under_in, flight_in, scene_in, slaves_accepting, slaves_answering, crossings_taken, crossings_asked, crossings_given, crossings_replied, accepted_in, answered_in, late_answer, asked_flight, with_side, with_ask, with_late, with_part, with_end, with_reply, MayNeedToAccept, MayNeedToAnswer}
+use Rattle.check_watch.specs.View.{GroupView, IsSized, wides_in, KeepsGroup, AreSame, IsPlace, state_in, side_in, own_side, crossing_at, under_in, flight_in, scene_in, slaves_accepting, slaves_answering, crossings_taken, crossings_asked, crossings_given, crossings_replied, accepted_in, answered_in, late_answer, asked_flight, with_side, with_ask, with_late, with_part, with_end, with_reply, MayNeedToAccept, MayNeedToAnswer}
 use Rattle.check_watch.proofs.Judging.{wide_is, no_ask_reason}
 use Rattle.check_watch.proofs.Replying.{no_reply_reason}
 
@@ -116,13 +116,13 @@ ended flights wide w answer within =
 
 -- ---- room
 
-pub record HasRoom (view : View) (link : Link) (wide port : ℕ) : Type 0 where
-  pub at_link : number_of link < length (own_side view link).links
+pub record HasRoom (view : GroupView) (link : Link) (wide port : ℕ) : Type 0 where
+  pub at_link : link_number link < length (own_side view link).links
   pub in_flight : wide < length (own_side view link).flights
   pub crossing : wide < length view.crossings
   pub slave : port < length view.slaves
 
-pub room_of : (view : View) (link : Link) (wide port : ℕ) → IsSized view → HasLink view.layout link
+pub room_of : (view : GroupView) (link : Link) (wide port : ℕ) → IsSized view → HasGroupLink view.layout link
     → wide < wides_in view → port < length view.slaves → HasRoom view link wide port
 room_of view (Master m) wide port sized has within slot = record {
   at_link = rw sized.masters has;
@@ -139,20 +139,20 @@ room_of view (Port p) wide port sized has within slot = record {
 
 -- ---- one side is written
 
-module _ (view : View) (link : Link) (wide port : ℕ) (room : HasRoom view link wide port) where
+module _ (view : GroupView) (link : Link) (wide port : ℕ) (room : HasRoom view link wide port) where
   -- what is under way at each link
-  links_put : (under : Under) (flights : List Flight) (side : Side) (k : ℕ)
+  links_put : (under : Under) (flights : List Flight) (side : LinkSide) (k : ℕ)
       → under_at (side_in (with_side view link (record {
-        links = slice_set (own_side view link).links (number_of link) under;
+        links = slice_set (own_side view link).links (link_number link) under;
         flights = flights;
       })) side).links k
       ≡ (if is_link link side k then under else under_at (side_in view side).links k)
   links_put = go link room.at_link
     where
-      go : (link : Link) → number_of link < length (own_side view link).links
-          → (under : Under) (flights : List Flight) (side : Side) (k : ℕ)
+      go : (link : Link) → link_number link < length (own_side view link).links
+          → (under : Under) (flights : List Flight) (side : LinkSide) (k : ℕ)
           → under_at (side_in (with_side view link (record {
-            links = slice_set (own_side view link).links (number_of link) under;
+            links = slice_set (own_side view link).links (link_number link) under;
             flights = flights;
           })) side).links k
           ≡ (if is_link link side k then under else under_at (side_in view side).links k)
@@ -164,14 +164,14 @@ module _ (view : View) (link : Link) (wide port : ℕ) (room : HasRoom view link
   -- what is in flight of each wide source, where these are what is in flight on the side of the link
   flights_put : (links : List Under) (flights : List Flight) (own : Flight)
       → ((w : ℕ) → flight_at flights w ≡ (if wide == w then own else flight_at (own_side view link).flights w))
-      → (side : Side) (w : ℕ)
+      → (side : LinkSide) (w : ℕ)
       → flight_at (side_in (with_side view link (record { links = links; flights = flights })) side).flights w
       ≡ (if (same_side (side_of link) side && (wide == w)) then own else flight_at (side_in view side).flights w)
   flights_put = go link
     where
       go : (link : Link) (links : List Under) (flights : List Flight) (own : Flight)
           → ((w : ℕ) → flight_at flights w ≡ (if wide == w then own else flight_at (own_side view link).flights w))
-          → (side : Side) (w : ℕ)
+          → (side : LinkSide) (w : ℕ)
           → flight_at (side_in (with_side view link (record { links = links; flights = flights })) side).flights w
           ≡ (if (same_side (side_of link) side && (wide == w)) then own else flight_at (side_in view side).flights w)
       go (Master m) links flights own is AtMasters w = is w
@@ -182,7 +182,7 @@ module _ (view : View) (link : Link) (wide port : ℕ) (room : HasRoom view link
 -- ---- a beat, at this wide source and port
 
 -- what a beat finds there
-abbrev found_at : View → Link → ℕ → ℕ → Scene
+abbrev found_at : GroupView → Link → ℕ → ℕ → Scene
 found_at view link wide port = record {
   under = under_in view link;
   wide = wide;
@@ -194,7 +194,7 @@ found_at view link wide port = record {
 }
 
 -- what it leaves
-abbrev after_at : Layout → View → Sighting → ℕ → ℕ → State
+abbrev after_at : GroupLayout → GroupView → Sighting → ℕ → ℕ → State
 after_at layout view x wide port =
     let here = once_answered layout x.link (found_at view x.link wide port) x.beat in
     record {
@@ -243,7 +243,7 @@ end_across (Port p) here beat known lanes crossings wide w within is ends =
 
 -- ---- a beat of a request
 
-module _ (view : View) (link : Link) (wide port : ℕ) (room : HasRoom view link wide port) (known : ℕ) (lanes : List ℕ)
+module _ (view : GroupView) (link : Link) (wide port : ℕ) (room : HasRoom view link wide port) (known : ℕ) (lanes : List ℕ)
   where
     after_ask : (beat : AskHead) → AreSame (state_in (with_ask view link wide port beat lanes))
         (after_at view.layout view (seen_at link (A beat) known lanes) wide port)
@@ -256,7 +256,7 @@ module _ (view : View) (link : Link) (wide port : ℕ) (room : HasRoom view link
           (accepted_in view link port (ask_by (under_in view link) beat lanes)) room.slave;
     }
       where
-        links : (side : Side) (k : ℕ) → under_at (side_in (with_ask view link wide port beat lanes) side).links k
+        links : (side : LinkSide) (k : ℕ) → under_at (side_in (with_ask view link wide port beat lanes) side).links k
             ≡ (if is_link link side k then ask_crossed (under_in view link) beat lanes
             else under_at (side_in view side).links k)
         links AtMasters k = links_put view link wide port room (ask_crossed (under_in view link) beat lanes)
@@ -273,7 +273,7 @@ module _ (view : View) (link : Link) (wide port : ℕ) (room : HasRoom view link
         put w = set_at idle (own_side view link).flights wide w
             (asked_flight view link port (ask_by (under_in view link) beat lanes)) room.in_flight
 
-        flights : (side : Side) (w : ℕ) → flight_at (side_in (with_ask view link wide port beat lanes) side).flights w
+        flights : (side : LinkSide) (w : ℕ) → flight_at (side_in (with_ask view link wide port beat lanes) side).flights w
             ≡ (if (same_side (side_of link) side && (wide == w))
             then asked_flight view link port (ask_by (under_in view link) beat lanes)
             else flight_at (side_in view side).flights w)
@@ -291,9 +291,9 @@ module _ (view : View) (link : Link) (wide port : ℕ) (room : HasRoom view link
     late_flights = flights_due (own_side view link).flights wide (late_answer view link wide port)
 
     -- a beat crosses there, and this is in flight from then on
-    abbrev put_reply : ReplyHead → List Flight → List Crossing → View
+    abbrev put_reply : ReplyHead → List Flight → List Crossing → GroupView
     put_reply beat flights crossings = record (with_side view link (record {
-      links = slice_set (own_side view link).links (number_of link)
+      links = slice_set (own_side view link).links (link_number link)
           (reply_crossed (under_in view link) beat known lanes);
       flights = flights;
     })) { crossings = crossings; slaves = slaves_answering view.slaves port wide (answered_in view link wide port) }
@@ -315,7 +315,7 @@ module _ (view : View) (link : Link) (wide port : ℕ) (room : HasRoom view link
       slaves = λ p. slaves_answer view.slaves port wide p (answered_in view link wide port) room.slave;
     }
       where
-        links_at : (side : Side) (k : ℕ) → under_at (side_in (put_reply beat flights crossings) side).links k
+        links_at : (side : LinkSide) (k : ℕ) → under_at (side_in (put_reply beat flights crossings) side).links k
             ≡ (if is_link link side k then reply_crossed (under_in view link) beat known lanes
             else under_at (side_in view side).links k)
         links_at AtMasters k = links_put view link wide port room (reply_crossed (under_in view link) beat known lanes)
@@ -323,7 +323,7 @@ module _ (view : View) (link : Link) (wide port : ℕ) (room : HasRoom view link
         links_at AtPorts k = links_put view link wide port room (reply_crossed (under_in view link) beat known lanes)
             flights AtPorts k
 
-        flights_at : (side : Side) (w : ℕ) → flight_at (side_in (put_reply beat flights crossings) side).flights w
+        flights_at : (side : LinkSide) (w : ℕ) → flight_at (side_in (put_reply beat flights crossings) side).flights w
             ≡ (if (same_side (side_of link) side && (wide == w))
             then (if ends_reply (under_in view link).bus (under_in view link).replying beat then idle else flight_late)
             else flight_at (side_in view side).flights w)
@@ -359,7 +359,7 @@ module _ (view : View) (link : Link) (wide port : ℕ) (room : HasRoom view link
         due_set (own_side view link).flights wide wide (late_answer view link wide port) room.in_flight
         ∙ if_here wide flight_late (flight_at (own_side view link).flights wide)
 
-part_is : (view : View) (link : Link) (wide port : ℕ) (room : HasRoom view link wide port) (known : ℕ)
+part_is : (view : GroupView) (link : Link) (wide port : ℕ) (room : HasRoom view link wide port) (known : ℕ)
     (lanes : List ℕ) (beat : ReplyHead)
     → with_part (with_late view link wide port) link beat known lanes
     ≡ put_reply view link wide port room known lanes beat (late_flights view link wide port room known lanes)
@@ -367,7 +367,7 @@ part_is : (view : View) (link : Link) (wide port : ℕ) (room : HasRoom view lin
 part_is view (Master m) wide port room known lanes beat = refl
 part_is view (Port p) wide port room known lanes beat = refl
 
-end_is : (view : View) (link : Link) (wide port : ℕ) (room : HasRoom view link wide port) (known : ℕ)
+end_is : (view : GroupView) (link : Link) (wide port : ℕ) (room : HasRoom view link wide port) (known : ℕ)
     (lanes : List ℕ) (beat : ReplyHead)
     → with_end (with_late view link wide port) link wide beat known lanes
     ≡ put_reply view link wide port room known lanes beat
@@ -379,13 +379,13 @@ end_is : (view : View) (link : Link) (wide port : ℕ) (room : HasRoom view link
 end_is view (Master m) wide port room known lanes beat = refl
 end_is view (Port p) wide port room known lanes beat = refl
 
-module _ (view : View) (link : Link) (wide port : ℕ) (room : HasRoom view link wide port) (known : ℕ) (lanes : List ℕ)
+module _ (view : GroupView) (link : Link) (wide port : ℕ) (room : HasRoom view link wide port) (known : ℕ) (lanes : List ℕ)
   where
     after_with_reply : (beat : ReplyHead) → AreSame (state_in (with_reply view link wide port beat known lanes))
         (after_at view.layout view (seen_at link (D beat) known lanes) wide port)
     after_with_reply beat = go (ends_reply (under_in view link).bus (under_in view link).replying beat) refl
       where
-        Same : View → Type 0
+        Same : GroupView → Type 0
         Same v = AreSame (state_in v) (after_at view.layout view (seen_at link (D beat) known lanes) wide port)
 
         go : (ends : Bool) → ends_reply (under_in view link).bus (under_in view link).replying beat ≡ ends
@@ -405,21 +405,21 @@ module _ (view : View) (link : Link) (wide port : ℕ) (room : HasRoom view link
 
 -- ---- states that say the same
 
-same_found : (plan : Plan) (a b : State) (link : Link) (beat : Beat) → AreSame a b
-    → found_in plan a link beat ≡ found_in plan b link beat
+same_found : (plan : GroupPlan) (a b : State) (link : Link) (beat : Beat) → AreSame a b
+    → scene_found plan a link beat ≡ scene_found plan b link beat
 same_found plan a b link beat same =
     let side = side_of link in
     let wide = wide_of plan link (source_of beat) in
     let port = port_of plan link (b.flights side wide).turn beat in
     rw (
-      same.links side (number_of link),
+      same.links side (link_number link),
       same.flights side wide,
       same.flights AtMasters wide,
       same.crossings wide,
       same.slaves port,
     ) refl
 
-same_scene : (plan : Plan) (a b : State) (link : Link) (beat : Beat) → AreSame a b
+same_scene : (plan : GroupPlan) (a b : State) (link : Link) (beat : Beat) → AreSame a b
     → scene_of plan a link beat ≡ scene_of plan b link beat
 same_scene plan a b link beat same =
     ap (λ (s : Scene). once_answered plan.layout link s beat) (same_found plan a b link beat same)
@@ -428,7 +428,7 @@ if_same : {X : Type 0} (c : Bool) (p q r s : X) → p ≡ q → r ≡ s → (if 
 if_same true p q r s first second = first
 if_same false p q r s first second = second
 
-same_after : (plan : Plan) (a b : State) (x : Sighting) → AreSame a b
+same_after : (plan : GroupPlan) (a b : State) (x : Sighting) → AreSame a b
     → AreSame (state_after plan a x) (state_after plan b x)
 same_after plan a b x same =
     let here = same_scene plan a b x.link x.beat same in
@@ -454,12 +454,12 @@ same_trans a b c first second = record {
 
 -- ---- the past, and one beat more
 
-pub layout_ask : (view : View) (link : Link) (wide port : ℕ) (beat : AskHead) (lanes : List ℕ)
+pub layout_ask : (view : GroupView) (link : Link) (wide port : ℕ) (beat : AskHead) (lanes : List ℕ)
     → (with_ask view link wide port beat lanes).layout ≡ view.layout
 layout_ask view (Master m) wide port beat lanes = refl
 layout_ask view (Port p) wide port beat lanes = refl
 
-pub layout_reply : (view : View) (link : Link) (wide port : ℕ) (beat : ReplyHead) (known : ℕ) (lanes : List ℕ)
+pub layout_reply : (view : GroupView) (link : Link) (wide port : ℕ) (beat : ReplyHead) (known : ℕ) (lanes : List ℕ)
     → (with_reply view link wide port beat known lanes).layout ≡ view.layout
 layout_reply view link wide port beat known lanes =
     go link (ends_reply (under_in view link).bus (under_in view link).replying beat)
@@ -472,22 +472,22 @@ layout_reply view link wide port beat known lanes =
     go (Port p) true = refl
     go (Port p) false = refl
 
-module _ (plan : Plan) (past : List Sighting) (view : View) (x : Sighting) (keeps : Keeps plan past view) where
+module _ (plan : GroupPlan) (past : List Sighting) (view : GroupView) (x : Sighting) (keeps : KeepsGroup plan past view) where
   -- what is said of the layout and of what a beat finds is said of the plan and of what it finds after the past
-  pub carried : (Q : Layout → Scene → Type 0) → Q view.layout (scene_in plan view x.link x.beat)
-      → Q plan.layout (scene plan past x)
+  pub carried : (Q : GroupLayout → Scene → Type 0) → Q view.layout (scene_in plan view x.link x.beat)
+      → Q plan.layout (scene_in_group plan past x)
   carried Q here =
       subst (λ (s : Scene). Q plan.layout s)
       (same_scene plan (state_in view) (state plan past) x.link x.beat keeps.state)
-      (subst (λ (l : Layout). Q l (scene_in plan view x.link x.beat)) keeps.suits.layout here)
+      (subst (λ (l : GroupLayout). Q l (scene_in plan view x.link x.beat)) keeps.suits.layout here)
 
   -- the same the other way
-  pub found : (Q : Layout → Scene → Type 0) → Q plan.layout (scene plan past x)
+  pub found : (Q : GroupLayout → Scene → Type 0) → Q plan.layout (scene_in_group plan past x)
       → Q view.layout (scene_in plan view x.link x.beat)
   found Q there = carried (λ l s. Q l s → Q view.layout (scene_in plan view x.link x.beat)) (λ q. q) there
 
-  keeps_next : (new : View) → new.layout ≡ view.layout → AreSame (state_in new) (state_after plan (state_in view) x)
-      → IsLawful plan (x ∷ past) → Keeps plan (x ∷ past) new
+  keeps_next : (new : GroupView) → new.layout ≡ view.layout → AreSame (state_in new) (state_after plan (state_in view) x)
+      → IsLawfulGroup plan (x ∷ past) → KeepsGroup plan (x ∷ past) new
   keeps_next new layout same lawful = record {
     suits = record { lawful = keeps.suits.lawful; layout = layout ∙ keeps.suits.layout };
     lawful = lawful;
@@ -495,83 +495,83 @@ module _ (plan : Plan) (past : List Sighting) (view : View) (x : Sighting) (keep
         (same_after plan (state_in view) (state plan past) x keeps.state);
   }
 
-module _ (plan : Plan) (past : List Sighting) (view new : View) (link : Link) (known : ℕ) (lanes : List ℕ)
-    (place : Place) (keeps : Keeps plan past view) (sized : IsSized view) (has : HasLink view.layout link) where
+module _ (plan : GroupPlan) (past : List Sighting) (view new : GroupView) (link : Link) (known : ℕ) (lanes : List ℕ)
+    (place : FlightPlace) (keeps : KeepsGroup plan past view) (sized : IsSized view) (has : HasGroupLink view.layout link) where
   pub ask_keeps : (beat : AskHead) → IsPlace view link (A beat) place
-      → IsLawful plan (seen_at link (A beat) known lanes ∷ past)
+      → IsLawfulGroup plan (seen_at link (A beat) known lanes ∷ past)
       → new ≡ with_ask view link place.wide place.port beat lanes
-      → Keeps plan (seen_at link (A beat) known lanes ∷ past) new
+      → KeepsGroup plan (seen_at link (A beat) known lanes ∷ past) new
   ask_keeps beat at lawful is =
       let x : Sighting = seen_at link (A beat) known lanes in
       let room = room_of view link place.wide place.port sized has at.in_limit at.in_ports in
       let made = with_ask view link place.wide place.port beat lanes in
-      let R : Layout → ℕ → ℕ → Type 0 = λ l w p. AreSame (state_in made) (after_at l view x w p) in
+      let R : GroupLayout → ℕ → ℕ → Type 0 = λ l w p. AreSame (state_in made) (after_at l view x w p) in
       let same : AreSame (state_in made) (state_after plan (state_in view) x) =
       subst (λ (w : ℕ). R plan.layout w (port_of plan link (flight_in view link w).turn (A beat)))
       (wide_is plan view link beat.source place.wide keeps.suits at.wide)
       (subst (λ (p : ℕ). R plan.layout place.wide p) (at.port plan keeps.suits)
-      (subst (λ (l : Layout). R l place.wide place.port) keeps.suits.layout
+      (subst (λ (l : GroupLayout). R l place.wide place.port) keeps.suits.layout
       (after_ask view link place.wide place.port room known lanes beat))) in
-      keeps_next plan past view x keeps new (ap (λ (v : View). v.layout) is ∙ layout_ask view link _ _ beat lanes)
-      (subst (λ (v : View). AreSame (state_in v) (state_after plan (state_in view) x)) (sym is) same) lawful
+      keeps_next plan past view x keeps new (ap (λ (v : GroupView). v.layout) is ∙ layout_ask view link _ _ beat lanes)
+      (subst (λ (v : GroupView). AreSame (state_in v) (state_after plan (state_in view) x)) (sym is) same) lawful
 
   pub reply_keeps : (beat : ReplyHead) → IsPlace view link (D beat) place
-      → IsLawful plan (seen_at link (D beat) known lanes ∷ past)
+      → IsLawfulGroup plan (seen_at link (D beat) known lanes ∷ past)
       → new ≡ with_reply view link place.wide place.port beat known lanes
-      → Keeps plan (seen_at link (D beat) known lanes ∷ past) new
+      → KeepsGroup plan (seen_at link (D beat) known lanes ∷ past) new
   reply_keeps beat at lawful is =
       let x : Sighting = seen_at link (D beat) known lanes in
       let room = room_of view link place.wide place.port sized has at.in_limit at.in_ports in
       let made = with_reply view link place.wide place.port beat known lanes in
-      let R : Layout → ℕ → ℕ → Type 0 = λ l w p. AreSame (state_in made) (after_at l view x w p) in
+      let R : GroupLayout → ℕ → ℕ → Type 0 = λ l w p. AreSame (state_in made) (after_at l view x w p) in
       let same : AreSame (state_in made) (state_after plan (state_in view) x) =
       subst (λ (w : ℕ). R plan.layout w (port_of plan link (flight_in view link w).turn (D beat)))
       (wide_is plan view link beat.source place.wide keeps.suits at.wide)
       (subst (λ (p : ℕ). R plan.layout place.wide p) (at.port plan keeps.suits)
-      (subst (λ (l : Layout). R l place.wide place.port) keeps.suits.layout
+      (subst (λ (l : GroupLayout). R l place.wide place.port) keeps.suits.layout
       (after_with_reply view link place.wide place.port room known lanes beat))) in
-      keeps_next plan past view x keeps new (ap (λ (v : View). v.layout) is ∙ layout_reply view link _ _ beat known lanes)
-      (subst (λ (v : View). AreSame (state_in v) (state_after plan (state_in view) x)) (sym is) same) lawful
+      keeps_next plan past view x keeps new (ap (λ (v : GroupView). v.layout) is ∙ layout_reply view link _ _ beat known lanes)
+      (subst (λ (v : GroupView). AreSame (state_in v) (state_after plan (state_in view) x)) (sym is) same) lawful
 
 -- ---- which requests a slave serves
 
-module _ (plan : Plan) (past : List Sighting) (view : View) (link : Link) (known : ℕ) (lanes : List ℕ)
-    (place : Place) (keeps : Keeps plan past view) where
+module _ (plan : GroupPlan) (past : List Sighting) (view : GroupView) (link : Link) (known : ℕ) (lanes : List ℕ)
+    (place : FlightPlace) (keeps : KeepsGroup plan past view) where
   -- what is said of what a beat finds at its place is said of what it finds after the past
-  found_after : (beat : Beat) → IsPlace view link beat place → (Q : Layout → Scene → Type 0)
+  found_after : (beat : Beat) → IsPlace view link beat place → (Q : GroupLayout → Scene → Type 0)
       → Q view.layout (found_at view link place.wide place.port)
-      → Q plan.layout (found_in plan (state plan past) link beat)
+      → Q plan.layout (scene_found plan (state plan past) link beat)
   found_after beat at Q here =
       subst (λ (s : Scene). Q plan.layout s)
       (same_found plan (state_in view) (state plan past) link beat keeps.state)
       (subst (λ (w : ℕ). Q plan.layout (found_at view link w (port_of plan link (flight_in view link w).turn beat)))
       (wide_is plan view link (source_of beat) place.wide keeps.suits at.wide)
       (subst (λ (p : ℕ). Q plan.layout (found_at view link place.wide p)) (at.port plan keeps.suits)
-      (subst (λ (l : Layout). Q l (found_at view link place.wide place.port)) keeps.suits.layout here)))
+      (subst (λ (l : GroupLayout). Q l (found_at view link place.wide place.port)) keeps.suits.layout here)))
 
   pub ask_needs : (beat : AskHead) → IsPlace view link (A beat) place
       → MayNeedToAccept view link place.port (ask_by (under_in view link) beat lanes)
-      → SlaveMayNeedMemory plan past (seen_at link (A beat) known lanes)
+      → GroupMayNeedMemory plan past (seen_at link (A beat) known lanes)
   ask_needs beat at needs = found_after (A beat) at (λ l s. SlaveMayNeed l link s (A beat) lanes) needs
 
   pub reply_needs : (beat : ReplyHead) → IsPlace view link (D beat) place
       → MayNeedToAnswer view link place.wide place.port
-      → SlaveMayNeedMemory plan past (seen_at link (D beat) known lanes)
+      → GroupMayNeedMemory plan past (seen_at link (D beat) known lanes)
   reply_needs beat at needs = found_after (D beat) at (λ l s. SlaveMayNeed l link s (D beat) lanes) needs
 
 -- ---- what a judge answers
 
 -- what is lawful has no reason not to be
-no_reason_of : (plan : Plan) (here : Scene) (y : Sighting) (beat : Beat) (reason : Reason)
+no_reason_of : (plan : GroupPlan) (here : Scene) (y : Sighting) (beat : Beat) (reason : Reason)
     → IsAllowedBeat plan here y beat → IsFirstReasonOf plan here y beat reason → ⊥
 no_reason_of plan here y (A beat) reason allowed first =
     no_ask_reason plan.layout y.link here beat y.known y.lanes allowed reason first.applies
 no_reason_of plan here y (D beat) reason allowed first =
     no_reply_reason plan.layout y.link here beat y.known y.lanes allowed reason first.applies
 
-pub no_reason : (plan : Plan) (past : List Sighting) (x : Sighting) (reason : Reason) → IsLawful plan (x ∷ past)
+pub no_reason : (plan : GroupPlan) (past : List Sighting) (x : Sighting) (reason : Reason) → IsLawfulGroup plan (x ∷ past)
     → IsFirstReason plan past x reason → ⊥
-no_reason plan past x reason lawful first = no_reason_of plan (scene plan past x) x x.beat reason lawful.1 first
+no_reason plan past x reason lawful first = no_reason_of plan (scene_in_group plan past x) x x.beat reason lawful.1 first
 
 -- what follows of an error, and of what is right
 pub if_err : {T E : Type 0} {P Q : E → Type 0} (r : Result T E) → ((e : E) → P e → Q e) → IfErr r P → IfErr r Q
@@ -599,34 +599,34 @@ wrong_reason here beat known lanes faults.UnknownData is = absurd is
 wrong_reason here beat known lanes faults.NotSent is = absurd is
 wrong_reason here beat known lanes faults.NotGiven is = absurd is
 
-module _ (plan : Plan) (past : List Sighting) (view : View) (link : Link) (known : ℕ) (lanes : List ℕ)
-    (keeps : Keeps plan past view) (fault : Fault) where
+module _ (plan : GroupPlan) (past : List Sighting) (view : GroupView) (link : Link) (known : ℕ) (lanes : List ℕ)
+    (keeps : KeepsGroup plan past view) (fault : Fault) where
   pub tells_wrong : (beat : ReplyHead)
       → (IsFirstReplyReason view.layout link (scene_in plan view link (D beat)) beat known lanes WrongReply
       → IsWrongReply (scene_in plan view link (D beat)) beat known lanes fault)
       → IsFirstReason plan past (seen_at link (D beat) known lanes) WrongReply
-      → IsFirstFault plan past (seen_at link (D beat) known lanes) fault
+      → IsFirstGroupFault plan past (seen_at link (D beat) known lanes) fault
   tells_wrong beat says first =
       let x : Sighting = seen_at link (D beat) known lanes in
       let wrong = carried plan past view x keeps (λ l s. IsWrongReply s beat known lanes fault)
       (says (found plan past view x keeps (λ l s. IsFirstReplyReason l link s beat known lanes WrongReply) first)) in
       record {
         reason = subst (λ (r : Reason). IsFirstReason plan past x r)
-            (sym (wrong_reason (scene plan past x) beat known lanes fault wrong)) first;
+            (sym (wrong_reason (scene_in_group plan past x) beat known lanes fault wrong)) first;
         replies = λ is. wrong;
       }
 
   -- a request has no wrong reply
   pub asks_tell : (beat : AskHead) → IsFirstReason plan past (seen_at link (A beat) known lanes) WrongReply
-      → IsFirstFault plan past (seen_at link (A beat) known lanes) fault
+      → IsFirstGroupFault plan past (seen_at link (A beat) known lanes) fault
   asks_tell beat first = absurd first.applies
 
   pub tells_other : (beat : Beat) (reason : Reason) → (reason ≡ WrongReply → ⊥) → reason_of fault ≡ reason
       → IsFirstReason plan past (seen_at link beat known lanes) reason
-      → IsFirstFault plan past (seen_at link beat known lanes) fault
+      → IsFirstGroupFault plan past (seen_at link beat known lanes) fault
   tells_other beat reason other is first = record {
     reason = subst (λ (r : Reason). IsFirstReason plan past (seen_at link beat known lanes) r) (sym is) first;
-    replies = none beat (scene plan past (seen_at link beat known lanes));
+    replies = none beat (scene_in_group plan past (seen_at link beat known lanes));
   }
     where
       none : (b : Beat) (here : Scene) → TellsReplies here (seen_at link beat known lanes) b fault

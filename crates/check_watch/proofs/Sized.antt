@@ -6,8 +6,8 @@ use Rattle.check_flight.specs.Crossing.{Crossing}
 use Rattle.check_flight.specs.Flight.{Flight}
 use Rattle.check_flight.specs.PortSlave.{PortSlave}
 use Rattle.check_flight.specs.Side.{SideView, side_under, side_with, under_at}
-use Rattle.check_watch.specs.Plan.{HasLink, Layout, bus_of, number_of}
-use Rattle.check_watch.specs.View.{View, IsSized, under_in, wides_in}
+use Rattle.check_watch.specs.Plan.{HasGroupLink, GroupLayout, bus_in_group, link_number}
+use Rattle.check_watch.specs.View.{GroupView, IsSized, under_in, wides_in}
 use Rattle.check_watch.specs.declared.beat.Link.{Link}
 use Rattle.check_watch.specs.declared.beat.Link.TheVariants.{Master, Port}
 
@@ -61,7 +61,7 @@ shape_tried (Ok v) new side number wide under flight is stays bus = shape_with n
 shape_tried (Err e) new side number wide under flight is stays bus = shape_own new side stays
 
 -- what is kept after a step of these shapes
-pub sized_by : (layout : Layout) (masters ports : SideView) (crossings : List Crossing) (slaves : List PortSlave)
+pub sized_by : (layout : GroupLayout) (masters ports : SideView) (crossings : List Crossing) (slaves : List PortSlave)
     (masters' ports' : SideView) (crossings' : List Crossing) (slaves' : List PortSlave)
     → IsSized (record {
       layout = layout;
@@ -91,37 +91,37 @@ sized_by layout masters ports crossings slaves masters' ports' crossings' slaves
 }
 
 -- the bus of what is kept of a link is the link's
-pub bus_in : (view : View) (link : Link) → IsSized view → (under_in view link).bus ≡ bus_of view.layout link
+pub bus_in : (view : GroupView) (link : Link) → IsSized view → (under_in view link).bus ≡ bus_in_group view.layout link
 bus_in view (Master m) sized = sized.master_buses m
 bus_in view (Port p) sized = sized.port_buses p
 
 -- what is within the parts of a judge, of which this is the view
-module _ (inside view : View) (is_view : inside ≡ view) where
+module _ (inside view : GroupView) (is_view : inside ≡ view) where
   pub slave_within : (port : ℕ) → port < length view.slaves → port < length inside.slaves
-  slave_within port within = subst (λ (v : View). port < length v.slaves) (sym is_view) within
+  slave_within port within = subst (λ (v : GroupView). port < length v.slaves) (sym is_view) within
 
   module _ (sized : IsSized inside) where
     pub wide_at_masters : (wide : ℕ) → wide < wides_in view → wide < length inside.masters.flights
     wide_at_masters wide within =
-        rw sized.at_masters (subst (λ (v : View). wide < wides_in v) (sym is_view) within)
+        rw sized.at_masters (subst (λ (v : GroupView). wide < wides_in v) (sym is_view) within)
 
     pub wide_at_ports : (wide : ℕ) → wide < wides_in view → wide < length inside.ports.flights
-    wide_at_ports wide within = rw sized.at_ports (subst (λ (v : View). wide < wides_in v) (sym is_view) within)
+    wide_at_ports wide within = rw sized.at_ports (subst (λ (v : GroupView). wide < wides_in v) (sym is_view) within)
 
-  module _ (link : Link) (number place : ℕ) (at : place ≡ number_of link) where
-    pub link_at_masters : IsSized inside → link ≡ Master number → HasLink view.layout link
+  module _ (link : Link) (number place : ℕ) (at : place ≡ link_number link) where
+    pub link_at_masters : IsSized inside → link ≡ Master number → HasGroupLink view.layout link
         → place < length inside.masters.links
     link_at_masters sized is known =
         let here : place ≡ number = rw is at at in
         let within : number < length view.layout.owners = rw is at known in
-        rw (here, sized.masters) (subst (λ (v : View). number < length v.layout.owners) (sym is_view) within)
+        rw (here, sized.masters) (subst (λ (v : GroupView). number < length v.layout.owners) (sym is_view) within)
 
-    pub link_at_ports : IsSized inside → link ≡ Port number → HasLink view.layout link
+    pub link_at_ports : IsSized inside → link ≡ Port number → HasGroupLink view.layout link
         → place < length inside.ports.links
     link_at_ports sized is known =
         let here : place ≡ number = rw is at at in
         let within : number < length view.layout.ports = rw is at known in
-        rw (here, sized.ports) (subst (λ (v : View). number < length v.layout.ports) (sym is_view) within)
+        rw (here, sized.ports) (subst (λ (v : GroupView). number < length v.layout.ports) (sym is_view) within)
 
     -- what is under way there
     pub under_at_masters : link ≡ Master number → under_in view link ≡ under_at inside.masters.links place

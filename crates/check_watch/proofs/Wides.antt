@@ -2,7 +2,7 @@
 use Rattle.std.proofs.Common.{◌≡◌, ◌<◌, ℕ, ◌+◌, ◌*◌, ◌↔◌, List, Option, Some, None, slice_get, sym, refl}
 use Rattle.std.specs.Prelude.{IfSome, IsSomeAnd}
 use Rattle.check_map.specs.declared.sources.Owner.{Owner}
-use Rattle.check_map.specs.Owner.{IsOwned, IsWide, Widens}
+use Rattle.check_map.specs.Owner.{IsOwned, IsWideSource, Widens}
 
 -- a wide source that somebody has is that of a port's link
 pub owned_wide : (owners : List Owner) (source : ℕ) → IsOwned owners source
@@ -21,7 +21,7 @@ wide_in (Some owner) source = owner.first + owner.stride * source
 abbrev pub wide_by : List Owner → ℕ → ℕ → ℕ
 wide_by owners master source = wide_in (slice_get owners master) source
 
-pub wide_by_is : (owners : List Owner) (master source wide : ℕ) → IsWide owners master source wide
+pub wide_by_is : (owners : List Owner) (master source wide : ℕ) → IsWideSource owners master source wide
     → wide_by owners master source ≡ wide
 wide_by_is owners master source wide is = go (slice_get owners master) is
   where

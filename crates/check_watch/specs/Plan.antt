@@ -2,8 +2,8 @@
 -- which addresses, and which bus each link has. It is this project's own.
 use Rattle.std.specs.Prelude.{◌≡◌, ℕ, ◌<◌, Bool, true, false, ◌&&◌, ◌==◌, nat_lt, List, length}
 use Rattle.tl_map.specs.declared.map.Range.{Range}
-use Rattle.check_map.specs.Owner.{IsOwned, IsWide}
-use Rattle.check_map.specs.Ranges.{RoutesBytes}
+use Rattle.check_map.specs.Owner.{IsOwned, IsWideSource}
+use Rattle.check_map.specs.Ranges.{RoutesBytesByRanges}
 use Rattle.check_map.specs.Sources.{AreLawfulOwners}
 use Rattle.check_map.specs.declared.sources.Owner.{Owner}
 use Rattle.check_beats.specs.declared.bus.Bus.{Bus}
@@ -13,13 +13,13 @@ use Rattle.check_watch.specs.declared.beat.Beat.{Beat}
 use Rattle.check_watch.specs.declared.beat.Beat.TheVariants.{A, D}
 use Rattle.check_watch.specs.declared.beat.Link.{Link}
 use Rattle.check_watch.specs.declared.beat.Link.TheVariants.{Master, Port}
-use Rattle.check_watch.specs.declared.links.Links.{Links}
-use Rattle.check_watch.specs.declared.links.Links.TheVariants.{Both, Masters, Ports}
+use Rattle.check_watch.specs.declared.links.GroupLinks.{GroupLinks}
+use Rattle.check_watch.specs.declared.links.GroupLinks.TheVariants.{Both, Masters, Ports}
 
 -- the links that are watched, the sources of each master, the ranges of each port, and the buses of the masters' links
 -- and of the ports' links
-pub record Layout : Type 0 where
-  pub links : Links
+pub record GroupLayout : Type 0 where
+  pub links : GroupLinks
   pub owners : List Owner
   pub ports : List (List Range)
   pub master_buses : List Bus
@@ -27,17 +27,17 @@ pub record Layout : Type 0 where
 
 -- the slave of each port at reset, the error port's last; and as functions the wide source of a master's source, and the
 -- port of the 2 ^ size bytes from an address on
-pub record Plan : Type 0 where
-  pub layout : Layout
+pub record GroupPlan : Type 0 where
+  pub layout : GroupLayout
   pub resets : List PortSlave
   pub wide : ℕ → ℕ → ℕ
   pub route : ℕ → ℕ → ℕ
 
 -- no two masters have a wide source in common, and the functions are those of the layout
-pub record IsPlan (plan : Plan) : Type 0 where
+pub record IsGroupPlan (plan : GroupPlan) : Type 0 where
   pub owners : AreLawfulOwners plan.layout.owners
-  pub wide : (master source wide : ℕ) → IsWide plan.layout.owners master source wide → plan.wide master source ≡ wide
-  pub route : (address size : ℕ) → RoutesBytes plan.layout.ports address size (plan.route address size)
+  pub wide : (master source wide : ℕ) → IsWideSource plan.layout.owners master source wide → plan.wide master source ≡ wide
+  pub route : (address size : ℕ) → RoutesBytesByRanges plan.layout.ports address size (plan.route address size)
 
 -- ---- beats that were seen
 
@@ -53,40 +53,40 @@ seen_at link beat known lanes = record { link = link; beat = beat; known = known
 
 -- ---- sides and links
 
-pub data Side : Type 0 where
-  AtMasters : Side
-  AtPorts : Side
+pub data LinkSide : Type 0 where
+  AtMasters : LinkSide
+  AtPorts : LinkSide
 
-abbrev pub side_of : Link → Side
+abbrev pub side_of : Link → LinkSide
 side_of (Master m) = AtMasters
 side_of (Port p) = AtPorts
 
-abbrev pub number_of : Link → ℕ
-number_of (Master m) = m
-number_of (Port p) = p
+abbrev pub link_number : Link → ℕ
+link_number (Master m) = m
+link_number (Port p) = p
 
-abbrev pub same_side : Side → Side → Bool
+abbrev pub same_side : LinkSide → LinkSide → Bool
 same_side AtMasters AtMasters = true
 same_side AtMasters AtPorts = false
 same_side AtPorts AtMasters = false
 same_side AtPorts AtPorts = true
 
 -- the link is this one
-abbrev pub is_link : Link → Side → ℕ → Bool
-is_link link side number = same_side (side_of link) side && (number_of link == number)
+abbrev pub is_link : Link → LinkSide → ℕ → Bool
+is_link link side number = same_side (side_of link) side && (link_number link == number)
 
 -- the system has the link
-abbrev pub HasLink : Layout → Link → Type 0
-HasLink layout (Master m) = m < length layout.owners
-HasLink layout (Port p) = p < length layout.ports
+abbrev pub HasGroupLink : GroupLayout → Link → Type 0
+HasGroupLink layout (Master m) = m < length layout.owners
+HasGroupLink layout (Port p) = p < length layout.ports
 
-abbrev pub buses_of : Layout → Side → List Bus
+abbrev pub buses_of : GroupLayout → LinkSide → List Bus
 buses_of layout AtMasters = layout.master_buses
 buses_of layout AtPorts = layout.port_buses
 
 -- how many bytes the bus of a link has
-abbrev pub bus_of : Layout → Link → ℕ
-bus_of layout link = bus_at (buses_of layout (side_of link)) (number_of link)
+abbrev pub bus_in_group : GroupLayout → Link → ℕ
+bus_in_group layout link = bus_at (buses_of layout (side_of link)) (link_number link)
 
 -- ---- sources
 
@@ -95,38 +95,38 @@ source_of (A beat) = beat.source
 source_of (D beat) = beat.source
 
 -- the wide source of a source at a link
-abbrev pub wide_of : Plan → Link → ℕ → ℕ
+abbrev pub wide_of : GroupPlan → Link → ℕ → ℕ
 wide_of plan (Master m) source = plan.wide m source
 wide_of plan (Port p) source = source
 
 -- the same, if the link has the source: a master's link has those of the master, a port's link those of all masters
-abbrev pub IsWideAt : Layout → Link → ℕ → ℕ → Type 0
-IsWideAt layout (Master m) source wide = IsWide layout.owners m source wide
+abbrev pub IsWideAt : GroupLayout → Link → ℕ → ℕ → Type 0
+IsWideAt layout (Master m) source wide = IsWideSource layout.owners m source wide
 IsWideAt layout (Port p) source wide = (wide ≡ source) × IsOwned layout.owners source
 
-abbrev pub HasSource : Layout → Link → ℕ → Type 0
+abbrev pub HasSource : GroupLayout → Link → ℕ → Type 0
 HasSource layout link source = (wide : ℕ) × IsWideAt layout link source wide
 
 -- the beat is one of this wide source on this side
-abbrev pub is_of : Plan → Sighting → Side → ℕ → Bool
+abbrev pub is_of : GroupPlan → Sighting → LinkSide → ℕ → Bool
 is_of plan x side wide = same_side (side_of x.link) side && (wide_of plan x.link (source_of x.beat) == wide)
 
 -- ---- ports
 
 -- both sides are watched
-abbrev pub are_both : Links → Bool
+abbrev pub are_both : GroupLinks → Bool
 are_both Both = true
 are_both Masters = false
 are_both Ports = false
 
 -- requests to this port are seen on both sides: the error port is inside the crossbar, and has no link of its own
-abbrev pub crosses : Layout → ℕ → Bool
-crosses layout port = are_both layout.links && nat_lt port (length layout.ports)
+abbrev pub crosses_at_port : GroupLayout → ℕ → Bool
+crosses_at_port layout port = are_both layout.links && nat_lt port (length layout.ports)
 
 -- the link is one that is watched
-abbrev pub IsWatched : Links → Link → Type 0
-IsWatched Both link = Unit {0}
-IsWatched Masters (Master m) = Unit {0}
-IsWatched Masters (Port p) = ⊥
-IsWatched Ports (Master m) = ⊥
-IsWatched Ports (Port p) = Unit {0}
+abbrev pub IsGroupLink : GroupLinks → Link → Type 0
+IsGroupLink Both link = Unit {0}
+IsGroupLink Masters (Master m) = Unit {0}
+IsGroupLink Masters (Port p) = ⊥
+IsGroupLink Ports (Master m) = ⊥
+IsGroupLink Ports (Port p) = Unit {0}

@@ -9,7 +9,7 @@ use Rattle.check_beats.specs.declared.beat.AskHead.{AskHead}
 use Rattle.check_beats.specs.declared.beat.ReplyHead.{ReplyHead}
 use Rattle.check_beats.specs.declared.bus.Bus.{Bus}
 use Rattle.check_flight.specs.declared.answer.Answer.{Answer}
-use Rattle.check_flight.specs.declared.place.Place.{Place}
+use Rattle.check_flight.specs.declared.place.FlightPlace.{FlightPlace}
 use Rattle.check_flight.specs.Crossing.{Crossing}
 use Rattle.check_flight.specs.Crossing.Crossing.{Waiting, Crossed, Given}
 use Rattle.check_flight.specs.Flight.{Flight, idle, due_by}
@@ -19,21 +19,21 @@ use Rattle.check_watch.specs.declared.beat.Beat.{Beat}
 use Rattle.check_watch.specs.declared.beat.Beat.TheVariants.{A, D}
 use Rattle.check_watch.specs.declared.beat.Link.{Link}
 use Rattle.check_watch.specs.declared.beat.Link.TheVariants.{Master, Port}
-use Rattle.check_watch.specs.Plan.{Layout, Plan, IsPlan, Sighting, IsWideAt, Side, side_of, number_of, source_of}
-use Rattle.check_watch.specs.Plan.Side.{AtMasters, AtPorts}
+use Rattle.check_watch.specs.Plan.{GroupLayout, GroupPlan, IsGroupPlan, Sighting, IsWideAt, LinkSide, side_of, link_number, source_of}
+use Rattle.check_watch.specs.Plan.LinkSide.{AtMasters, AtPorts}
 use Rattle.check_watch.specs.Scene.{Scene, ask_if, takes_effect, begins_reply, answered, ask_by, turn_by, captured}
 use Rattle.check_watch.specs.Past.{State, slave_at, port_of, scene_of, state}
-use Rattle.check_watch.specs.Lawful.{IsLawful}
+use Rattle.check_watch.specs.Lawful.{IsLawfulGroup}
 
-pub record View : Type 0 where
-  pub layout : Layout
+pub record GroupView : Type 0 where
+  pub layout : GroupLayout
   pub masters : SideView
   pub ports : SideView
   pub crossings : List Crossing
   pub slaves : List PortSlave
 
 -- how many wide sources are kept
-abbrev pub wides_in : View → ℕ
+abbrev pub wides_in : GroupView → ℕ
 wides_in view = length view.crossings
 
 -- each link has its bus
@@ -42,7 +42,7 @@ HaveBuses links buses = (number : ℕ) → (under_at links number).bus ≡ bus_a
 
 -- a link for each master and each port, each with its bus, a slave for each port and the error port, and room for each
 -- wide source that somebody has
-pub record IsSized (view : View) : Type 0 where
+pub record IsSized (view : GroupView) : Type 0 where
   pub masters : length view.masters.links ≡ length view.layout.owners
   pub ports : length view.ports.links ≡ length view.layout.ports
   pub master_buses : HaveBuses view.masters.links view.layout.master_buses
@@ -57,22 +57,22 @@ pub record IsSized (view : View) : Type 0 where
 abbrev pub crossing_at : List Crossing → ℕ → Crossing
 crossing_at crossings wide = unwrap_or (slice_get crossings wide) Waiting
 
-abbrev pub side_in : View → Side → SideView
+abbrev pub side_in : GroupView → LinkSide → SideView
 side_in view AtMasters = view.masters
 side_in view AtPorts = view.ports
 
 -- the side of a link
-abbrev pub own_side : View → Link → SideView
+abbrev pub own_side : GroupView → Link → SideView
 own_side view link = side_in view (side_of link)
 
-abbrev pub under_in : View → Link → Under
-under_in view link = under_at (own_side view link).links (number_of link)
+abbrev pub under_in : GroupView → Link → Under
+under_in view link = under_at (own_side view link).links (link_number link)
 
-abbrev pub flight_in : View → Link → ℕ → Flight
+abbrev pub flight_in : GroupView → Link → ℕ → Flight
 flight_in view link wide = flight_at (own_side view link).flights wide
 
 -- the state that this is
-abbrev pub state_in : View → State
+abbrev pub state_in : GroupView → State
 state_in view = record {
   links = λ side number. under_at (side_in view side).links number;
   flights = λ side wide. flight_at (side_in view side).flights wide;
@@ -81,54 +81,54 @@ state_in view = record {
 }
 
 -- what a beat finds at its link
-abbrev pub scene_in : Plan → View → Link → Beat → Scene
+abbrev pub scene_in : GroupPlan → GroupView → Link → Beat → Scene
 scene_in plan view link beat = scene_of plan (state_in view) link beat
 
 -- the slave of a port answers as the next beat of channel D crosses at a link
-abbrev pub is_answering_in : View → Link → ℕ → Bool
+abbrev pub is_answering_in : GroupView → Link → ℕ → Bool
 is_answering_in view link port =
     takes_effect view.layout link port && begins_reply (under_in view link).replying
 
 -- the request in flight of a wide source that it answers then
-abbrev pub answered_in : View → Link → ℕ → ℕ → Option Request
+abbrev pub answered_in : GroupView → Link → ℕ → ℕ → Option Request
 answered_in view link wide port =
     answered view.layout link port (under_in view link).replying (flight_in view link wide).turn
 
 -- what its reply has to fit, if that is known then, and not before
-abbrev pub late_answer : View → Link → ℕ → ℕ → Option Answer
+abbrev pub late_answer : GroupView → Link → ℕ → ℕ → Option Answer
 late_answer view link wide port =
     due_answering port (slave_at view.slaves port) wide (answered_in view link wide port)
 
 -- the reply that the port's slave expects
-abbrev pub due_in : View → Link → ℕ → ℕ → Option Answer
+abbrev pub due_in : GroupView → Link → ℕ → ℕ → Option Answer
 due_in view link wide port = due_by (flight_in view link wide).due (late_answer view link wide port)
 
 -- the port's slave may need memory to answer it
-abbrev pub MayNeedToAnswer : View → Link → ℕ → ℕ → Type 0
+abbrev pub MayNeedToAnswer : GroupView → Link → ℕ → ℕ → Type 0
 MayNeedToAnswer view link wide port =
     IsSomeAnd (answered_in view link wide port) (λ ask. IsTrue (may_need_to_answer (slave_at view.slaves port) ask))
 
 -- the reply that a beat ends to what is in flight of a wide source, as it was captured
-abbrev pub captured_in : View → Link → ℕ → ReplyHead → ℕ → List ℕ → Pattern
+abbrev pub captured_in : GroupView → Link → ℕ → ReplyHead → ℕ → List ℕ → Pattern
 captured_in view link wide beat known lanes =
     captured (under_in view link) (flight_in view link wide).turn beat known lanes
 
 -- two states say the same of each place
 pub record AreSame (a b : State) : Type 0 where
-  pub links : (side : Side) (number : ℕ) → a.links side number ≡ b.links side number
-  pub flights : (side : Side) (wide : ℕ) → a.flights side wide ≡ b.flights side wide
+  pub links : (side : LinkSide) (number : ℕ) → a.links side number ≡ b.links side number
+  pub flights : (side : LinkSide) (wide : ℕ) → a.flights side wide ≡ b.flights side wide
   pub crossings : (wide : ℕ) → a.crossings wide ≡ b.crossings wide
   pub slaves : (port : ℕ) → a.slaves port ≡ b.slaves port
 
 -- the judge is one for this plan
-pub record Suits (plan : Plan) (view : View) : Type 0 where
-  pub lawful : IsPlan plan
+pub record SuitsGroup (plan : GroupPlan) (view : GroupView) : Type 0 where
+  pub lawful : IsGroupPlan plan
   pub layout : view.layout ≡ plan.layout
 
 -- the past is lawful, and this is kept of it
-pub record Keeps (plan : Plan) (past : List Sighting) (view : View) : Type 0 where
-  pub suits : Suits plan view
-  pub lawful : IsLawful plan past
+pub record KeepsGroup (plan : GroupPlan) (past : List Sighting) (view : GroupView) : Type 0 where
+  pub suits : SuitsGroup plan view
+  pub lawful : IsLawfulGroup plan past
   pub state : AreSame (state_in view) (state plan past)
 
 -- ---- the place of a beat
@@ -139,18 +139,18 @@ FitsBeat under (A beat) = FitsAsk under.bus (first_ask under.asking) beat
 FitsBeat under (D beat) = FitsReply (first_reply under.replying) beat
 
 -- the number of a beat's link, its wide source, and the port of its request; and the beat is one of its message
-pub record IsPlace (view : View) (link : Link) (beat : Beat) (place : Place) : Type 0 where
-  pub at : place.link ≡ number_of link
+pub record IsPlace (view : GroupView) (link : Link) (beat : Beat) (place : FlightPlace) : Type 0 where
+  pub at : place.link ≡ link_number link
   pub wide : IsWideAt view.layout link (source_of beat) place.wide
   pub in_limit : place.wide < wides_in view
-  pub port : (plan : Plan) → Suits plan view → place.port ≡ port_of plan link (flight_in view link place.wide).turn beat
+  pub port : (plan : GroupPlan) → SuitsGroup plan view → place.port ≡ port_of plan link (flight_in view link place.wide).turn beat
   pub in_ports : place.port < length view.slaves
   pub fits : FitsBeat (under_in view link) beat
 
 -- ---- steps
 
 -- this is the side of a link from then on
-abbrev pub with_side : View → Link → SideView → View
+abbrev pub with_side : GroupView → Link → SideView → GroupView
 with_side view (Master m) side = record view { masters = side }
 with_side view (Port p) side = record view { ports = side }
 
@@ -187,29 +187,29 @@ crossings_replied crossings (Master m) wide due reply = crossings
 crossings_replied crossings (Port p) wide due reply = crossings_given crossings wide due reply
 
 -- of a request that ends at a link, the one that its port's slave accepts: it, or none
-abbrev pub accepted_in : View → Link → ℕ → Option Request → Option Request
+abbrev pub accepted_in : GroupView → Link → ℕ → Option Request → Option Request
 accepted_in view link port ask = ask_if (takes_effect view.layout link port) ask
 
 -- the slave may need memory to accept it
-abbrev pub MayNeedToAccept : View → Link → ℕ → Option Request → Type 0
+abbrev pub MayNeedToAccept : GroupView → Link → ℕ → Option Request → Type 0
 MayNeedToAccept view link port ask =
     IsSomeAnd (accepted_in view link port ask) (λ ask. IsTrue (may_need_to_accept (slave_at view.slaves port) ask))
 
-abbrev pub asked_flight : View → Link → ℕ → Option Request → Flight
+abbrev pub asked_flight : GroupView → Link → ℕ → Option Request → Flight
 asked_flight view link port ask = record {
-  turn = turn_by (number_of link) ask;
+  turn = turn_by (link_number link) ask;
   due = due_accepting port (slave_at view.slaves port) (accepted_in view link port ask);
 }
 
 -- this is under way at a link, and this is in flight there, from then on, and the port's slave accepts this request
-abbrev pub with_message : View → Link → ℕ → ℕ → Under → Flight → Option Request → View
+abbrev pub with_message : GroupView → Link → ℕ → ℕ → Under → Flight → Option Request → GroupView
 with_message view link wide port under flight ask =
-    record (with_side view link (side_with (own_side view link) (number_of link) under wide flight)) {
+    record (with_side view link (side_with (own_side view link) (link_number link) under wide flight)) {
       slaves = slaves_accepting view.slaves port wide ask;
     }
 
 -- a beat of a request crosses
-abbrev pub with_ask : View → Link → ℕ → ℕ → AskHead → List ℕ → View
+abbrev pub with_ask : GroupView → Link → ℕ → ℕ → AskHead → List ℕ → GroupView
 with_ask view link wide port beat lanes =
     let under = under_in view link in
     let ask = ask_by under beat lanes in
@@ -219,29 +219,29 @@ with_ask view link wide port beat lanes =
     }
 
 -- the port's slave answers the request in flight, if its reply begins
-abbrev pub with_late : View → Link → ℕ → ℕ → View
+abbrev pub with_late : GroupView → Link → ℕ → ℕ → GroupView
 with_late view link wide port =
     record (with_side view link (side_due (own_side view link) wide (late_answer view link wide port))) {
       slaves = slaves_answering view.slaves port wide (answered_in view link wide port);
     }
 
 -- a beat of a reply crosses that does not end it
-abbrev pub with_part : View → Link → ReplyHead → ℕ → List ℕ → View
+abbrev pub with_part : GroupView → Link → ReplyHead → ℕ → List ℕ → GroupView
 with_part view link beat known lanes =
     with_side view link
-    (side_under (own_side view link) (number_of link) (reply_crossed (under_in view link) beat known lanes))
+    (side_under (own_side view link) (link_number link) (reply_crossed (under_in view link) beat known lanes))
 
 -- a beat of a reply crosses that ends it
-abbrev pub with_end : View → Link → ℕ → ReplyHead → ℕ → List ℕ → View
+abbrev pub with_end : GroupView → Link → ℕ → ReplyHead → ℕ → List ℕ → GroupView
 with_end view link wide beat known lanes =
-    record (with_side view link (side_with (own_side view link) (number_of link)
+    record (with_side view link (side_with (own_side view link) (link_number link)
     (reply_crossed (under_in view link) beat known lanes) wide idle)) {
       crossings = crossings_replied view.crossings link wide (flight_in view link wide).due
           (captured_in view link wide beat known lanes);
     }
 
 -- a beat of a reply crosses
-abbrev pub with_reply : View → Link → ℕ → ℕ → ReplyHead → ℕ → List ℕ → View
+abbrev pub with_reply : GroupView → Link → ℕ → ℕ → ReplyHead → ℕ → List ℕ → GroupView
 with_reply view link wide port beat known lanes =
     let served = with_late view link wide port in
     if ends_reply (under_in view link).bus (under_in view link).replying beat

@@ -9,19 +9,19 @@ ghost use Rattle.check_flight.specs.Side.{flight_at};
 ghost use Rattle.check_watch.specs.declared.beat.Beat.TheVariants.{A};
 ghost use Rattle.check_watch.specs.Allowed.{is_second, IsAskedAs, IsSent, IsPlaced, IsAllowedAsk};
 ghost use Rattle.check_watch.specs.Faults.{IsFirstAskReason};
-ghost use Rattle.check_watch.specs.Plan.{Plan, HasLink, number_of};
-ghost use Rattle.check_watch.specs.View.{IsPlace, Suits, wides_in, under_in, flight_in, crossing_at, scene_in};
+ghost use Rattle.check_watch.specs.Plan.{GroupPlan, HasGroupLink, link_number};
+ghost use Rattle.check_watch.specs.View.{IsPlace, SuitsGroup, wides_in, under_in, flight_in, crossing_at, scene_in};
 
 use crate::beat::Link;
 use crate::fault::Reason;
-use crate::watch::Watch;
+use crate::watch::GroupWatch;
 use check_beats::{AskHead, UnderWay};
-use check_flight::{Flight, Place};
+use check_flight::{Flight, FlightPlace};
 use tl_types::Ask;
 
 /// The number of a link on its side.
-pub fn number_of(link: Link) -> usize
-    ensures { result ≡ number_of link }
+pub fn link_number(link: Link) -> usize
+    ensures { result ≡ link_number link }
 {
     match link {
         Link::Master(number) | Link::Port(number) => number,
@@ -49,7 +49,7 @@ fn is_asked_as(flight: &Flight, ask: &Ask) -> bool
 }
 
 /// Whether a master has sent a request that crosses to a port, and it has not crossed before.
-fn is_sent(watch: &Watch, wide: usize, ask: &Ask) -> bool
+fn is_sent(watch: &GroupWatch, wide: usize, ask: &Ask) -> bool
     requires { wide < wides_in watch.now }
     ensures { IsTrue result
         ↔ (IsAskedAs (flight_at watch.now.masters.flights wide).turn ask.now
@@ -59,7 +59,7 @@ fn is_sent(watch: &Watch, wide: usize, ask: &Ask) -> bool
 }
 
 /// Whether requests at a link are to be sent at another first: at a port's, if both sides are watched.
-fn is_second(watch: &Watch, link: Link) -> bool
+fn is_second(watch: &GroupWatch, link: Link) -> bool
     ensures { result ≡ is_second watch.now.layout link }
 {
     match link {
@@ -69,8 +69,8 @@ fn is_second(watch: &Watch, link: Link) -> bool
 }
 
 /// Whether a beat of a request finds its source free, if it begins one.
-fn begins_free(watch: &Watch, link: Link, wide: usize) -> bool
-    requires known { HasLink watch.now.layout link }
+fn begins_free(watch: &GroupWatch, link: Link, wide: usize) -> bool
+    requires known { HasGroupLink watch.now.layout link }
     requires wide { wide < wides_in watch.now }
     ensures { IsTrue result
         ↔ ((under_in watch.now link).asking ≡ None → (flight_in watch.now link wide).turn ≡ Idle) }
@@ -79,7 +79,7 @@ fn begins_free(watch: &Watch, link: Link, wide: usize) -> bool
 }
 
 /// Whether the address map has a request with the port of a link.
-fn is_placed(watch: &Watch, link: Link, beat: &AskHead) -> bool
+fn is_placed(watch: &GroupWatch, link: Link, beat: &AskHead) -> bool
     requires { beat.now.size ≤ MAX_SIZE }
     ensures { IsTrue result ↔ IsPlaced watch.now.layout link beat.now }
 {
@@ -90,8 +90,8 @@ fn is_placed(watch: &Watch, link: Link, beat: &AskHead) -> bool
 }
 
 /// Whether a beat of a request is at its port, if it begins one.
-fn begins_placed(watch: &Watch, link: Link, beat: &AskHead) -> bool
-    requires known { HasLink watch.now.layout link }
+fn begins_placed(watch: &GroupWatch, link: Link, beat: &AskHead) -> bool
+    requires known { HasGroupLink watch.now.layout link }
     requires in_limit { beat.now.size ≤ MAX_SIZE }
     ensures { IsTrue result
         ↔ ((under_in watch.now link).asking ≡ None → IsPlaced watch.now.layout link beat.now) }
@@ -102,7 +102,13 @@ fn begins_placed(watch: &Watch, link: Link, beat: &AskHead) -> bool
 /// Whether a master has sent the request that a beat ends after those under way, and it has not crossed before.
 // apart from `ends_sent`, so that other beats pay for no room of a long request
 #[inline(never)]
-fn is_whole_sent(watch: &Watch, wide: usize, under: &UnderWay, beat: &AskHead, lanes: &[u8]) -> bool
+fn is_whole_sent(
+    watch: &GroupWatch,
+    wide: usize,
+    under: &UnderWay,
+    beat: &AskHead,
+    lanes: &[u8],
+) -> bool
     requires wide { wide < wides_in watch.now }
     requires fits { FitsAsk under.now.bus (first_ask under.now.asking) beat.now }
     requires ends { IsTrue (ends_ask under.now.bus under.now.asking beat.now) }
@@ -118,8 +124,8 @@ fn is_whole_sent(watch: &Watch, wide: usize, under: &UnderWay, beat: &AskHead, l
 }
 
 /// Whether a master has sent the request that a beat ends, if it ends one.
-fn ends_sent(watch: &Watch, link: Link, wide: usize, beat: &AskHead, lanes: &[u8]) -> bool
-    requires known { HasLink watch.now.layout link }
+fn ends_sent(watch: &GroupWatch, link: Link, wide: usize, beat: &AskHead, lanes: &[u8]) -> bool
+    requires known { HasGroupLink watch.now.layout link }
     requires wide { wide < wides_in watch.now }
     requires fits { let under = under_in watch.now link in FitsAsk under.bus (first_ask under.asking) beat.now }
     requires lanes { (under_in watch.now link).bus ≤ length lanes.now }
@@ -137,18 +143,18 @@ fn ends_sent(watch: &Watch, link: Link, wide: usize, beat: &AskHead, lanes: &[u8
 
 /// Judges a beat of a request: its place, or the first reason why it is not lawful.
 pub fn judge_ask(
-    watch: &Watch,
+    watch: &GroupWatch,
     link: Link,
     beat: &AskHead,
     known: u64,
     lanes: &[u8],
-) -> Result<Place, Reason>
-    requires known { HasLink watch.now.layout link }
+) -> Result<FlightPlace, Reason>
+    requires known { HasGroupLink watch.now.layout link }
     requires lanes { (under_in watch.now link).bus ≤ length lanes.now }
-    ensures reason { (plan : Plan) → Suits plan watch.now
+    ensures reason { (plan : GroupPlan) → SuitsGroup plan watch.now
         → IfErr result (IsFirstAskReason watch.now.layout link
         (scene_in plan watch.now link (A beat.now)) beat.now known lanes.now) }
-    ensures allowed { (plan : Plan) → Suits plan watch.now
+    ensures allowed { (plan : GroupPlan) → SuitsGroup plan watch.now
         → OnOk result (IsAllowedAsk watch.now.layout link
         (scene_in plan watch.now link (A beat.now)) beat.now known lanes.now) }
     ensures place { IfOk result (IsPlace watch.now link (A beat.now)) }
@@ -169,8 +175,8 @@ pub fn judge_ask(
     if !ends_sent(watch, link, wide, beat, lanes) {
         return Err(Reason::NotSent);
     }
-    Ok(Place {
-        link: number_of(link),
+    Ok(FlightPlace {
+        link: link_number(link),
         wide,
         port: watch.port(link, beat.address, beat.size),
     })

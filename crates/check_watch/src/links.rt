@@ -2,7 +2,7 @@
 
 /// The links that are watched.
 #[derive(Debug, Clone, Copy, PartialEq, Eq)]
-pub enum Links {
+pub enum GroupLinks {
     /// All masters' and all ports'.
     Both,
     /// The masters' alone.

@@ -1,13 +1,13 @@
 //! What a beat does to the requests in flight.
 ghost use Rattle.std.specs.Prelude.{◌≡◌, ◌<◌, ◌∷◌, ℕ, List, IfSome, IfNone};
 ghost use Rattle.check_watch.specs.declared.beat.Beat.TheVariants.{A, D};
-ghost use Rattle.check_watch.specs.Lawful.{IsLawful};
-ghost use Rattle.check_watch.specs.Pending.{IsChange, IsInLimit, IsOriginAt};
-ghost use Rattle.check_watch.specs.Plan.{HasLink, HasSource, Plan, Sighting, seen_at};
-ghost use Rattle.check_watch.specs.View.{Keeps, wides_in};
+ghost use Rattle.check_watch.specs.Lawful.{IsLawfulGroup};
+ghost use Rattle.check_watch.specs.Pending.{IsGroupChange, IsInLimit, IsOriginAt};
+ghost use Rattle.check_watch.specs.Plan.{HasGroupLink, HasSource, GroupPlan, Sighting, seen_at};
+ghost use Rattle.check_watch.specs.View.{KeepsGroup, wides_in};
 
 use crate::beat::{Beat, Link};
-use crate::watch::Watch;
+use crate::watch::GroupWatch;
 use check_beats::{AskHead, ReplyHead};
 
 /// A wide source, and the master that has it, with the master's own source.
@@ -29,7 +29,7 @@ pub enum Change {
     Ends(u16),
 }
 
-impl Watch {
+impl GroupWatch {
     /// Whose a source at a link is, if the link has it.
     fn origin(&self, link: Link, source: u16) -> Option<Origin>
         ensures some { IfSome result (IsOriginAt self.now.layout link source) }
@@ -51,10 +51,10 @@ impl Watch {
 
     /// What the next beat of a request does to the requests in flight, if it is lawful.
     fn ask_change(&self, link: Link, beat: &AskHead) -> Change
-        requires { HasLink self.now.layout link }
-        ensures change { (plan : Plan) (past : List Sighting) (known : ℕ) (lanes : List ℕ)
-            → Keeps plan past self.now → IsLawful plan (seen_at link (A beat.now) known lanes ∷ past)
-            → IsChange plan past (seen_at link (A beat.now) known lanes) result }
+        requires { HasGroupLink self.now.layout link }
+        ensures change { (plan : GroupPlan) (past : List Sighting) (known : ℕ) (lanes : List ℕ)
+            → KeepsGroup plan past self.now → IsLawfulGroup plan (seen_at link (A beat.now) known lanes ∷ past)
+            → IsGroupChange plan past (seen_at link (A beat.now) known lanes) result }
         ensures in_limit { IsInLimit (wides_in self.now) result }
     {
         if !self.link(link).begins_ask() {
@@ -68,10 +68,10 @@ impl Watch {
 
     /// What the next beat of a reply does to the requests in flight, if it is lawful.
     fn reply_change(&self, link: Link, beat: &ReplyHead) -> Change
-        requires { HasLink self.now.layout link }
-        ensures change { (plan : Plan) (past : List Sighting) (known : ℕ) (lanes : List ℕ)
-            → Keeps plan past self.now → IsLawful plan (seen_at link (D beat.now) known lanes ∷ past)
-            → IsChange plan past (seen_at link (D beat.now) known lanes) result }
+        requires { HasGroupLink self.now.layout link }
+        ensures change { (plan : GroupPlan) (past : List Sighting) (known : ℕ) (lanes : List ℕ)
+            → KeepsGroup plan past self.now → IsLawfulGroup plan (seen_at link (D beat.now) known lanes ∷ past)
+            → IsGroupChange plan past (seen_at link (D beat.now) known lanes) result }
         ensures in_limit { IsInLimit (wides_in self.now) result }
     {
         let under = self.link(link);
@@ -86,10 +86,10 @@ impl Watch {
 
     /// What the next beat does to the requests in flight on its side, if it is lawful, whatever its lanes.
     pub fn change(&self, link: Link, beat: &Beat) -> Change
-        requires { HasLink self.now.layout link }
-        ensures change { (plan : Plan) (past : List Sighting) (known : ℕ) (lanes : List ℕ)
-            → Keeps plan past self.now → IsLawful plan (seen_at link beat.now known lanes ∷ past)
-            → IsChange plan past (seen_at link beat.now known lanes) result }
+        requires { HasGroupLink self.now.layout link }
+        ensures change { (plan : GroupPlan) (past : List Sighting) (known : ℕ) (lanes : List ℕ)
+            → KeepsGroup plan past self.now → IsLawfulGroup plan (seen_at link beat.now known lanes ∷ past)
+            → IsGroupChange plan past (seen_at link beat.now known lanes) result }
         ensures in_limit { IsInLimit (wides_in self.now) result }
     {
         match beat {

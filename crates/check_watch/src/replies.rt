@@ -9,18 +9,18 @@ ghost use Rattle.check_watch.specs.declared.fault.Reason.TheVariants.{WrongReply
 ghost use Rattle.check_watch.specs.Allowed.{OfAsked, HasKnownLanes, IsAnswer, IsMust, IsAllowedReply};
 ghost use Rattle.check_watch.specs.Faults.{IsWrongReply, HasAnswerReason, HasEndReason, IsFirstReplyReason, reason_rank};
 ghost use Rattle.check_watch.specs.Past.{slave_at};
-ghost use Rattle.check_watch.specs.Plan.{Plan, HasLink, number_of};
+ghost use Rattle.check_watch.specs.Plan.{GroupPlan, HasGroupLink, link_number};
 ghost use Rattle.check_watch.specs.Scene.{is_given, seen};
-ghost use Rattle.check_watch.specs.View.{IsPlace, Suits, wides_in, under_in, flight_in, crossing_at, scene_in, due_in, captured_in};
+ghost use Rattle.check_watch.specs.View.{IsPlace, SuitsGroup, wides_in, under_in, flight_in, crossing_at, scene_in, due_in, captured_in};
 
-use crate::asks::number_of;
+use crate::asks::link_number;
 use crate::beat::Link;
 use crate::fault::{Fault, Reason};
-use crate::seen::{Entry, Seen};
-use crate::watch::Watch;
+use crate::seen::{Seen, SeenEntry};
+use crate::watch::GroupWatch;
 use check_beats::{ReplyHead, UnderWay};
 use check_cells::Pattern;
-use check_flight::{Answer, Flight, Place};
+use check_flight::{Answer, Flight, FlightPlace};
 use tl_types::{Ask, reply_opcode};
 
 /// The same reply.
@@ -97,14 +97,14 @@ pub fn due_reason(due: Option<&Answer>, reply: &Pattern) -> Option<Reason>
 // apart from `end_reason`, so that other beats pay for no room of a long reply
 #[inline(never)]
 fn whole_reason(
-    watch: &Watch,
+    watch: &GroupWatch,
     link: Link,
-    place: Place,
+    place: FlightPlace,
     beat: &ReplyHead,
     known: u64,
     lanes: &[u8],
 ) -> Option<Reason>
-    requires known { HasLink watch.now.layout link }
+    requires known { HasGroupLink watch.now.layout link }
     requires wide { place.wide < wides_in watch.now }
     requires port { place.port < length watch.now.slaves }
     requires fits { FitsReply (first_reply (under_in watch.now link).replying) beat.now }
@@ -131,14 +131,14 @@ fn whole_reason(
 
 /// Why the reply that a beat ends, if it ends one, to a request to this port, is not the one that must come.
 fn end_reason(
-    watch: &Watch,
+    watch: &GroupWatch,
     link: Link,
-    place: Place,
+    place: FlightPlace,
     beat: &ReplyHead,
     known: u64,
     lanes: &[u8],
 ) -> Option<Reason>
-    requires known { HasLink watch.now.layout link }
+    requires known { HasGroupLink watch.now.layout link }
     requires wide { place.wide < wides_in watch.now }
     requires port { place.port < length watch.now.slaves }
     requires fits { FitsReply (first_reply (under_in watch.now link).replying) beat.now }
@@ -162,18 +162,18 @@ fn end_reason(
 
 /// Judges a beat of a reply: its place, or the first reason why it is not lawful.
 pub fn judge_reply(
-    watch: &Watch,
+    watch: &GroupWatch,
     link: Link,
     beat: &ReplyHead,
     known: u64,
     lanes: &[u8],
-) -> Result<Place, Reason>
-    requires known { HasLink watch.now.layout link }
+) -> Result<FlightPlace, Reason>
+    requires known { HasGroupLink watch.now.layout link }
     requires lanes { (under_in watch.now link).bus ≤ length lanes.now }
-    ensures reason { (plan : Plan) → Suits plan watch.now
+    ensures reason { (plan : GroupPlan) → SuitsGroup plan watch.now
         → IfErr result (IsFirstReplyReason watch.now.layout link
         (scene_in plan watch.now link (D beat.now)) beat.now known lanes.now) }
-    ensures allowed { (plan : Plan) → Suits plan watch.now
+    ensures allowed { (plan : GroupPlan) → SuitsGroup plan watch.now
         → OnOk result (IsAllowedReply watch.now.layout link
         (scene_in plan watch.now link (D beat.now)) beat.now known lanes.now) }
     ensures place { IfOk result (IsPlace watch.now link (D beat.now)) }
@@ -186,8 +186,8 @@ pub fn judge_reply(
         return Err(Reason::NoSuchSource);
     };
     let wide = usize::from(source);
-    let place = Place {
-        link: number_of(link),
+    let place = FlightPlace {
+        link: link_number(link),
         wide,
         port: watch.port_in_flight(link, wide),
     };
@@ -203,10 +203,16 @@ pub fn judge_reply(
 }
 
 /// The wrong reply that a beat ends: what its port's slave expects, and what was captured.
-pub fn wrong_reply(watch: &Watch, link: Link, beat: &ReplyHead, known: u64, lanes: &[u8]) -> Fault
-    requires known { HasLink watch.now.layout link }
+pub fn wrong_reply(
+    watch: &GroupWatch,
+    link: Link,
+    beat: &ReplyHead,
+    known: u64,
+    lanes: &[u8],
+) -> Fault
+    requires known { HasGroupLink watch.now.layout link }
     requires lanes { (under_in watch.now link).bus ≤ length lanes.now }
-    ensures { (plan : Plan) → Suits plan watch.now
+    ensures { (plan : GroupPlan) → SuitsGroup plan watch.now
         → IsFirstReplyReason watch.now.layout link (scene_in plan watch.now link (D beat.now)) beat.now known lanes.now
         WrongReply
         → IsWrongReply (scene_in plan watch.now link (D beat.now)) beat.now known lanes.now result }
@@ -234,17 +240,17 @@ pub fn wrong_reply(watch: &Watch, link: Link, beat: &ReplyHead, known: u64, lane
 
 /// What a beat of a reply ends that has this place.
 pub fn seen_reply(
-    watch: &Watch,
+    watch: &GroupWatch,
     link: Link,
-    place: Place,
+    place: FlightPlace,
     beat: &ReplyHead,
     known: u64,
     lanes: &[u8],
 ) -> Seen
-    requires known { HasLink watch.now.layout link }
+    requires known { HasGroupLink watch.now.layout link }
     requires lanes { (under_in watch.now link).bus ≤ length lanes.now }
     requires place { IsPlace watch.now link (D beat.now) place }
-    ensures { (plan : Plan) → Suits plan watch.now
+    ensures { (plan : GroupPlan) → SuitsGroup plan watch.now
         → result ≡ seen watch.now.layout link (scene_in plan watch.now link (D beat.now)) (D beat.now) known lanes.now }
 {
     if !watch.link(link).ends_reply(beat) {
@@ -258,7 +264,7 @@ pub fn seen_reply(
         Some(answer) => {
             let mut reply = Pattern::blank();
             watch.capture(link, place.wide, beat, known, lanes, &mut reply);
-            Seen::WholeReply(Entry {
+            Seen::WholeReply(SeenEntry {
                 ask: ask.copy(),
                 reply,
                 port: answer.port,

@@ -1,13 +1,13 @@
 //! What a beat ends.
 ghost use Rattle.std.specs.Prelude.{◌≡◌};
-ghost use Rattle.check_watch.specs.Scene.{ended};
+ghost use Rattle.check_watch.specs.Scene.{ended_by};
 
 use check_cells::Pattern;
 use tl_types::Ask;
 
 /// A request with the reply that was captured, its port, and its place in the port's list.
 #[derive(Debug, Drop)]
-pub struct Entry {
+pub struct SeenEntry {
     pub ask: Ask,
     pub reply: Pattern,
     pub port: usize,
@@ -22,7 +22,7 @@ pub enum Seen {
     /// A request.
     WholeAsk,
     /// A reply. It is told with its request.
-    WholeReply(Entry),
+    WholeReply(SeenEntry),
 }
 
 /// What a beat ends, without the reply that it ends.
@@ -39,7 +39,7 @@ pub enum Ended {
 impl Seen {
     /// The same, without the reply.
     pub fn ended(&self) -> Ended
-        ensures { result ≡ ended self.now }
+        ensures { result ≡ ended_by self.now }
     {
         match self {
             Seen::Part => Ended::Part,

@@ -7,35 +7,35 @@ ghost use Rattle.check_flight.specs.Flight.{asked, idle};
 ghost use Rattle.check_flight.specs.PortSlave.{due_accepting, due_answering, may_need_to_accept, may_need_to_answer};
 ghost use Rattle.check_flight.specs.Side.{ask_crossed, ask_ended, flight_at, reply_ended, side_due, side_with};
 ghost use Rattle.check_watch.specs.declared.beat.Beat.TheVariants.{A, D};
-ghost use Rattle.check_watch.specs.Lawful.{IsLawful, SlaveMayNeedMemory, IsFirstReason, IsFirstFault, OfFault, what_is_seen};
+ghost use Rattle.check_watch.specs.Lawful.{IsLawfulGroup, GroupMayNeedMemory, IsFirstReason, IsFirstGroupFault, OfFault, seen_in_group};
 ghost use Rattle.check_watch.specs.Past.{slave_at};
-ghost use Rattle.check_watch.specs.Plan.{Plan, Sighting, number_of, HasLink, IsWatched, bus_of, seen_at};
-ghost use Rattle.check_watch.specs.Scene.{ask_by, ended};
-ghost use Rattle.check_watch.specs.View.{IsPlace, MayNeedToAccept, MayNeedToAnswer, wides_in, Keeps, own_side, under_in, flight_in, captured_in, crossings_asked, crossings_given, crossings_replied, slaves_answering, with_side, with_message, with_ask, with_late, with_part, with_end, with_reply};
+ghost use Rattle.check_watch.specs.Plan.{GroupPlan, Sighting, link_number, HasGroupLink, IsGroupLink, bus_in_group, seen_at};
+ghost use Rattle.check_watch.specs.Scene.{ask_by, ended_by};
+ghost use Rattle.check_watch.specs.View.{IsPlace, MayNeedToAccept, MayNeedToAnswer, wides_in, KeepsGroup, own_side, under_in, flight_in, captured_in, crossings_asked, crossings_given, crossings_replied, slaves_answering, with_side, with_message, with_ask, with_late, with_part, with_end, with_reply};
 
 use crate::asks::judge_ask;
 use crate::beat::{Beat, Link};
 use crate::fault::{Fault, Reason, StepError, fault_of};
 use crate::replies::{judge_reply, seen_reply, wrong_reply};
 use crate::seen::{Ended, Seen};
-use crate::watch::Watch;
+use crate::watch::GroupWatch;
 use check_beats::{AskHead, ReplyHead};
 use check_cells::Pattern;
-use check_flight::Place;
+use check_flight::FlightPlace;
 use std::alloc::{AllocError, Global};
 
-impl Watch {
+impl GroupWatch {
     /// A beat of a request crosses at a link that does not end it.
-    fn begin_ask(&mut self, link: Link, place: Place, beat: &AskHead, lanes: &[u8])
-        requires known { HasLink self.old.layout link }
-        requires at { place.link ≡ number_of link }
+    fn begin_ask(&mut self, link: Link, place: FlightPlace, beat: &AskHead, lanes: &[u8])
+        requires known { HasGroupLink self.old.layout link }
+        requires at { place.link ≡ link_number link }
         requires wide { place.wide < wides_in self.old }
         requires fits { let under = under_in self.old link in FitsAsk under.bus (first_ask under.asking) beat.now }
         requires goes_on { let under = under_in self.old link in ends_ask under.bus under.asking beat.now ≡ false }
         requires lanes { (under_in self.old link).bus ≤ length lanes.now }
         ensures { self.new ≡ with_message self.old link place.wide place.port
             (ask_crossed (under_in self.old link) beat.now lanes.now)
-            (record { turn = Asking (number_of link); due = None }) None }
+            (record { turn = Asking (link_number link); due = None }) None }
     {
         match link {
             Link::Master(_) => self.masters.begin_ask(place, beat, lanes),
@@ -44,16 +44,16 @@ impl Watch {
     }
 
     /// A beat of a request crosses at a link that ends it, and no slave accepts it there.
-    fn end_ask(&mut self, link: Link, place: Place, beat: &AskHead, lanes: &[u8])
-        requires known { HasLink self.old.layout link }
-        requires at { place.link ≡ number_of link }
+    fn end_ask(&mut self, link: Link, place: FlightPlace, beat: &AskHead, lanes: &[u8])
+        requires known { HasGroupLink self.old.layout link }
+        requires at { place.link ≡ link_number link }
         requires wide { place.wide < wides_in self.old }
         requires fits { let under = under_in self.old link in FitsAsk under.bus (first_ask under.asking) beat.now }
         requires ends { let under = under_in self.old link in IsTrue (ends_ask under.bus under.asking beat.now) }
         requires lanes { (under_in self.old link).bus ≤ length lanes.now }
         ensures { let under = under_in self.old link in
             self.new ≡ with_message self.old link place.wide place.port (ask_ended under) (record {
-              turn = Asked (number_of link) (ask_of under.bus under.asking beat.now lanes.now);
+              turn = Asked (link_number link) (ask_of under.bus under.asking beat.now lanes.now);
               due = None;
             }) None }
     {
@@ -69,12 +69,12 @@ impl Watch {
         &mut self,
         alloc: Global,
         link: Link,
-        place: Place,
+        place: FlightPlace,
         beat: &AskHead,
         lanes: &[u8],
     ) -> Result<(), AllocError>
-        requires known { HasLink self.old.layout link }
-        requires at { place.link ≡ number_of link }
+        requires known { HasGroupLink self.old.layout link }
+        requires at { place.link ≡ link_number link }
         requires wide { place.wide < wides_in self.old }
         requires port { place.port < length self.old.slaves }
         requires fits { let under = under_in self.old link in FitsAsk under.bus (first_ask under.asking) beat.now }
@@ -84,7 +84,7 @@ impl Watch {
             let slave = slave_at self.old.slaves place.port in
             let ask = ask_of under.bus under.asking beat.now lanes.now in
             OnOk result (self.new ≡ with_message self.old link place.wide place.port (ask_ended under) (record {
-              turn = Asked (number_of link) ask;
+              turn = Asked (link_number link) ask;
               due = due_accepting place.port slave (Some ask);
             }) (Some ask)) }
         ensures needed { let under = under_in self.old link in
@@ -119,12 +119,12 @@ impl Watch {
         &mut self,
         alloc: Global,
         link: Link,
-        place: Place,
+        place: FlightPlace,
         beat: &AskHead,
         lanes: &[u8],
     ) -> Result<bool, AllocError>
-        requires known { HasLink self.old.layout link }
-        requires at { place.link ≡ number_of link }
+        requires known { HasGroupLink self.old.layout link }
+        requires at { place.link ≡ link_number link }
         requires wide { place.wide < wides_in self.old }
         requires port { place.port < length self.old.slaves }
         requires fits { let under = under_in self.old link in FitsAsk under.bus (first_ask under.asking) beat.now }
@@ -149,7 +149,7 @@ impl Watch {
     }
 
     /// The slave of the port answers the request in flight of a wide source, as its reply begins at a link.
-    fn answer(&mut self, alloc: Global, link: Link, place: Place) -> Result<(), AllocError>
+    fn answer(&mut self, alloc: Global, link: Link, place: FlightPlace) -> Result<(), AllocError>
         requires wide { place.wide < wides_in self.old }
         requires port { place.port < length self.old.slaves }
         ensures after { let slave = slave_at self.old.slaves place.port in
@@ -173,8 +173,13 @@ impl Watch {
 
     /// The slave of the port answers the request in flight of a wide source, if its reply begins at a link. Where there is
     /// no memory, nothing is changed.
-    fn answer_first(&mut self, alloc: Global, link: Link, place: Place) -> Result<(), AllocError>
-        requires known { HasLink self.old.layout link }
+    fn answer_first(
+        &mut self,
+        alloc: Global,
+        link: Link,
+        place: FlightPlace,
+    ) -> Result<(), AllocError>
+        requires known { HasGroupLink self.old.layout link }
         requires wide { place.wide < wides_in self.old }
         requires port { place.port < length self.old.slaves }
         ensures after { OnOk result (self.new ≡ with_late self.old link place.wide place.port) }
@@ -192,7 +197,7 @@ impl Watch {
 
     /// A beat of a reply crosses at a link that does not end it.
     fn take_part(&mut self, link: Link, beat: &ReplyHead, known: u64, lanes: &[u8])
-        requires known { HasLink self.old.layout link }
+        requires known { HasGroupLink self.old.layout link }
         requires fits { FitsReply (first_reply (under_in self.old link).replying) beat.now }
         requires goes_on { let under = under_in self.old link in
             ends_reply under.bus under.replying beat.now ≡ false }
@@ -220,7 +225,7 @@ impl Watch {
 
     /// Notes the captured reply that a beat ends at a link, if the link is a port's.
     fn note_reply(&mut self, link: Link, wide: usize, beat: &ReplyHead, known: u64, lanes: &[u8])
-        requires known { HasLink self.old.layout link }
+        requires known { HasGroupLink self.old.layout link }
         requires wide { wide < wides_in self.old }
         requires fits { FitsReply (first_reply (under_in self.old link).replying) beat.now }
         requires ends { let under = under_in self.old link in IsTrue (ends_reply under.bus under.replying beat.now) }
@@ -241,11 +246,11 @@ impl Watch {
     }
 
     /// Nothing is in flight any more of a wide source, and no reply under way, at a link.
-    fn end_reply(&mut self, link: Link, place: Place)
-        requires known { HasLink self.old.layout link }
-        requires at { place.link ≡ number_of link }
+    fn end_reply(&mut self, link: Link, place: FlightPlace)
+        requires known { HasGroupLink self.old.layout link }
+        requires at { place.link ≡ link_number link }
         requires wide { place.wide < wides_in self.old }
-        ensures { self.new ≡ with_side self.old link (side_with (own_side self.old link) (number_of link)
+        ensures { self.new ≡ with_side self.old link (side_with (own_side self.old link) (link_number link)
             (reply_ended (under_in self.old link)) place.wide idle) }
     {
         match link {
@@ -255,9 +260,16 @@ impl Watch {
     }
 
     /// A beat of a reply crosses at a link that ends it.
-    fn take_end(&mut self, link: Link, place: Place, beat: &ReplyHead, known: u64, lanes: &[u8])
-        requires known { HasLink self.old.layout link }
-        requires at { place.link ≡ number_of link }
+    fn take_end(
+        &mut self,
+        link: Link,
+        place: FlightPlace,
+        beat: &ReplyHead,
+        known: u64,
+        lanes: &[u8],
+    )
+        requires known { HasGroupLink self.old.layout link }
+        requires at { place.link ≡ link_number link }
         requires wide { place.wide < wides_in self.old }
         requires fits { FitsReply (first_reply (under_in self.old link).replying) beat.now }
         requires ends { let under = under_in self.old link in IsTrue (ends_reply under.bus under.replying beat.now) }
@@ -273,13 +285,13 @@ impl Watch {
         &mut self,
         alloc: Global,
         link: Link,
-        place: Place,
+        place: FlightPlace,
         beat: &ReplyHead,
         known: u64,
         lanes: &[u8],
     ) -> Result<bool, AllocError>
-        requires known { HasLink self.old.layout link }
-        requires at { place.link ≡ number_of link }
+        requires known { HasGroupLink self.old.layout link }
+        requires at { place.link ≡ link_number link }
         requires wide { place.wide < wides_in self.old }
         requires port { place.port < length self.old.slaves }
         requires fits { FitsReply (first_reply (under_in self.old link).replying) beat.now }
@@ -302,13 +314,19 @@ impl Watch {
     }
 
     /// Judges one beat more, at a link that is watched: its place, or the first reason why it is not lawful.
-    fn judge(&self, link: Link, beat: &Beat, known: u64, lanes: &[u8]) -> Result<Place, Reason>
-        requires known { HasLink self.now.layout link }
-        requires lanes { bus_of self.now.layout link ≤ length lanes.now }
-        ensures reason { (plan : Plan) (past : List Sighting) → Keeps plan past self.now
+    fn judge(
+        &self,
+        link: Link,
+        beat: &Beat,
+        known: u64,
+        lanes: &[u8],
+    ) -> Result<FlightPlace, Reason>
+        requires known { HasGroupLink self.now.layout link }
+        requires lanes { bus_in_group self.now.layout link ≤ length lanes.now }
+        ensures reason { (plan : GroupPlan) (past : List Sighting) → KeepsGroup plan past self.now
             → IfErr result (IsFirstReason plan past (seen_at link beat.now known lanes.now)) }
-        ensures allowed { (plan : Plan) (past : List Sighting) → Keeps plan past self.now
-            → OnOk result (IsLawful plan (seen_at link beat.now known lanes.now ∷ past)) }
+        ensures allowed { (plan : GroupPlan) (past : List Sighting) → KeepsGroup plan past self.now
+            → OnOk result (IsLawfulGroup plan (seen_at link beat.now known lanes.now ∷ past)) }
         ensures place { IfOk result (IsPlace self.now link beat.now) }
     {
         self.sized();
@@ -323,23 +341,23 @@ impl Watch {
         &mut self,
         alloc: Global,
         link: Link,
-        place: Place,
+        place: FlightPlace,
         beat: &Beat,
         known: u64,
         lanes: &[u8],
     ) -> Result<Ended, AllocError>
-        requires known { HasLink self.old.layout link }
-        requires lanes { bus_of self.old.layout link ≤ length lanes.now }
+        requires known { HasGroupLink self.old.layout link }
+        requires lanes { bus_in_group self.old.layout link ≤ length lanes.now }
         requires place { IsPlace self.old link beat.now place }
-        ensures keeps { (plan : Plan) (past : List Sighting) → Keeps plan past self.old
-            → IsLawful plan (seen_at link beat.now known lanes.now ∷ past)
-            → OnOk result (Keeps plan (seen_at link beat.now known lanes.now ∷ past) self.new) }
-        ensures ended { (plan : Plan) (past : List Sighting) → Keeps plan past self.old
-            → IsLawful plan (seen_at link beat.now known lanes.now ∷ past)
-            → IfOk result (λ e. e ≡ ended (what_is_seen plan past (seen_at link beat.now known lanes.now))) }
-        ensures needed { (plan : Plan) (past : List Sighting) → Keeps plan past self.old
-            → IsLawful plan (seen_at link beat.now known lanes.now ∷ past)
-            → OnErr result (SlaveMayNeedMemory plan past (seen_at link beat.now known lanes.now)) }
+        ensures keeps { (plan : GroupPlan) (past : List Sighting) → KeepsGroup plan past self.old
+            → IsLawfulGroup plan (seen_at link beat.now known lanes.now ∷ past)
+            → OnOk result (KeepsGroup plan (seen_at link beat.now known lanes.now ∷ past) self.new) }
+        ensures ended { (plan : GroupPlan) (past : List Sighting) → KeepsGroup plan past self.old
+            → IsLawfulGroup plan (seen_at link beat.now known lanes.now ∷ past)
+            → IfOk result (λ e. e ≡ ended_by (seen_in_group plan past (seen_at link beat.now known lanes.now))) }
+        ensures needed { (plan : GroupPlan) (past : List Sighting) → KeepsGroup plan past self.old
+            → IsLawfulGroup plan (seen_at link beat.now known lanes.now ∷ past)
+            → OnErr result (GroupMayNeedMemory plan past (seen_at link beat.now known lanes.now)) }
         ensures err { OnErr result (self.new ≡ self.old) }
         ensures layout { self.new.layout ≡ self.old.layout }
     {
@@ -357,12 +375,12 @@ impl Watch {
     }
 
     /// What a beat of this place ends, if it is lawful.
-    fn seen(&self, link: Link, place: Place, beat: &Beat, known: u64, lanes: &[u8]) -> Seen
-        requires known { HasLink self.now.layout link }
-        requires lanes { bus_of self.now.layout link ≤ length lanes.now }
+    fn seen(&self, link: Link, place: FlightPlace, beat: &Beat, known: u64, lanes: &[u8]) -> Seen
+        requires known { HasGroupLink self.now.layout link }
+        requires lanes { bus_in_group self.now.layout link ≤ length lanes.now }
         requires place { IsPlace self.now link beat.now place }
-        ensures { (plan : Plan) (past : List Sighting) → Keeps plan past self.now
-            → result ≡ what_is_seen plan past (seen_at link beat.now known lanes.now) }
+        ensures { (plan : GroupPlan) (past : List Sighting) → KeepsGroup plan past self.now
+            → result ≡ seen_in_group plan past (seen_at link beat.now known lanes.now) }
     {
         self.sized();
         match beat {
@@ -379,11 +397,11 @@ impl Watch {
 
     /// The fault that a beat has for this first reason.
     fn fault(&self, link: Link, beat: &Beat, known: u64, lanes: &[u8], reason: Reason) -> Fault
-        requires known { HasLink self.now.layout link }
-        requires lanes { bus_of self.now.layout link ≤ length lanes.now }
-        ensures { (plan : Plan) (past : List Sighting) → Keeps plan past self.now
+        requires known { HasGroupLink self.now.layout link }
+        requires lanes { bus_in_group self.now.layout link ≤ length lanes.now }
+        ensures { (plan : GroupPlan) (past : List Sighting) → KeepsGroup plan past self.now
             → IsFirstReason plan past (seen_at link beat.now known lanes.now) reason
-            → IsFirstFault plan past (seen_at link beat.now known lanes.now) result }
+            → IsFirstGroupFault plan past (seen_at link beat.now known lanes.now) result }
     {
         self.sized();
         match reason {
@@ -399,7 +417,7 @@ impl Watch {
     /// nothing changes, nor if memory is refused to a lawful one, with which a port's slave may need some. There are as many
     /// lanes as the link's bus has, or more; those past the bus are not looked at.
     ///
-    /// It costs less than [`Watch::step`], which makes the fault or the reply that a beat ends, too.
+    /// It costs less than [`GroupWatch::step`], which makes the fault or the reply that a beat ends, too.
     pub fn take(
         &mut self,
         alloc: Global,
@@ -408,21 +426,21 @@ impl Watch {
         known: u64,
         lanes: &[u8],
     ) -> Result<Option<Ended>, AllocError>
-        requires known { HasLink self.old.layout link }
-        requires watched { IsWatched self.old.layout.links link }
-        requires lanes { bus_of self.old.layout link ≤ length lanes.now }
-        ensures lawful { (plan : Plan) (past : List Sighting) → Keeps plan past self.old
-            → IfOk result (λ end. IsSome end ↔ IsLawful plan (seen_at link beat.now known lanes.now ∷ past)) }
-        ensures keeps { (plan : Plan) (past : List Sighting) → Keeps plan past self.old
-            → IfOk result (λ end. OnSome end (Keeps plan (seen_at link beat.now known lanes.now ∷ past) self.new)) }
-        ensures ended { (plan : Plan) (past : List Sighting) → Keeps plan past self.old
+        requires known { HasGroupLink self.old.layout link }
+        requires watched { IsGroupLink self.old.layout.links link }
+        requires lanes { bus_in_group self.old.layout link ≤ length lanes.now }
+        ensures lawful { (plan : GroupPlan) (past : List Sighting) → KeepsGroup plan past self.old
+            → IfOk result (λ end. IsSome end ↔ IsLawfulGroup plan (seen_at link beat.now known lanes.now ∷ past)) }
+        ensures keeps { (plan : GroupPlan) (past : List Sighting) → KeepsGroup plan past self.old
+            → IfOk result (λ end. OnSome end (KeepsGroup plan (seen_at link beat.now known lanes.now ∷ past) self.new)) }
+        ensures ended { (plan : GroupPlan) (past : List Sighting) → KeepsGroup plan past self.old
             → IfOk result (λ end. IfSome end (λ e.
-            e ≡ ended (what_is_seen plan past (seen_at link beat.now known lanes.now)))) }
+            e ≡ ended_by (seen_in_group plan past (seen_at link beat.now known lanes.now)))) }
         ensures none { IfOk result (λ end. IfNone end (self.new ≡ self.old)) }
-        ensures memory { (plan : Plan) (past : List Sighting) → Keeps plan past self.old
-            → OnErr result (IsLawful plan (seen_at link beat.now known lanes.now ∷ past)) }
-        ensures needed { (plan : Plan) (past : List Sighting) → Keeps plan past self.old
-            → OnErr result (SlaveMayNeedMemory plan past (seen_at link beat.now known lanes.now)) }
+        ensures memory { (plan : GroupPlan) (past : List Sighting) → KeepsGroup plan past self.old
+            → OnErr result (IsLawfulGroup plan (seen_at link beat.now known lanes.now ∷ past)) }
+        ensures needed { (plan : GroupPlan) (past : List Sighting) → KeepsGroup plan past self.old
+            → OnErr result (GroupMayNeedMemory plan past (seen_at link beat.now known lanes.now)) }
         ensures err { OnErr result (self.new ≡ self.old) }
         ensures layout { self.new.layout ≡ self.old.layout }
     {
@@ -445,24 +463,24 @@ impl Watch {
         known: u64,
         lanes: &[u8],
     ) -> Result<Seen, StepError>
-        requires known { HasLink self.old.layout link }
-        requires watched { IsWatched self.old.layout.links link }
-        requires lanes { bus_of self.old.layout link ≤ length lanes.now }
-        ensures lawful { (plan : Plan) (past : List Sighting) → Keeps plan past self.old
+        requires known { HasGroupLink self.old.layout link }
+        requires watched { IsGroupLink self.old.layout.links link }
+        requires lanes { bus_in_group self.old.layout link ≤ length lanes.now }
+        ensures lawful { (plan : GroupPlan) (past : List Sighting) → KeepsGroup plan past self.old
             → (result ≡ Err StepError.Memory → ⊥)
-            → IsOk result ↔ IsLawful plan (seen_at link beat.now known lanes.now ∷ past) }
-        ensures keeps { (plan : Plan) (past : List Sighting) → Keeps plan past self.old
-            → OnOk result (Keeps plan (seen_at link beat.now known lanes.now ∷ past) self.new) }
-        ensures seen { (plan : Plan) (past : List Sighting) → Keeps plan past self.old
-            → IfOk result (λ s. s ≡ what_is_seen plan past (seen_at link beat.now known lanes.now)) }
-        ensures fault { (plan : Plan) (past : List Sighting) → Keeps plan past self.old
-            → IfErr result (OfFault (IsFirstFault plan past (seen_at link beat.now known lanes.now))) }
-        ensures memory { (plan : Plan) (past : List Sighting) → Keeps plan past self.old
+            → IsOk result ↔ IsLawfulGroup plan (seen_at link beat.now known lanes.now ∷ past) }
+        ensures keeps { (plan : GroupPlan) (past : List Sighting) → KeepsGroup plan past self.old
+            → OnOk result (KeepsGroup plan (seen_at link beat.now known lanes.now ∷ past) self.new) }
+        ensures seen { (plan : GroupPlan) (past : List Sighting) → KeepsGroup plan past self.old
+            → IfOk result (λ s. s ≡ seen_in_group plan past (seen_at link beat.now known lanes.now)) }
+        ensures fault { (plan : GroupPlan) (past : List Sighting) → KeepsGroup plan past self.old
+            → IfErr result (OfFault (IsFirstGroupFault plan past (seen_at link beat.now known lanes.now))) }
+        ensures memory { (plan : GroupPlan) (past : List Sighting) → KeepsGroup plan past self.old
             → result ≡ Err StepError.Memory
-            → IsLawful plan (seen_at link beat.now known lanes.now ∷ past) }
-        ensures needed { (plan : Plan) (past : List Sighting) → Keeps plan past self.old
+            → IsLawfulGroup plan (seen_at link beat.now known lanes.now ∷ past) }
+        ensures needed { (plan : GroupPlan) (past : List Sighting) → KeepsGroup plan past self.old
             → result ≡ Err StepError.Memory
-            → SlaveMayNeedMemory plan past (seen_at link beat.now known lanes.now) }
+            → GroupMayNeedMemory plan past (seen_at link beat.now known lanes.now) }
         ensures err { OnErr result (self.new ≡ self.old) }
         ensures layout { self.new.layout ≡ self.old.layout }
     {

@@ -2,7 +2,7 @@
 ghost use Rattle.std.specs.Prelude.{◌≡◌, ◌<◌, ◌≤◌, ◌↔◌, ◌+◌, ◌∷◌, ℕ, List, [], length, Some, Err, IsTrue, IfOk, OnOk, OnErr, IfErr, IsOk, IfSome, IfNone, IsSome, OnSome, option_map};
 ghost use Rattle.tl_types.specs.declared.limits.TheConstants.{MAX_SIZE};
 ghost use Rattle.check_map.specs.Owner.{IsOwned};
-ghost use Rattle.check_map.specs.Ranges.{RoutesBytes};
+ghost use Rattle.check_map.specs.Ranges.{RoutesBytesByRanges};
 ghost use Rattle.check_beats.specs.Bus.{bus_bytes};
 ghost use Rattle.check_beats.specs.State.{ends_reply};
 ghost use Rattle.check_beats.specs.Form.{FitsReply};
@@ -12,26 +12,26 @@ ghost use Rattle.check_flight.specs.Side.{flight_at};
 ghost use Rattle.check_watch.specs.declared.beat.Beat.TheVariants.{D};
 ghost use Rattle.check_beats.specs.declared.beat.ReplyHead.{ReplyHead};
 ghost use Rattle.check_watch.specs.Past.{port_of, slave_at};
-ghost use Rattle.check_watch.specs.Plan.{Plan, IsPlan, HasLink, IsWideAt, IsWatched, are_both, bus_of, crosses};
+ghost use Rattle.check_watch.specs.Plan.{GroupPlan, IsGroupPlan, HasGroupLink, IsWideAt, IsGroupLink, are_both, bus_in_group, crosses_at_port};
 ghost use Rattle.check_watch.specs.Scene.{takes_effect, is_given, must_by};
-ghost use Rattle.check_watch.specs.View.{View, IsSized, IsPlace, wides_in, Suits, Keeps, own_side, under_in, flight_in, crossing_at, is_answering_in, due_in, captured_in};
+ghost use Rattle.check_watch.specs.View.{GroupView, IsSized, IsPlace, wides_in, SuitsGroup, KeepsGroup, own_side, under_in, flight_in, crossing_at, is_answering_in, due_in, captured_in};
 
 use crate::beat::Link;
-use crate::links::Links;
+use crate::links::GroupLinks;
 use check_beats::{Bus, ReplyHead, UnderWay};
 use check_cells::Pattern;
-use check_flight::{Answer, Crossing, Flight, Order, Place, PortSlave, Side};
-use check_map::{Map, Sources};
+use check_flight::{Answer, Crossing, Flight, FlightPlace, Order, PortSlave, Side};
+use check_map::{AddressMap, SourceOwners};
 use std::alloc::{AllocError, Global};
 use std::marker::Model;
 use tl_types::MAX_SIZE;
 
 /// What a judge keeps of the beats so far.
 #[derive(Drop)]
-pub struct Watch {
-    links: Links,
-    map: Map,
-    sources: Sources,
+pub struct GroupWatch {
+    links: GroupLinks,
+    map: AddressMap,
+    sources: SourceOwners,
     master_buses: Vec<Bus>,
     port_buses: Vec<Bus>,
     pub(crate) masters: Side,
@@ -40,10 +40,10 @@ pub struct Watch {
     pub(crate) slaves: Vec<PortSlave>,
 }
 
-impl Model for Watch {
-    ghost use Rattle.check_watch.specs.View.{View, IsSized};
+impl Model for GroupWatch {
+    ghost use Rattle.check_watch.specs.View.{GroupView, IsSized};
 
-    ghost Value = { View };
+    ghost Value = { GroupView };
 
     ghost view = { λ w. record {
       layout = record {
@@ -75,7 +75,7 @@ impl Model for Watch {
 }
 
 /// A wide source, if a master has it.
-fn owned(sources: &Sources, source: u16) -> Option<u16>
+fn owned(sources: &SourceOwners, source: u16) -> Option<u16>
     ensures { (wide : ℕ) → (result ≡ Some wide) ↔ ((wide ≡ source) × IsOwned sources.now source) }
 {
     if sources.is_owned(source) {
@@ -97,18 +97,18 @@ fn fresh_crossings(alloc: Global, count: usize) -> Result<Vec<Crossing>, AllocEr
     Ok(crossings)
 }
 
-impl Watch {
+impl GroupWatch {
     /// The judge of a crossbar with these ports and sources, before any beat. There is a slave for each port, the error
     /// port's last, as it is at reset; a bus for each master's link, and one for each port's.
     pub fn new(
         alloc: Global,
-        links: Links,
-        map: Map,
-        sources: Sources,
+        links: GroupLinks,
+        map: AddressMap,
+        sources: SourceOwners,
         master_buses: Vec<Bus>,
         port_buses: Vec<Bus>,
         slaves: Vec<PortSlave>,
-    ) -> Result<Watch, AllocError>
+    ) -> Result<GroupWatch, AllocError>
         requires slaves { length slaves.items ≡ length map + 1 }
         requires masters { length master_buses.items ≡ length sources }
         requires ports { length port_buses.items ≡ length map }
@@ -119,8 +119,8 @@ impl Watch {
           master_buses = master_buses.items;
           port_buses = port_buses.items;
         }) }
-        ensures plan { IfOk result (λ watch. (plan : Plan) × (plan.resets ≡ slaves.items) × Keeps plan [] watch) }
-        ensures keeps { (plan : Plan) → IsPlan plan
+        ensures plan { IfOk result (λ watch. (plan : GroupPlan) × (plan.resets ≡ slaves.items) × KeepsGroup plan [] watch) }
+        ensures keeps { (plan : GroupPlan) → IsGroupPlan plan
             → plan.layout ≡ record {
               links = links;
               owners = sources;
@@ -128,7 +128,7 @@ impl Watch {
               master_buses = master_buses.items;
               port_buses = port_buses.items;
             }
-            → plan.resets ≡ slaves.items → IfOk result (Keeps plan []) }
+            → plan.resets ≡ slaves.items → IfOk result (KeepsGroup plan []) }
     {
         // these two are called for their clauses: no two masters share a source, and each request has one port
         let _owners = sources.masters();
@@ -137,7 +137,7 @@ impl Watch {
         let masters = Side::new(alloc, &master_buses, wides)?;
         let ports = Side::new(alloc, &port_buses, wides)?;
         let crossings = fresh_crossings(alloc, wides)?;
-        Ok(Watch {
+        Ok(GroupWatch {
             links,
             map,
             sources,
@@ -153,31 +153,32 @@ impl Watch {
     /// Whether the crossbar has a link, and it is watched.
     pub fn watches(&self, link: Link) -> bool
         ensures { IsTrue result
-            ↔ (HasLink self.now.layout link × IsWatched self.now.layout.links link) }
+            ↔ (HasGroupLink self.now.layout link × IsGroupLink self.now.layout.links link) }
     {
         match (link, self.links) {
-            (Link::Master(master), Links::Both | Links::Masters) => master < self.sources.masters(),
-            (Link::Port(port), Links::Both | Links::Ports) => port < self.map.ports() - 1,
-            (Link::Master(_), Links::Ports) | (Link::Port(_), Links::Masters) => false,
+            (Link::Master(master), GroupLinks::Both | GroupLinks::Masters) => master
+                < self.sources.masters(),
+            (Link::Port(port), GroupLinks::Both | GroupLinks::Ports) => port < self.map.ports() - 1,
+            (Link::Master(_), GroupLinks::Ports) | (Link::Port(_), GroupLinks::Masters) => false,
         }
     }
 
     /// The links that are watched.
-    pub fn links(&self) -> Links
+    pub fn links(&self) -> GroupLinks
         ensures { result ≡ self.now.layout.links }
     {
         self.links
     }
 
     /// The wide sources of the masters.
-    pub fn sources(&self) -> &Sources
+    pub fn sources(&self) -> &SourceOwners
         ensures { result.now ≡ self.now.layout.owners }
     {
         &self.sources
     }
 
     /// The address map of the ports.
-    pub fn map(&self) -> &Map
+    pub fn map(&self) -> &AddressMap
         ensures { result.now ≡ self.now.layout.ports }
     {
         &self.map
@@ -185,8 +186,8 @@ impl Watch {
 
     /// The bus of a link.
     pub fn bus(&self, link: Link) -> Bus
-        requires { HasLink self.now.layout link }
-        ensures { bus_bytes result ≡ bus_of self.now.layout link }
+        requires { HasGroupLink self.now.layout link }
+        ensures { bus_bytes result ≡ bus_in_group self.now.layout link }
     {
         self.sized();
         self.link(link).bus()
@@ -220,7 +221,7 @@ impl Watch {
 
     /// The messages under way at a link.
     pub(crate) fn link(&self, link: Link) -> &UnderWay
-        requires { HasLink self.now.layout link }
+        requires { HasGroupLink self.now.layout link }
         ensures { result.now ≡ under_in self.now link }
     {
         match link {
@@ -269,10 +270,10 @@ impl Watch {
 
     /// The port that requests at a link go to, of this address and size.
     pub(crate) fn port(&self, link: Link, address: u64, size: u8) -> usize
-        requires known { HasLink self.now.layout link }
+        requires known { HasGroupLink self.now.layout link }
         requires in_limit { size ≤ MAX_SIZE }
         ensures master { (number port : ℕ) → link ≡ Link.Master number
-            → (result ≡ port) ↔ RoutesBytes self.now.layout.ports address size port }
+            → (result ≡ port) ↔ RoutesBytesByRanges self.now.layout.ports address size port }
         ensures port { (number : ℕ) → link ≡ Link.Port number → result ≡ number }
         ensures in_ports { result < length self.now.slaves }
     {
@@ -284,9 +285,9 @@ impl Watch {
 
     /// The port of the request in flight of a wide source at a link.
     pub(crate) fn port_in_flight(&self, link: Link, wide: usize) -> usize
-        requires known { HasLink self.now.layout link }
+        requires known { HasGroupLink self.now.layout link }
         requires wide { wide < wides_in self.now }
-        ensures port { (plan : Plan) (beat : ReplyHead) → Suits plan self.now
+        ensures port { (plan : GroupPlan) (beat : ReplyHead) → SuitsGroup plan self.now
             → result ≡ port_of plan link (flight_in self.now link wide).turn (D beat) }
         ensures in_ports { result < length self.now.slaves }
     {
@@ -301,7 +302,7 @@ impl Watch {
     /// Whether the address map has bytes with the port of a link.
     pub(crate) fn is_at_port(&self, port: usize, address: u64, size: u8) -> bool
         requires { size ≤ MAX_SIZE }
-        ensures { IsTrue result ↔ RoutesBytes self.now.layout.ports address size port }
+        ensures { IsTrue result ↔ RoutesBytesByRanges self.now.layout.ports address size port }
     {
         self.map.route_bytes(address, size) == port
     }
@@ -309,16 +310,16 @@ impl Watch {
     /// Whether both sides are watched.
     pub(crate) fn watches_both(&self) -> bool
         ensures value { result ≡ are_both self.now.layout.links }
-        ensures both { IsTrue result ↔ (self.now.layout.links ≡ Links.Both) }
+        ensures both { IsTrue result ↔ (self.now.layout.links ≡ GroupLinks.Both) }
     {
-        matches!(self.links, Links::Both)
+        matches!(self.links, GroupLinks::Both)
     }
 
     /// Whether requests to a port are seen on both sides.
     fn crosses(&self, port: usize) -> bool
-        ensures { result ≡ crosses self.now.layout port }
+        ensures { result ≡ crosses_at_port self.now.layout port }
     {
-        matches!(self.links, Links::Both) && port < self.map.ports() - 1
+        matches!(self.links, GroupLinks::Both) && port < self.map.ports() - 1
     }
 
     /// Whether the reply that must come at a link is what a port gave.
@@ -343,7 +344,7 @@ impl Watch {
 
     /// Whether the slave of a port answers as the next beat of channel D crosses at a link.
     pub(crate) fn is_answering(&self, link: Link, port: usize) -> bool
-        requires known { HasLink self.now.layout link }
+        requires known { HasGroupLink self.now.layout link }
         ensures { result ≡ is_answering_in self.now link port }
     {
         self.takes_effect(link, port) && self.link(link).begins_reply()
@@ -358,7 +359,7 @@ impl Watch {
         port: usize,
         room: &'a mut Answer,
     ) -> Option<&'a Answer>
-        requires known { HasLink self.now.layout link }
+        requires known { HasGroupLink self.now.layout link }
         requires wide { wide < wides_in self.now }
         requires port { port < length self.now.slaves }
         ensures { option_map (λ answer. answer.now) result ≡ due_in self.now link wide port }
@@ -383,10 +384,10 @@ impl Watch {
     pub(crate) fn must<'a>(
         &'a self,
         link: Link,
-        place: Place,
+        place: FlightPlace,
         room: &'a mut Answer,
     ) -> Option<&'a Answer>
-        requires known { HasLink self.now.layout link }
+        requires known { HasGroupLink self.now.layout link }
         requires wide { place.wide < wides_in self.now }
         requires port { place.port < length self.now.slaves }
         ensures { option_map (λ answer. answer.now) result
@@ -409,7 +410,7 @@ impl Watch {
         lanes: &[u8],
         reply: &mut Pattern,
     )
-        requires known { HasLink self.now.layout link }
+        requires known { HasGroupLink self.now.layout link }
         requires wide { wide < wides_in self.now }
         requires fits { FitsReply (first_reply (under_in self.now link).replying) beat.now }
         requires ends { let under = under_in self.now link in IsTrue (ends_reply under.bus under.replying beat.now) }

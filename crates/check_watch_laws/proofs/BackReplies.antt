@@ -2,7 +2,7 @@
 use Rattle.std.proofs.Common.{◌≡◌, ◌∙◌, ℕ, ◌%◌, ◌^◌, true, false, if◌then◌else◌, List, [], ◌∷◌, ◌++◌, zip, take, Option, Some, None, refl, ap, sym, subst, append-nil}
 use Rattle.std.specs.Prelude.{◌==◌, ◌&&◌, IsSomeAnd}
 use Rattle.tl_types.specs.Request.{Request}
-use Rattle.check_cells.specs.Pattern.{Pattern, Fits}
+use Rattle.check_cells.specs.Pattern.{Pattern, FitsPattern}
 use Rattle.check_beats.specs.State.{ends_reply, reply_of}
 use Rattle.check_beats.specs.declared.beat.ReplyHead.{ReplyHead}
 use Rattle.check_flight.specs.declared.answer.Answer.{Answer}
@@ -13,10 +13,10 @@ use Rattle.check_flight.specs.Flight.Turn.{Asked}
 use Rattle.check_watch.specs.declared.beat.Beat.TheVariants.{D}
 use Rattle.check_watch.specs.declared.beat.Link.{Link}
 use Rattle.check_watch.specs.declared.beat.Link.TheVariants.{Master, Port}
-use Rattle.check_watch.specs.Lawful.{IsLawful}
-use Rattle.check_watch.specs.Past.{State, found_in, scene_of, state}
-use Rattle.check_watch.specs.Plan.{Plan, Layout, Sighting, side_of, number_of, wide_of, same_side, bus_of, HasLink, IsWatched}
-use Rattle.check_watch.specs.Plan.Side.{AtMasters, AtPorts}
+use Rattle.check_watch.specs.Lawful.{IsLawfulGroup}
+use Rattle.check_watch.specs.Past.{State, scene_found, scene_of, state}
+use Rattle.check_watch.specs.Plan.{GroupPlan, GroupLayout, Sighting, side_of, link_number, wide_of, same_side, bus_in_group, HasGroupLink, IsGroupLink}
+use Rattle.check_watch.specs.Plan.LinkSide.{AtMasters, AtPorts}
 use Rattle.check_watch.specs.Scene.{takes_effect, is_given}
 use Rattle.check_watch.proofs.InFlight.{reply_at}
 use Rattle.check_watch_laws.specs.Crossed.{AskSeen, ReplySeen, AreWatched, reply_beat, replying_at, begun_replies_at, asks, replies, exchanges}
@@ -66,7 +66,7 @@ last_given wide (x ∷ seen) [] last one all are = absurd all
 last_given wide (x ∷ seen) (g ∷ front) last one all are = last_given wide seen front last one all.1 are.1
 
 -- if a reply is not given by a port, the slave answers here
-effect_of : (layout : Layout) (link : Link) (port : ℕ) → is_given layout link port ≡ false
+effect_of : (layout : GroupLayout) (link : Link) (port : ℕ) → is_given layout link port ≡ false
     → takes_effect layout link port ≡ true
 effect_of layout (Port p) port is = refl
 effect_of layout (Master m) port is = ap (λ b. if b then false else true) is
@@ -76,12 +76,12 @@ first_entry other [] = other
 first_entry other (entry ∷ more) = entry
 
 -- the reply that is owed is the entry
-owed_entry : (plan : Plan) (port wide n : ℕ) (link : Link) (ask : Request) (due : Option Answer)
-    (entry : Request × Pattern) (more : List (Request × Pattern)) (reply : ReplySeen) → n ≡ number_of link
+owed_entry : (plan : GroupPlan) (port wide n : ℕ) (link : Link) (ask : Request) (due : Option Answer)
+    (entry : Request × Pattern) (more : List (Request × Pattern)) (reply : ReplySeen) → n ≡ link_number link
     → (port_for plan link ask == port) ≡ true
     → owed plan port wide (side_of link) (Asked n ask) due ≡ entry ∷ more → IsSourced (Asked n ask) due
     → IsEntry wide (record { link = link; ask = ask }, reply) entry
-    → IsSomeAnd due (λ answer. Fits answer.reply (reply.reply ask.address))
+    → IsSomeAnd due (λ answer. FitsPattern answer.reply (reply.reply ask.address))
 owed_entry plan port wide n link ask None entry more reply number goes is sourced one = cc
 owed_entry plan port wide n link ask (Some answer) entry more reply number goes is sourced one =
     let there : link_on (side_of link) n ≡ link = ap (λ k. link_on (side_of link) k) number ∙ own_link link in
@@ -92,16 +92,16 @@ owed_entry plan port wide n link ask (Some answer) entry more reply number goes 
     let same : own ≡ entry = ap (first_entry own) lists in
     let this : IsEntry wide (record { link = link; ask = ask }, reply) own =
     subst (λ e. IsEntry wide (record { link = link; ask = ask }, reply) e) (sym same) one in
-    subst (λ k. Fits (record answer.reply { source = k }) (reply.reply ask.address)) (sym sourced) this.fits
+    subst (λ k. FitsPattern (record answer.reply { source = k }) (reply.reply ask.address)) (sym sourced) this.fits
 
 -- ---- a reply that ends
 
-module _ (plan : Plan) (past : List Sighting) (watched : AreWatched plan.layout past) (lawful : IsLawful plan past)
-    (link : Link) (known : ℕ) (lanes : List ℕ) (has : HasLink plan.layout link)
-    (seen_here : IsWatched plan.layout.links link) (beat : ReplyHead) (ask : Request)
+module _ (plan : GroupPlan) (past : List Sighting) (watched : AreWatched plan.layout past) (lawful : IsLawfulGroup plan past)
+    (link : Link) (known : ℕ) (lanes : List ℕ) (has : HasGroupLink plan.layout link)
+    (seen_here : IsGroupLink plan.layout.links link) (beat : ReplyHead) (ask : Request)
     (in_flight : ((state plan past).flights (side_of link) (wide_of plan link beat.source)).turn ≡ Asked
-    (number_of link) ask)
-    (ends : ends_reply (bus_of plan.layout link) (replying_at plan.layout link past) beat ≡ true) where
+    (link_number link) ask)
+    (ends : ends_reply (bus_in_group plan.layout link) (replying_at plan.layout link past) beat ≡ true) where
   abbrev s : State
   s = state plan past
 
@@ -112,13 +112,13 @@ module _ (plan : Plan) (past : List Sighting) (watched : AreWatched plan.layout 
   turn = (s.flights (side_of link) own).turn
 
   abbrev found : ℕ
-  found = (found_in plan s link (D beat)).port
+  found = (scene_found plan s link (D beat)).port
 
   abbrev due : Option Answer
   due = (scene_of plan s link (D beat)).flight.due
 
   abbrev bus : ℕ
-  bus = bus_of plan.layout link
+  bus = bus_in_group plan.layout link
 
   abbrev pub ended_now : ReplySeen
   ended_now = record {
@@ -150,7 +150,7 @@ module _ (plan : Plan) (past : List Sighting) (watched : AreWatched plan.layout 
   pub memory_back : is_given plan.layout link found ≡ false
       → ((port : ℕ) → (history : List (Request × Pattern))
       × IsDueAt plan (reply_at link known lanes beat ∷ past) port history)
-      → IsSomeAnd due (λ answer. Fits answer.reply (ended_now.reply ask.address))
+      → IsSomeAnd due (λ answer. FitsPattern answer.reply (ended_now.reply ask.address))
   memory_back given memories =
       let linked = links_are plan past in
       let steps = in_step plan past lawful in
@@ -191,15 +191,15 @@ module _ (plan : Plan) (past : List Sighting) (watched : AreWatched plan.layout 
       let entry = last_entry_of own (at_port plan found (asks plan (side_of link) own past)
       (replies plan (side_of link) own past)) last was.front
       (owed plan found own (side_of link) turn due) was.matched entries in
-      owed_entry plan found own (number_of link) link ask due entry.0 entry.1 ended_now refl goes_so
+      owed_entry plan found own (link_number link) link ask due entry.0 entry.1 ended_now refl goes_so
       (ap (λ t. owed plan found own (side_of link) t due) (sym in_flight) ∙ entry.2)
       (sourced_late plan s past linked steps dues replayed link known lanes has seen_here beat ask in_flight) entry.3
 
 -- the reply that a port gave
-module _ (plan : Plan) (past : List Sighting) (lawful : IsLawful plan past) (m known : ℕ) (lanes : List ℕ)
+module _ (plan : GroupPlan) (past : List Sighting) (lawful : IsLawfulGroup plan past) (m known : ℕ) (lanes : List ℕ)
     (beat : ReplyHead) (ask : Request)
     (in_flight : ((state plan past).flights AtMasters (plan.wide m beat.source)).turn ≡ Asked m ask)
-    (ends : ends_reply (bus_of plan.layout (Master m)) (replying_at plan.layout (Master m) past) beat ≡ true)
+    (ends : ends_reply (bus_in_group plan.layout (Master m)) (replying_at plan.layout (Master m) past) beat ≡ true)
     (out : is_out plan (plan.wide m beat.source) ask ≡ true)
     (crossing : MessagesCross plan (reply_at (Master m) known lanes beat ∷ past) (plan.wide m beat.source)) where
   abbrev wide : ℕ
@@ -209,7 +209,7 @@ module _ (plan : Plan) (past : List Sighting) (lawful : IsLawful plan past) (m k
   story = story_at plan wide past
 
   abbrev width : ℕ
-  width = bus_of plan.layout (Master m)
+  width = bus_in_group plan.layout (Master m)
 
   abbrev got_now : ReplySeen
   got_now = record {

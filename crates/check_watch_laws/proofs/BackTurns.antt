@@ -3,7 +3,7 @@ use Rattle.std.proofs.Common.{◌≡◌, ◌∙◌, ℕ, suc, ◌+◌, ◌-◌, 
 use Rattle.std.specs.Prelude.{slice_range}
 use Rattle.std.specs.List.{AllByRecursion}
 use Rattle.tl_types.specs.Request.{Request}
-use Rattle.check_map.specs.Ranges.{RoutesBytes}
+use Rattle.check_map.specs.Ranges.{RoutesBytesByRanges}
 use Rattle.check_beats.specs.Form.{Continues, SameFields, SameReplyFields}
 use Rattle.check_beats.specs.Laws.{begun, begun_reply}
 use Rattle.check_beats.specs.Spelling.{AskBeat, ReplyBeat}
@@ -16,13 +16,13 @@ use Rattle.check_watch.specs.declared.beat.Beat.TheVariants.{A, D}
 use Rattle.check_watch.specs.declared.beat.Link.{Link}
 use Rattle.check_watch.specs.declared.beat.Link.TheVariants.{Master, Port}
 use Rattle.check_watch.specs.Allowed.{IsPlaced}
-use Rattle.check_watch.specs.Lawful.{IsLawful}
+use Rattle.check_watch.specs.Lawful.{IsLawfulGroup}
 use Rattle.check_watch.specs.Past.{state}
-use Rattle.check_watch.specs.Plan.{Plan, Sighting, Side, side_of, number_of, wide_of, is_link, bus_of}
-use Rattle.check_watch.specs.Plan.Side.{AtMasters, AtPorts}
+use Rattle.check_watch.specs.Plan.{GroupPlan, Sighting, LinkSide, side_of, link_number, wide_of, is_link, bus_in_group}
+use Rattle.check_watch.specs.Plan.LinkSide.{AtMasters, AtPorts}
 use Rattle.check_watch.proofs.InFlight.{ask_at, reply_at, of_own}
 use Rattle.check_watch_laws.specs.Crossed.{AskSeen, ReplySeen, ask_beat, reply_beat, more_asks, asks_over, asking_at, begun_at, replying_at, begun_replies_at, ask_ended, reply_ended, asks, replies, next_answered}
-use Rattle.check_watch_laws.specs.Messages.{Answers, IsAnswered, AsksAt, RepliesAt, TakeTurns, AreMessages, IsInPlace}
+use Rattle.check_watch_laws.specs.Messages.{IsReplyBeatTo, IsAnswered, AsksAt, RepliesAt, TakeTurns, AreMessages, IsInPlace}
 use Rattle.check_watch_laws.proofs.BackForm.{asks_here, replies_here}
 use Rattle.check_watch_laws.proofs.Begun.{IsAsking, asking_begun}
 use Rattle.check_watch_laws.proofs.Crossing.{last_of_all}
@@ -35,7 +35,7 @@ use Rattle.check_watch_laws.proofs.Turns.{link_on}
 
 -- ---- what one beat adds to the messages of its source
 
-module _ (plan : Plan) (past : List Sighting) (link : Link) (known : ℕ) (lanes : List ℕ) where
+module _ (plan : GroupPlan) (past : List Sighting) (link : Link) (known : ℕ) (lanes : List ℕ) where
   pub asks_with_ask : (beat : AskHead) → asks plan (side_of link) (wide_of plan link beat.source)
       (ask_at link known lanes beat ∷ past) ≡ asks plan (side_of link) (wide_of plan link beat.source) past
       ++ ask_ended plan.layout past (ask_at link known lanes beat) (A beat)
@@ -82,7 +82,7 @@ first_of_kept kept [] v heads is = absurd (heads.some v is refl)
 first_of_kept kept (f ∷ beats) v heads is =
     (f, beats, refl, (heads.each 0 f refl v.first (ap first_ask is)).source)
 
-module _ (plan : Plan) (past : List Sighting) (lawful : IsLawful plan past) (link : Link) (known : ℕ) (lanes : List ℕ)
+module _ (plan : GroupPlan) (past : List Sighting) (lawful : IsLawfulGroup plan past) (link : Link) (known : ℕ) (lanes : List ℕ)
     (beat : AskHead) (heads : (l : Link) → AskHeads (asking_at plan.layout l past) (begun_at plan.layout l past))
     (same : Continues SameFields (first_ask (asking_at plan.layout link past)) beat)
     (turns : TakeTurns plan (ask_at link known lanes beat ∷ past) (side_of link) (wide_of plan link beat.source)) where
@@ -93,11 +93,11 @@ module _ (plan : Plan) (past : List Sighting) (lawful : IsLawful plan past) (lin
   turn = ((state plan past).flights (side_of link) own).turn
 
   abbrev ends_now : Bool
-  ends_now = ends_ask (bus_of plan.layout link) (asking_at plan.layout link past) beat
+  ends_now = ends_ask (bus_in_group plan.layout link) (asking_at plan.layout link past) beat
 
   abbrev ask_now : Request
-  ask_now = ask_of (bus_of plan.layout link) (asking_at plan.layout link past) beat
-      (take (bus_of plan.layout link) lanes)
+  ask_now = ask_of (bus_in_group plan.layout link) (asking_at plan.layout link past) beat
+      (take (bus_in_group plan.layout link) lanes)
 
   step : InStep (side_of link) turn (asks plan (side_of link) own past) (replies plan (side_of link) own past)
   step = in_step plan past lawful (side_of link) own
@@ -131,18 +131,18 @@ module _ (plan : Plan) (past : List Sighting) (lawful : IsLawful plan past) (lin
   -- its own request is under way, if it does not end it
   asks_own : ends_now ≡ false → AsksAt plan (ask_at link known lanes beat ∷ past) own link
   asks_own goes_on =
-      let b = ask_beat (bus_of plan.layout link) beat lanes in
+      let b = ask_beat (bus_in_group plan.layout link) beat lanes in
       let parts = first_ask_in (asking_at plan.layout link past) (begun_at plan.layout link past) b (heads link) same in
       record {
         first = parts.0;
         more = parts.1;
-        begun = ap (λ l. begun (bus_of plan.layout link) l) (asks_here plan.layout past (ask_at link known lanes beat))
+        begun = ap (λ l. begun (bus_in_group plan.layout link) l) (asks_here plan.layout past (ask_at link known lanes beat))
             ∙ ap (λ e. if e then [] else begun_at plan.layout link past ++ b ∷ []) goes_on ∙ parts.2;
         of = ap (λ n. wide_of plan link n) parts.3;
       }
 
   -- a request at another link stays under way
-  asks_elsewhere : (at : Link) → is_link link (side_of at) (number_of at) ≡ false → IsAsking plan (state plan past) own at
+  asks_elsewhere : (at : Link) → is_link link (side_of at) (link_number at) ≡ false → IsAsking plan (state plan past) own at
       → AsksAt plan (ask_at link known lanes beat ∷ past) own at
   asks_elsewhere at other was_so =
       let parts = first_of_kept (asking_at plan.layout at past) (begun_at plan.layout at past) was_so.0 (heads at)
@@ -150,8 +150,8 @@ module _ (plan : Plan) (past : List Sighting) (lawful : IsLawful plan past) (lin
       record {
         first = parts.0;
         more = parts.1;
-        begun = ap (λ e. begun (bus_of plan.layout at) (if e
-            then more_asks (bus_of plan.layout at) (ask_at link known lanes beat) (A beat) (asks_over plan.layout at past)
+        begun = ap (λ e. begun (bus_in_group plan.layout at) (if e
+            then more_asks (bus_in_group plan.layout at) (ask_at link known lanes beat) (A beat) (asks_over plan.layout at past)
             else asks_over plan.layout at past)) other ∙ parts.2;
         of = ap (λ n. wide_of plan at n) parts.3 ∙ was_so.2;
       }
@@ -175,7 +175,7 @@ module _ (plan : Plan) (past : List Sighting) (lawful : IsLawful plan past) (lin
           let even = turns.begins_answered link refl (asks_own e) in
           absurd (omega (arith, was, ap (λ t. length (pending (side_of link) t)) is, now false e, answered_now, even))
       go (Asking n) is ends e =
-          other (is_link link (side_of (link_on (side_of link) n)) (number_of (link_on (side_of link) n))) refl ends e
+          other (is_link link (side_of (link_on (side_of link) n)) (link_number (link_on (side_of link) n))) refl ends e
         where
           at : Link
           at = link_on (side_of link) n
@@ -187,12 +187,12 @@ module _ (plan : Plan) (past : List Sighting) (lawful : IsLawful plan past) (lin
           clash here =
               let some : asking_at plan.layout link past ≡ Some under_way.0 =
               sym (ap (λ (u : Under). u.asking) (links_are plan past link))
-              ∙ ap (λ (l : Link). ((state plan past).links (side_of l) (number_of l)).asking) here ∙ under_way.1 in
+              ∙ ap (λ (l : Link). ((state plan past).links (side_of l) (link_number l)).asking) here ∙ under_way.1 in
               let never : None ≡ Some under_way.0 = sym empty ∙ some in
               absurd (cc)
 
           other : (here : Bool) → is_link link (side_of (link_on (side_of link) n))
-              (number_of (link_on (side_of link) n)) ≡ here → (ends : Bool)
+              (link_number (link_on (side_of link) n)) ≡ here → (ends : Bool)
               → ends_now ≡ ends → Asking n ≡ Idle
           other true here ends e = absurd (clash (same_link link (link_on (side_of link) n) here))
           other false here true e =
@@ -211,20 +211,20 @@ module _ (plan : Plan) (past : List Sighting) (lawful : IsLawful plan past) (lin
               (asks_own e) (asks_elsewhere (link_on (side_of link) n) here under_way)))
 
 -- a request begins at its port
-pub placed_back : (plan : Plan) (past : List Sighting) (link : Link) (known : ℕ) (lanes : List ℕ) (beat : AskHead)
+pub placed_back : (plan : GroupPlan) (past : List Sighting) (link : Link) (known : ℕ) (lanes : List ℕ) (beat : AskHead)
     → AskHeads (asking_at plan.layout link past) (begun_at plan.layout link past)
     → AreMessages plan (ask_at link known lanes beat ∷ past) → asking_at plan.layout link past ≡ None
     → IsPlaced plan.layout link beat
 placed_back plan past (Master m) known lanes beat heads messages empty = tt
 placed_back plan past (Port p) known lanes beat heads messages empty =
-    go (ends_ask (bus_of plan.layout (Port p)) (asking_at plan.layout (Port p) past) beat) refl
+    go (ends_ask (bus_in_group plan.layout (Port p)) (asking_at plan.layout (Port p) past) beat) refl
   where
-    go : (ends : Bool) → ends_ask (bus_of plan.layout (Port p)) (asking_at plan.layout (Port p) past) beat ≡ ends
-        → RoutesBytes plan.layout.ports beat.address beat.size p
+    go : (ends : Bool) → ends_ask (bus_in_group plan.layout (Port p)) (asking_at plan.layout (Port p) past) beat ≡ ends
+        → RoutesBytesByRanges plan.layout.ports beat.address beat.size p
     go false e =
-        let b = ask_beat (bus_of plan.layout (Port p)) beat lanes in
+        let b = ask_beat (bus_in_group plan.layout (Port p)) beat lanes in
         let begun_is : begun_at plan.layout (Port p) (ask_at (Port p) known lanes beat ∷ past) ≡ b ∷ [] =
-        ap (λ l. begun (bus_of plan.layout (Port p)) l) (asks_here plan.layout past (ask_at (Port p) known lanes beat))
+        ap (λ l. begun (bus_in_group plan.layout (Port p)) l) (asks_here plan.layout past (ask_at (Port p) known lanes beat))
         ∙ ap (λ h. if h then [] else begun_at plan.layout (Port p) past ++ b ∷ []) e
         ∙ ap (λ l. l ++ b ∷ []) (heads.empty empty) in
         messages.begun_placed p b [] begun_is
@@ -233,8 +233,8 @@ placed_back plan past (Port p) known lanes beat heads messages empty =
         let side = side_of (Port p) in
         let seen : AskSeen = record {
           link = Port p;
-          ask = ask_of (bus_of plan.layout (Port p)) (asking_at plan.layout (Port p) past) beat
-              (take (bus_of plan.layout (Port p)) lanes);
+          ask = ask_of (bus_in_group plan.layout (Port p)) (asking_at plan.layout (Port p) past) beat
+              (take (bus_in_group plan.layout (Port p)) lanes);
         } in
         let all : AllByRecursion (IsInPlace plan.layout) (asks plan side wide past ++ seen ∷ []) =
         subst (λ l. AllByRecursion (IsInPlace plan.layout) l)
@@ -244,7 +244,7 @@ placed_back plan past (Port p) known lanes beat heads messages empty =
 
 -- ---- replies
 
-number_on : (side : Side) (n : ℕ) → number_of (link_on side n) ≡ n
+number_on : (side : LinkSide) (n : ℕ) → link_number (link_on side n) ≡ n
 number_on AtMasters n = refl
 number_on AtPorts n = refl
 
@@ -253,7 +253,7 @@ first_seen other [] = other
 first_seen other (seen ∷ more) = seen
 
 -- the request that the next reply answers is the one that is pending
-next_pending : (plan : Plan) (past : List Sighting) (side : Side) (wide : ℕ) (turn : Turn)
+next_pending : (plan : GroupPlan) (past : List Sighting) (side : LinkSide) (wide : ℕ) (turn : Turn)
     → InStep side turn (asks plan side wide past) (replies plan side wide past)
     → next_answered plan side wide past ≡ pending side turn
 next_pending plan past side wide turn step =
@@ -273,7 +273,7 @@ first_reply_in : (kept : Option ReplyBegun) (beats : List ReplyBeat) (b : ReplyB
     → Continues SameReplyFields (first_reply kept) b.head
     → (first : ReplyBeat) × (more : List ReplyBeat) × (beats ++ b ∷ [] ≡ first ∷ more)
     × (first.head.source ≡ b.head.source)
-    × ((ask : Request) → Answers ask first.head → Answers ask b.head)
+    × ((ask : Request) → IsReplyBeatTo ask first.head → IsReplyBeatTo ask b.head)
 first_reply_in kept [] b heads same = (b, [], refl, refl, λ ask answers. answers)
 first_reply_in None (f ∷ beats) b heads same = let none : f ∷ beats ≡ [] = heads.empty refl in absurd (cc)
 first_reply_in (Some v) (f ∷ beats) b heads same =
@@ -289,7 +289,7 @@ first_reply_in (Some v) (f ∷ beats) b heads same =
       },
     )
 
-module _ (plan : Plan) (past : List Sighting) (lawful : IsLawful plan past) (link : Link) (known : ℕ) (lanes : List ℕ)
+module _ (plan : GroupPlan) (past : List Sighting) (lawful : IsLawfulGroup plan past) (link : Link) (known : ℕ) (lanes : List ℕ)
     (beat : ReplyHead) (heads : ReplyHeads (replying_at plan.layout link past) (begun_replies_at plan.layout link past))
     (same : Continues SameReplyFields (first_reply (replying_at plan.layout link past)) beat)
     (turns : TakeTurns plan (reply_at link known lanes beat ∷ past) (side_of link) (wide_of plan link beat.source)) where
@@ -300,7 +300,7 @@ module _ (plan : Plan) (past : List Sighting) (lawful : IsLawful plan past) (lin
   at = ((state plan past).flights (side_of link) mine).turn
 
   abbrev bus : ℕ
-  bus = bus_of plan.layout link
+  bus = bus_in_group plan.layout link
 
   abbrev ends_here : Bool
   ends_here = ends_reply bus (replying_at plan.layout link past) beat
@@ -324,19 +324,19 @@ module _ (plan : Plan) (past : List Sighting) (lawful : IsLawful plan past) (lin
   -- the request in flight that has ended, with what the beat answers
   pub record IsAnswering : Type 0 where
     pub ask : Request
-    pub in_flight : at ≡ Asked (number_of link) ask
-    pub answers : Answers ask beat
+    pub in_flight : at ≡ Asked (link_number link) ask
+    pub answers : IsReplyBeatTo ask beat
 
   -- a pending request at this link is the one in flight
   of_pending : (t : Turn) (ask : Request) → pending (side_of link) t ≡ record { link = link; ask = ask } ∷ []
-      → t ≡ Asked (number_of link) ask
+      → t ≡ Asked (link_number link) ask
   of_pending Idle ask is = cc
   of_pending (Asking n) ask is = cc
   of_pending (Asked n other) ask is =
       let seen = ap (first_seen (record { link = link; ask = ask })) is in
-      let number : n ≡ number_of link =
-      sym (number_on (side_of link) n) ∙ ap (λ (a : AskSeen). number_of a.link) seen in
-      ap (λ k. Asked k other) number ∙ ap (λ (a : AskSeen). Asked (number_of link) a.ask) seen
+      let number : n ≡ link_number link =
+      sym (number_on (side_of link) n) ∙ ap (λ (a : AskSeen). link_number a.link) seen in
+      ap (λ k. Asked k other) number ∙ ap (λ (a : AskSeen). Asked (link_number link) a.ask) seen
 
   by_end : (ends : Bool) → ends_here ≡ ends → IsAnswering
   by_end false e =
@@ -345,7 +345,7 @@ module _ (plan : Plan) (past : List Sighting) (lawful : IsLawful plan past) (lin
       let there : RepliesAt plan (reply_at link known lanes beat ∷ past) mine link = record {
         first = parts.0;
         more = parts.1;
-        begun = ap (λ l. begun_reply (bus_of plan.layout link) l)
+        begun = ap (λ l. begun_reply (bus_in_group plan.layout link) l)
             (replies_here plan.layout past (reply_at link known lanes beat))
             ∙ ap (λ h. if h then [] else message) e ∙ parts.2;
         of = ap (λ n. wide_of plan link n) parts.3;
@@ -402,11 +402,11 @@ module _ (plan : Plan) (past : List Sighting) (lawful : IsLawful plan past) (lin
           ∙ zip_more kept.done answered last reply_now (sym kept.counted)) turns.answered in
           let one : IsAnswered (last, reply_now) =
           last_of_all IsAnswered (zip kept.done answered) (last, reply_now) all in
-          let number : n ≡ number_of link = sym (number_on (side_of link) n) ∙ ap (λ l. number_of l) (sym one.link) in
+          let number : n ≡ link_number link = sym (number_on (side_of link) n) ∙ ap (λ l. link_number l) (sym one.link) in
           record {
             ask = ask;
             in_flight = is ∙ ap (λ k. Asked k ask) number;
-            answers = last_of_all (λ (b : ReplyBeat). Answers ask b.head) (begun_replies_at plan.layout link past)
+            answers = last_of_all (λ (b : ReplyBeat). IsReplyBeatTo ask b.head) (begun_replies_at plan.layout link past)
                 last_beat one.beats;
           }
 

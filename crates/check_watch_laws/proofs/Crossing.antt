@@ -4,8 +4,8 @@ use Rattle.std.specs.Prelude.{◌==◌, ◌&&◌, nat_lt}
 use Rattle.std.specs.List.{AllByRecursion}
 use Rattle.tl_types.specs.Request.{Request}
 use Rattle.tl_map.specs.declared.map.Range.{Range}
-use Rattle.check_map.specs.Owner.{IsWide}
-use Rattle.check_map.specs.Ranges.{PortHolds, RoutesBytes}
+use Rattle.check_map.specs.Owner.{IsWideSource}
+use Rattle.check_map.specs.Ranges.{PortHolds, RoutesBytesByRanges}
 use Rattle.check_map.proofs.Kept.{one_owner}
 use Rattle.check_map.proofs.Overlaps.{port_within}
 use Rattle.check_cells.specs.Pattern.{Pattern}
@@ -20,16 +20,16 @@ use Rattle.check_watch.specs.declared.beat.Beat.{Beat}
 use Rattle.check_watch.specs.declared.beat.Beat.TheVariants.{A, D}
 use Rattle.check_watch.specs.declared.beat.Link.{Link}
 use Rattle.check_watch.specs.declared.beat.Link.TheVariants.{Master, Port}
-use Rattle.check_watch.specs.declared.links.Links.TheVariants.{Both}
+use Rattle.check_watch.specs.declared.links.GroupLinks.TheVariants.{Both}
 use Rattle.check_watch.specs.Allowed.{IsAskedAs, IsMust, IsAllowedAsk, IsAllowedReply}
-use Rattle.check_watch.specs.Lawful.{IsLawful, IsAllowed}
+use Rattle.check_watch.specs.Lawful.{IsLawfulGroup, IsAllowed}
 use Rattle.check_watch.specs.Past.{State, port_in, scene_of, state, state_after}
-use Rattle.check_watch.specs.Plan.{Plan, IsPlan, Sighting, Side, side_of, number_of, is_of, are_both, bus_of, HasLink, HasSource, seen_at}
-use Rattle.check_watch.specs.Plan.Side.{AtMasters, AtPorts}
+use Rattle.check_watch.specs.Plan.{GroupPlan, IsGroupPlan, Sighting, LinkSide, side_of, link_number, is_of, are_both, bus_in_group, HasGroupLink, HasSource, seen_at}
+use Rattle.check_watch.specs.Plan.LinkSide.{AtMasters, AtPorts}
 use Rattle.check_watch.specs.Scene.{ask_by, turn_by, captured, flight_after, is_given, given_by}
 use Rattle.check_watch.proofs.InFlight.{ask_at, reply_at}
 use Rattle.check_watch_laws.specs.Crossed.{AskSeen, ReplySeen, AreWatched, reply_beat, asking_at, replying_at, begun_replies_at, ask_ended, reply_ended, asks, replies, exchanges}
-use Rattle.check_watch_laws.specs.Crossings.{IsOwned, answered_from_outside, sent_out, requests_of, AreGiven, MessagesCross}
+use Rattle.check_watch_laws.specs.Crossings.{IsOfMaster, answered_from_outside, sent_out, requests_of, AreGiven, MessagesCross}
 use Rattle.check_watch_laws.proofs.Buses.{ask_on_bus, reply_on_bus}
 use Rattle.check_watch_laws.proofs.Flights.{pending, InStep, nothing_pending, in_step}
 use Rattle.check_watch_laws.proofs.Links.{links_are}
@@ -46,59 +46,59 @@ last_of_all P (y ∷ xs) x all = last_of_all P xs x all.1
 -- ---- owners
 
 -- a source at a master's link is one of this master, with this wide source
-wide_here : (plan : Plan) → IsPlan plan → (m source : ℕ) → HasSource plan.layout (Master m) source
-    → IsWide plan.layout.owners m source (plan.wide m source)
+wide_here : (plan : GroupPlan) → IsGroupPlan plan → (m source : ℕ) → HasSource plan.layout (Master m) source
+    → IsWideSource plan.layout.owners m source (plan.wide m source)
 wide_here plan is m source has =
-    subst (λ w. IsWide plan.layout.owners m source w) (sym (is.wide m source has.0 has.1)) has.1
+    subst (λ w. IsWideSource plan.layout.owners m source w) (sym (is.wide m source has.0 has.1)) has.1
 
-pub asks_owned : (plan : Plan) → IsPlan plan → (past : List Sighting) → IsLawful plan past → (wide : ℕ)
-    → AllByRecursion (IsOwned plan.layout wide) (asks plan AtMasters wide past)
+pub asks_owned : (plan : GroupPlan) → IsGroupPlan plan → (past : List Sighting) → IsLawfulGroup plan past → (wide : ℕ)
+    → AllByRecursion (IsOfMaster plan.layout wide) (asks plan AtMasters wide past)
 asks_owned plan is [] lawful wide = tt
 asks_owned plan is (x ∷ past) lawful wide = go x.link x.beat lawful.1 (asks_owned plan is past lawful.0 wide)
   where
-    none : AllByRecursion (IsOwned plan.layout wide) (asks plan AtMasters wide past)
-        → AllByRecursion (IsOwned plan.layout wide) (asks plan AtMasters wide past ++ [])
-    none before = subst (λ l. AllByRecursion (IsOwned plan.layout wide) l)
+    none : AllByRecursion (IsOfMaster plan.layout wide) (asks plan AtMasters wide past)
+        → AllByRecursion (IsOfMaster plan.layout wide) (asks plan AtMasters wide past ++ [])
+    none before = subst (λ l. AllByRecursion (IsOfMaster plan.layout wide) l)
         (sym (append-nil (asks plan AtMasters wide past))) before
 
     go : (link : Link) (beat : Beat) → IsAllowed plan
         (scene_of plan (state plan past) link beat) (seen_at link beat x.known x.lanes)
-        → AllByRecursion (IsOwned plan.layout wide) (asks plan AtMasters wide past)
-        → AllByRecursion (IsOwned plan.layout wide)
+        → AllByRecursion (IsOfMaster plan.layout wide) (asks plan AtMasters wide past)
+        → AllByRecursion (IsOfMaster plan.layout wide)
         (if is_of plan (seen_at link beat x.known x.lanes) AtMasters wide then asks plan AtMasters wide past
         ++ ask_ended plan.layout past (seen_at link beat x.known x.lanes) beat else asks plan AtMasters wide past)
     go (Port p) beat allowed before = before
     go (Master m) (D beat) allowed before = by_source (plan.wide m beat.source == wide)
       where
-        by_source : (of : Bool) → AllByRecursion (IsOwned plan.layout wide)
+        by_source : (of : Bool) → AllByRecursion (IsOfMaster plan.layout wide)
             (if of then asks plan AtMasters wide past ++ [] else asks plan AtMasters wide past)
         by_source true = none before
         by_source false = before
     go (Master m) (A beat) allowed before = by_source (plan.wide m beat.source == wide) refl
       where
         by_end : (plan.wide m beat.source == wide) ≡ true → (ask : Request) → ask.source ≡ beat.source → (ends : Bool)
-            → AllByRecursion (IsOwned plan.layout wide)
+            → AllByRecursion (IsOfMaster plan.layout wide)
             (asks plan AtMasters wide past ++ (if ends then record { link = Master m; ask = ask } ∷ [] else []))
         by_end so ask source false = none before
-        by_end so ask source true = all_more (IsOwned plan.layout wide) (asks plan AtMasters wide past)
+        by_end so ask source true = all_more (IsOfMaster plan.layout wide) (asks plan AtMasters wide past)
             (record { link = Master m; ask = ask }) before (
               m,
               refl,
-              subst (λ n. IsWide plan.layout.owners m n wide) (sym source)
-                  (subst (λ w. IsWide plan.layout.owners m beat.source w)
+              subst (λ n. IsWideSource plan.layout.owners m n wide) (sym source)
+                  (subst (λ w. IsWideSource plan.layout.owners m beat.source w)
                   (eqb-true (plan.wide m beat.source) wide so) (wide_here plan is m beat.source allowed.source)),
             )
 
         by_source : (of : Bool) → (plan.wide m beat.source == wide) ≡ of
-            → AllByRecursion (IsOwned plan.layout wide)
+            → AllByRecursion (IsOfMaster plan.layout wide)
             (if of then asks plan AtMasters wide past
             ++ ask_ended plan.layout past (ask_at (Master m) x.known x.lanes beat) (A beat)
             else asks plan AtMasters wide past)
         by_source false so = before
         by_source true so = by_end so
-            (ask_of (bus_of plan.layout (Master m)) (asking_at plan.layout (Master m) past) beat
-            (take (bus_of plan.layout (Master m)) x.lanes)) refl
-            (ends_ask (bus_of plan.layout (Master m)) (asking_at plan.layout (Master m) past) beat)
+            (ask_of (bus_in_group plan.layout (Master m)) (asking_at plan.layout (Master m) past) beat
+            (take (bus_in_group plan.layout (Master m)) x.lanes)) refl
+            (ends_ask (bus_in_group plan.layout (Master m)) (asking_at plan.layout (Master m) past) beat)
 
 -- ---- ports that have links
 
@@ -109,14 +109,14 @@ holds_within ports address size port held = port_within ports port held.place he
 
 -- if some range holds the bytes, the port of the bytes has a link
 goes_out_by : (ports : List (List Range)) (address size port route : ℕ) → port < length ports
-    → RoutesBytes ports address size port → RoutesBytes ports address size route → route < length ports
+    → RoutesBytesByRanges ports address size port → RoutesBytesByRanges ports address size route → route < length ports
 goes_out_by ports address size port route within at (inl held) = holds_within ports address size route held
 goes_out_by ports address size port route within (inr none) (inr nowhere) = absurd (omega (arith, within, none.0))
 goes_out_by ports address size port route within (inl held) (inr nowhere) = absurd (nowhere.1 port held)
 
 -- ---- one beat more
 
-abbrev pub story_at : Plan → ℕ → List Sighting → Story
+abbrev pub story_at : GroupPlan → ℕ → List Sighting → Story
 story_at plan wide past = record {
   sent = asks plan AtMasters wide past;
   collected = replies plan AtMasters wide past;
@@ -124,19 +124,19 @@ story_at plan wide past = record {
   gave = replies plan AtPorts wide past;
 }
 
-abbrev pub AllStand : Plan → State → List Sighting → Type 0
+abbrev pub AllStand : GroupPlan → State → List Sighting → Type 0
 AllStand plan s past =
     (wide : ℕ) → Stands plan wide (story_at plan wide past) (s.flights AtMasters wide).turn (s.crossings wide)
     (s.flights AtPorts wide).turn
 
-at_rest : (plan : Plan) (wide : ℕ) (story : Story) (n : ℕ) (turn : Turn) (crossing : Crossing) (there : Turn)
+at_rest : (plan : GroupPlan) (wide : ℕ) (story : Story) (n : ℕ) (turn : Turn) (crossing : Crossing) (there : Turn)
     → (turn ≡ Idle) ⊎ (turn ≡ Asking n) → Stands plan wide story turn crossing there → IsAtRest plan wide story there
 at_rest plan wide story n turn crossing there (inl is) stands =
     subst (λ t. Stands plan wide story t crossing there) is stands
 at_rest plan wide story n turn crossing there (inr is) stands =
     subst (λ t. Stands plan wide story t crossing there) is stands
 
-counted_free : (side : Side) (turn : Turn) (asked : List AskSeen) (answered : List ReplySeen)
+counted_free : (side : LinkSide) (turn : Turn) (asked : List AskSeen) (answered : List ReplySeen)
     → InStep side turn asked answered → pending side turn ≡ [] → length asked ≡ length answered
 counted_free side turn asked answered step none =
     ap (λ (l : List AskSeen). length l) (step.asks_are ∙ ap (λ l. step.done ++ l) none ∙ append-nil step.done)
@@ -157,48 +157,48 @@ turn_after : (ends : Bool) (flight : Flight)
 turn_after true flight = refl
 turn_after false flight = refl
 
-module _ (plan : Plan) (is_plan : IsPlan plan) (both : plan.layout.links ≡ Both) (past : List Sighting)
-    (lawful : IsLawful plan past) (before : AllStand plan (state plan past) past) (known : ℕ) (lanes : List ℕ) where
+module _ (plan : GroupPlan) (is_plan : IsGroupPlan plan) (both : plan.layout.links ≡ Both) (past : List Sighting)
+    (lawful : IsLawfulGroup plan past) (before : AllStand plan (state plan past) past) (known : ℕ) (lanes : List ℕ) where
   abbrev s : State
   s = state plan past
 
   -- the request and the reply that a beat ends at a link, with the lanes of its bus
   abbrev asked_here : Link → AskHead → Request
-  asked_here link beat = ask_of (bus_of plan.layout link) (asking_at plan.layout link past) beat
-      (take (bus_of plan.layout link) lanes)
+  asked_here link beat = ask_of (bus_in_group plan.layout link) (asking_at plan.layout link past) beat
+      (take (bus_in_group plan.layout link) lanes)
 
   abbrev got_here : Link → ReplyHead → ℕ → Pattern
-  got_here link beat address = reply_of (bus_of plan.layout link) (replying_at plan.layout link past) address beat
-      (known % 2 ^ bus_of plan.layout link) (take (bus_of plan.layout link) lanes)
+  got_here link beat address = reply_of (bus_in_group plan.layout link) (replying_at plan.layout link past) address beat
+      (known % 2 ^ bus_in_group plan.layout link) (take (bus_in_group plan.layout link) lanes)
 
   abbrev reply_here : Link → ReplyHead → ReplySeen
   reply_here link beat = record {
     link = link;
     reply = λ address. got_here link beat address;
-    beats = begun_replies_at plan.layout link past ++ reply_beat (bus_of plan.layout link) beat known lanes ∷ [];
+    beats = begun_replies_at plan.layout link past ++ reply_beat (bus_in_group plan.layout link) beat known lanes ∷ [];
   }
 
   abbrev ends_ask_here : Link → AskHead → Bool
-  ends_ask_here link beat = ends_ask (bus_of plan.layout link) (asking_at plan.layout link past) beat
+  ends_ask_here link beat = ends_ask (bus_in_group plan.layout link) (asking_at plan.layout link past) beat
 
   abbrev ends_reply_here : Link → ReplyHead → Bool
-  ends_reply_here link beat = ends_reply (bus_of plan.layout link) (replying_at plan.layout link past) beat
+  ends_reply_here link beat = ends_reply (bus_in_group plan.layout link) (replying_at plan.layout link past) beat
 
   -- what the judge keeps at a link says the same
   ask_is : (link : Link) (beat : AskHead)
-      → ask_of (bus_of plan.layout link) (asking_at plan.layout link past) beat lanes ≡ asked_here link beat
+      → ask_of (bus_in_group plan.layout link) (asking_at plan.layout link past) beat lanes ≡ asked_here link beat
   ask_is link beat = sym (ask_on_bus plan.layout link (asking_at plan.layout link past) beat lanes)
 
   got_is : (link : Link) (beat : ReplyHead) (turn : Turn) (n : ℕ) (ask : Request) → turn ≡ Asked n ask
-      → captured (s.links (side_of link) (number_of link)) turn beat known lanes ≡ got_here link beat ask.address
+      → captured (s.links (side_of link) (link_number link)) turn beat known lanes ≡ got_here link beat ask.address
   got_is link beat turn n ask is =
-      ap (λ t. captured (s.links (side_of link) (number_of link)) t beat known lanes) is
+      ap (λ t. captured (s.links (side_of link) (link_number link)) t beat known lanes) is
       ∙ ap (λ (u : Under). captured u (Asked n ask) beat known lanes) (links_are plan past link)
       ∙ sym (reply_on_bus plan.layout link (replying_at plan.layout link past) ask.address beat known lanes)
 
   ends_is : (link : Link) (beat : ReplyHead)
-      → ends_reply (s.links (side_of link) (number_of link)).bus
-      (s.links (side_of link) (number_of link)).replying beat ≡ ends_reply_here link beat
+      → ends_reply (s.links (side_of link) (link_number link)).bus
+      (s.links (side_of link) (link_number link)).replying beat ≡ ends_reply_here link beat
   ends_is link beat = ap (λ (u : Under). ends_reply u.bus u.replying beat) (links_are plan past link)
 
   -- ---- at masters' links
@@ -280,9 +280,9 @@ module _ (plan : Plan) (is_plan : IsPlan plan) (both : plan.layout.links ≡ Bot
     -- its source is that of the request, since both have this wide source
     got_own : beat.source ≡ got_answers.0.source
     got_own =
-        let owned = last_of_all (IsOwned plan.layout getter) got_step.done
+        let owned = last_of_all (IsOfMaster plan.layout getter) got_step.done
         (record { link = Master m; ask = got_answers.0 })
-        (subst (λ l. AllByRecursion (IsOwned plan.layout getter) l) got_asked
+        (subst (λ l. AllByRecursion (IsOfMaster plan.layout getter) l) got_asked
         (asks_owned plan is_plan past lawful getter)) in
         (one_owner plan.layout.owners is_plan.owners m beat.source owned.0 got_answers.0.source getter
         (wide_here plan is_plan m beat.source allowed.source) owned.2).1
@@ -375,7 +375,7 @@ module _ (plan : Plan) (is_plan : IsPlan plan) (both : plan.layout.links ≡ Bot
         (ap (λ (u : Under). ask_of u.bus u.asking beat lanes) (links_are plan past (Port p)) ∙ ask_is (Port p) beat)
         sent.0 in
         let found = asked_as (s.flights AtMasters took).turn ask asked in
-        let placed : RoutesBytes plan.layout.ports beat.address beat.size p =
+        let placed : RoutesBytesByRanges plan.layout.ports beat.address beat.size p =
         beat_placed plan s (asks_placed_so plan past lawful) (Port p) known lanes beat allowed in
         let within : plan.route beat.address beat.size < length plan.layout.ports =
         goes_out_by plan.layout.ports beat.address beat.size p (plan.route beat.address beat.size) has placed
@@ -529,13 +529,13 @@ module _ (plan : Plan) (is_plan : IsPlan plan) (both : plan.layout.links ≡ Bot
 
 -- ---- all beats
 
-pub all_stand : (plan : Plan) → IsPlan plan → plan.layout.links ≡ Both → (past : List Sighting)
-    → AreWatched plan.layout past → IsLawful plan past → AllStand plan (state plan past) past
+pub all_stand : (plan : GroupPlan) → IsGroupPlan plan → plan.layout.links ≡ Both → (past : List Sighting)
+    → AreWatched plan.layout past → IsLawfulGroup plan past → AllStand plan (state plan past) past
 all_stand plan is both [] watched lawful = λ wide. record { same = refl; free = refl; given = tt }
 all_stand plan is both (x ∷ past) watched lawful =
     go x.link x.beat watched.0.link lawful.1 (all_stand plan is both past watched.1 lawful.0)
   where
-    go : (link : Link) (beat : Beat) → HasLink plan.layout link
+    go : (link : Link) (beat : Beat) → HasGroupLink plan.layout link
         → IsAllowed plan (scene_of plan (state plan past) link beat) (seen_at link beat x.known x.lanes)
         → AllStand plan (state plan past) past
         → AllStand plan (state_after plan (state plan past) (seen_at link beat x.known x.lanes))
@@ -551,8 +551,8 @@ all_stand plan is both (x ∷ past) watched lawful =
 
 -- ---- in words
 
-module _ (plan : Plan) (past : List Sighting) (wide : ℕ)
-    (owned : AllByRecursion (IsOwned plan.layout wide) (asks plan AtMasters wide past)) where
+module _ (plan : GroupPlan) (past : List Sighting) (wide : ℕ)
+    (owned : AllByRecursion (IsOfMaster plan.layout wide) (asks plan AtMasters wide past)) where
   abbrev story : Story
   story = story_at plan wide past
 
@@ -610,8 +610,8 @@ module _ (plan : Plan) (past : List Sighting) (wide : ℕ)
       go (Asking n) crossing stands = rest stands
       go (Asked n ask) crossing stands = out (is_out plan wide ask) ask crossing stands
 
-pub crossing : (plan : Plan) (past : List Sighting) → IsPlan plan → plan.layout.links ≡ Both
-    → AreWatched plan.layout past → IsLawful plan past → (wide : ℕ) → MessagesCross plan past wide
+pub crossing : (plan : GroupPlan) (past : List Sighting) → IsGroupPlan plan → plan.layout.links ≡ Both
+    → AreWatched plan.layout past → IsLawfulGroup plan past → (wide : ℕ) → MessagesCross plan past wide
 crossing plan past is both watched lawful wide =
     let s = state plan past in
     crossing_by plan past wide (asks_owned plan is past lawful wide) (s.flights AtMasters wide).turn (s.crossings wide)

@@ -3,7 +3,7 @@
 use Rattle.std.proofs.Common.{◌≡◌, ◌∙◌, ℕ, ◌+◌, Bool, true, false, if◌then◌else◌, List, [], ◌∷◌, ◌++◌, Option, Some, None, unwrap_or, refl, ap, sym, subst}
 use Rattle.std.specs.Prelude.{◌&&◌}
 use Rattle.tl_types.specs.Request.{Request}
-use Rattle.check_beats.specs.Message.{seen_at as seen_bytes}
+use Rattle.check_beats.specs.Message.{seen_cells as seen_bytes}
 use Rattle.check_beats.specs.State.{Under, ReplyBegun, first_reply, ends_reply, replied_beats, replied_bytes}
 use Rattle.check_beats.specs.declared.beat.AskHead.{AskHead}
 use Rattle.check_beats.specs.declared.beat.ReplyHead.{ReplyHead}
@@ -20,10 +20,10 @@ use Rattle.check_watch.specs.declared.beat.Beat.{Beat}
 use Rattle.check_watch.specs.declared.beat.Beat.TheVariants.{A, D}
 use Rattle.check_watch.specs.declared.beat.Link.{Link}
 use Rattle.check_watch.specs.Allowed.{IsAllowedReply}
-use Rattle.check_watch.specs.Lawful.{IsLawful, IsAllowed}
-use Rattle.check_watch.specs.Past.{State, found_in, scene_of, state, state_after}
-use Rattle.check_watch.specs.Plan.{Plan, Sighting, Side, side_of, number_of, wide_of, is_link, is_of}
-use Rattle.check_watch.specs.Plan.Side.{AtMasters, AtPorts}
+use Rattle.check_watch.specs.Lawful.{IsLawfulGroup, IsAllowed}
+use Rattle.check_watch.specs.Past.{State, scene_found, scene_of, state, state_after}
+use Rattle.check_watch.specs.Plan.{GroupPlan, Sighting, LinkSide, side_of, link_number, wide_of, is_link, is_of}
+use Rattle.check_watch.specs.Plan.LinkSide.{AtMasters, AtPorts}
 use Rattle.check_watch.specs.Scene.{ask_by, ask_if, turn_by, takes_effect, begins_reply, flight_after, under_after}
 use Rattle.check_watch.proofs.InFlight.{ask_at, reply_at, of_is, of_own}
 use Rattle.check_watch_laws.specs.Crossed.{AreWatched}
@@ -41,12 +41,12 @@ IsSourced (Asked n ask) None = Unit {0}
 IsSourced (Asked n ask) (Some answer) = answer.reply.source ≡ ask.source
 
 -- a reply of this wide source is under way at the link
-abbrev pub IsReplying : Plan → State → ℕ → Link → Type 0
+abbrev pub IsReplying : GroupPlan → State → ℕ → Link → Type 0
 IsReplying plan s wide link =
-    (begun : ReplyBegun) × ((s.links (side_of link) (number_of link)).replying ≡ Some begun)
+    (begun : ReplyBegun) × ((s.links (side_of link) (link_number link)).replying ≡ Some begun)
     × (wide_of plan link begun.first.source ≡ wide)
 
-abbrev pub HasBegun : Plan → State → Side → ℕ → Turn → Option Answer → Type 0
+abbrev pub HasBegun : GroupPlan → State → LinkSide → ℕ → Turn → Option Answer → Type 0
 HasBegun plan s side wide Idle due = Unit {0}
 HasBegun plan s side wide (Asking n) due = Unit {0}
 HasBegun plan s side wide (Asked n ask) None = Unit {0}
@@ -54,12 +54,12 @@ HasBegun plan s side wide (Asked n ask) (Some answer) =
     is_due_at_reply (order_at plan (port_for plan (link_on side n) ask)) ≡ true
     → IsReplying plan s wide (link_on side n)
 
-pub record IsDue (plan : Plan) (s : State) (side : Side) (wide : ℕ) (flight : Flight) : Type 0 where
+pub record IsDue (plan : GroupPlan) (s : State) (side : LinkSide) (wide : ℕ) (flight : Flight) : Type 0 where
   pub sourced : IsSourced flight.turn flight.due
   pub begun : HasBegun plan s side wide flight.turn flight.due
 
-abbrev pub AreDue : Plan → State → Type 0
-AreDue plan s = (side : Side) (wide : ℕ) → IsDue plan s side wide (s.flights side wide)
+abbrev pub AreDue : GroupPlan → State → Type 0
+AreDue plan s = (side : LinkSide) (wide : ℕ) → IsDue plan s side wide (s.flights side wide)
 
 -- ---- as a request ends
 
@@ -76,7 +76,7 @@ new_sourced n port slave true (Some ask) = accepted_sourced n port slave ask sla
 new_sourced n port slave false (Some ask) = tt
 
 -- if a reply is due as its request is accepted, it is so before the request is answered
-accepted_begun : (plan : Plan) (s : State) (side : Side) (wide n port : ℕ) (slave : PortSlave) (ask : Request)
+accepted_begun : (plan : GroupPlan) (s : State) (side : LinkSide) (wide n port : ℕ) (slave : PortSlave) (ask : Request)
     (order : Order) → order ≡ order_at plan (port_for plan (link_on side n) ask)
     → HasBegun plan s side wide (Asked n ask) (due_accepted_by order port slave ask)
 accepted_begun plan s side wide n port slave ask Accept is =
@@ -85,7 +85,7 @@ accepted_begun plan s side wide n port slave ask Accept is =
 accepted_begun plan s side wide n port slave ask Reply is = tt
 accepted_begun plan s side wide n port slave ask Any is = tt
 
-new_begun : (plan : Plan) (s : State) (side : Side) (wide n port : ℕ) (slave : PortSlave) (effect : Bool)
+new_begun : (plan : GroupPlan) (s : State) (side : LinkSide) (wide n port : ℕ) (slave : PortSlave) (effect : Bool)
     (ended : Option Request)
     → ((ask : Request) → ended ≡ Some ask → slave.order ≡ order_at plan (port_for plan (link_on side n) ask))
     → HasBegun plan s side wide (turn_by n ended) (due_accepting port slave (ask_if effect ended))
@@ -112,12 +112,12 @@ pub late_sourced : (port wide : ℕ) (slave : PortSlave) (effect : Bool) (n : �
 late_sourced port wide slave true n ask due was = answered_sourced port wide slave n ask due slave.order was
 late_sourced port wide slave false n ask due was = was
 
-pub side_on : (side : Side) (n : ℕ) → side_of (link_on side n) ≡ side
+pub side_on : (side : LinkSide) (n : ℕ) → side_of (link_on side n) ≡ side
 side_on AtMasters n = refl
 side_on AtPorts n = refl
 
 -- the facts of a turn and what is due, in another state
-begun_by : (plan : Plan) (s later : State) (side : Side) (wide : ℕ) (turn : Turn) (due : Option Answer)
+begun_by : (plan : GroupPlan) (s later : State) (side : LinkSide) (wide : ℕ) (turn : Turn) (due : Option Answer)
     → ((n : ℕ) (ask : Request) → turn ≡ Asked n ask → IsReplying plan s wide (link_on side n)
     → IsReplying plan later wide (link_on side n))
     → HasBegun plan s side wide turn due → HasBegun plan later side wide turn due
@@ -126,21 +126,21 @@ begun_by plan s later side wide (Asking n) due keeps was = tt
 begun_by plan s later side wide (Asked n ask) None keeps was = tt
 begun_by plan s later side wide (Asked n ask) (Some answer) keeps was = λ late. keeps n ask refl (was late)
 
-module _ (plan : Plan) (s : State) (same_order : (port : ℕ) → order_at plan port ≡ (s.slaves port).order)
+module _ (plan : GroupPlan) (s : State) (same_order : (port : ℕ) → order_at plan port ≡ (s.slaves port).order)
     (dues : AreDue plan s) (link : Link) (known : ℕ) (lanes : List ℕ) where
   -- a beat of a request leaves the replies that are under way
   keeps_replying : (beat : AskHead) (wide : ℕ) (at : Link) → IsReplying plan s wide at
       → IsReplying plan (state_after plan s (ask_at link known lanes beat)) wide at
-  keeps_replying beat wide at was = go (is_link link (side_of at) (number_of at)) refl
+  keeps_replying beat wide at was = go (is_link link (side_of at) (link_number at)) refl
     where
-      go : (here : Bool) → is_link link (side_of at) (number_of at) ≡ here
+      go : (here : Bool) → is_link link (side_of at) (link_number at) ≡ here
           → (begun : ReplyBegun)
-          × ((if here then under_after (s.links (side_of link) (number_of link)) (A beat) known lanes
-          else s.links (side_of at) (number_of at)).replying ≡ Some begun)
+          × ((if here then under_after (s.links (side_of link) (link_number link)) (A beat) known lanes
+          else s.links (side_of at) (link_number at)).replying ≡ Some begun)
           × (wide_of plan at begun.first.source ≡ wide)
       go true here = (
         was.0,
-        ap (λ (l : Link). (s.links (side_of l) (number_of l)).replying) (same_link link at here) ∙ was.1,
+        ap (λ (l : Link). (s.links (side_of l) (link_number l)).replying) (same_link link at here) ∙ was.1,
         was.2,
       )
       go false here = was
@@ -158,18 +158,18 @@ module _ (plan : Plan) (s : State) (same_order : (port : ℕ) → order_at plan 
       go true is =
           let found = scene_of plan s link (A beat) in
           let ended = ask_by found.under beat lanes in
-          let on : link_on side (number_of link) ≡ link =
-          ap (λ sd. link_on sd (number_of link)) (sym (of_is plan (ask_at link known lanes beat) side wide is).0)
+          let on : link_on side (link_number link) ≡ link =
+          ap (λ sd. link_on sd (link_number link)) (sym (of_is plan (ask_at link known lanes beat) side wide is).0)
           ∙ own_link link in
           let goes_by : (ask : Request) → ended ≡ Some ask
-          → port_for plan (link_on side (number_of link)) ask ≡ found.port =
+          → port_for plan (link_on side (link_number link)) ask ≡ found.port =
           λ ask so. ap (λ l. port_for plan l ask) on
           ∙ ended_goes plan link (s.flights (side_of link) (wide_of plan link beat.source)).turn found.under lanes beat ask
           so in
           record {
-            sourced = new_sourced (number_of link) found.port found.slave
+            sourced = new_sourced (link_number link) found.port found.slave
                 (takes_effect plan.layout link found.port) ended;
-            begun = new_begun plan later side wide (number_of link) found.port found.slave
+            begun = new_begun plan later side wide (link_number link) found.port found.slave
                 (takes_effect plan.layout link found.port) ended
                 (λ ask so. sym (same_order found.port) ∙ ap (λ p. order_at plan p) (sym (goes_by ask so)));
           }
@@ -187,7 +187,7 @@ module _ (plan : Plan) (s : State) (same_order : (port : ℕ) → order_at plan 
     after = state_after plan s (reply_at link known lanes beat)
 
     abbrev under : Under
-    under = s.links (side_of link) (number_of link)
+    under = s.links (side_of link) (link_number link)
 
     -- its own reply is under way, if it does not end it
     own_replying : ends_reply under.bus under.replying beat ≡ false
@@ -205,20 +205,20 @@ module _ (plan : Plan) (s : State) (same_order : (port : ℕ) → order_at plan 
         )
 
     -- a reply of another source, or at another link, stays under way
-    other_replying : (side : Side) (wide n : ℕ) → is_of plan (reply_at link known lanes beat) side wide ≡ false
+    other_replying : (side : LinkSide) (wide n : ℕ) → is_of plan (reply_at link known lanes beat) side wide ≡ false
         → IsReplying plan s wide (link_on side n) → IsReplying plan after wide (link_on side n)
     other_replying side wide n other was =
-        go (is_link link (side_of (link_on side n)) (number_of (link_on side n))) refl
+        go (is_link link (side_of (link_on side n)) (link_number (link_on side n))) refl
       where
-        go : (here : Bool) → is_link link (side_of (link_on side n)) (number_of (link_on side n)) ≡ here
+        go : (here : Bool) → is_link link (side_of (link_on side n)) (link_number (link_on side n)) ≡ here
             → (begun : ReplyBegun)
-            × ((if here then under_after (s.links (side_of link) (number_of link)) (D beat) known lanes
-            else s.links (side_of (link_on side n)) (number_of (link_on side n))).replying ≡ Some begun)
+            × ((if here then under_after (s.links (side_of link) (link_number link)) (D beat) known lanes
+            else s.links (side_of (link_on side n)) (link_number (link_on side n))).replying ≡ Some begun)
             × (wide_of plan (link_on side n) begun.first.source ≡ wide)
         go true here =
             let is : link ≡ link_on side n = same_link link (link_on side n) here in
-            let under_way : (s.links (side_of link) (number_of link)).replying ≡ Some was.0 =
-            ap (λ (l : Link). (s.links (side_of l) (number_of l)).replying) is ∙ was.1 in
+            let under_way : (s.links (side_of link) (link_number link)).replying ≡ Some was.0 =
+            ap (λ (l : Link). (s.links (side_of l) (link_number l)).replying) is ∙ was.1 in
             let source : beat.source ≡ was.0.first.source =
             (allowed.fits.same was.0.first (ap first_reply under_way)).source in
             let wide_is : wide_of plan link beat.source ≡ wide =
@@ -236,7 +236,7 @@ module _ (plan : Plan) (s : State) (same_order : (port : ℕ) → order_at plan 
       where
         begun_here : (ask : Request) (due : Option Answer) → ends_reply under.bus under.replying beat ≡ false
             → HasBegun plan after (side_of link) (wide_of plan link beat.source)
-            (Asked (number_of link) ask) due
+            (Asked (link_number link) ask) due
         begun_here ask None goes_on = tt
         begun_here ask (Some answer) goes_on =
             λ late. subst (λ l. IsReplying plan after (wide_of plan link beat.source) l)
@@ -248,16 +248,16 @@ module _ (plan : Plan) (s : State) (same_order : (port : ℕ) → order_at plan 
         own true is = record { sourced = tt; begun = tt }
         own false is =
             let was = s.flights (side_of link) (wide_of plan link beat.source) in
-            let asked_is = asked_at (number_of link) was.turn _ allowed.answers in
-            let found = found_in plan s link (D beat) in
+            let asked_is = asked_at (link_number link) was.turn _ allowed.answers in
+            let found = scene_found plan s link (D beat) in
             let effect : Bool = takes_effect plan.layout link found.port && begins_reply found.under.replying in
-            let before : IsSourced (Asked (number_of link) asked_is.0) was.due =
+            let before : IsSourced (Asked (link_number link) asked_is.0) was.due =
             subst (λ t. IsSourced t was.due) asked_is.1
             (dues (side_of link) (wide_of plan link beat.source)).sourced in
             record {
               sourced = subst (λ t. IsSourced t (due_by was.due
                   (due_answering found.port found.slave found.wide (ask_if effect (asked t))))) (sym asked_is.1)
-                  (late_sourced found.port found.wide found.slave effect (number_of link) asked_is.0 was.due before);
+                  (late_sourced found.port found.wide found.slave effect (link_number link) asked_is.0 was.due before);
               begun = subst (λ t. HasBegun plan after (side_of link)
                   (wide_of plan link beat.source) t (due_by was.due
                   (due_answering found.port found.slave found.wide (ask_if effect (asked t))))) (sym asked_is.1)
@@ -271,7 +271,7 @@ module _ (plan : Plan) (s : State) (same_order : (port : ℕ) → order_at plan 
             (D beat) lanes else s.flights side wide)
         go true is =
             let both = of_is plan (reply_at link known lanes beat) side wide is in
-            let P : Side → ℕ → Type 0 =
+            let P : LinkSide → ℕ → Type 0 =
             λ sd w. IsDue plan after sd w (flight_after plan.layout link (scene_of plan s link (D beat)) (D beat) lanes) in
             subst (λ sd. P sd wide) both.0 (subst (λ w. P (side_of link) w) both.1
             (own (ends_reply under.bus under.replying beat) refl))
@@ -283,7 +283,7 @@ module _ (plan : Plan) (s : State) (same_order : (port : ℕ) → order_at plan 
                   (s.flights side wide).due (λ n ask at. other_replying side wide n is) was.begun;
             }
 
-pub are_due : (plan : Plan) (past : List Sighting) → AreWatched plan.layout past → IsLawful plan past
+pub are_due : (plan : GroupPlan) (past : List Sighting) → AreWatched plan.layout past → IsLawfulGroup plan past
     → AreDue plan (state plan past)
 are_due plan [] watched lawful = λ side wide. record { sourced = tt; begun = tt }
 are_due plan (x ∷ past) watched lawful = go (are_due plan past watched.1 lawful.0) x.beat lawful.1

@@ -10,9 +10,9 @@ use Rattle.check_watch.specs.declared.beat.Beat.{Beat}
 use Rattle.check_watch.specs.declared.beat.Beat.TheVariants.{A, D}
 use Rattle.check_watch.specs.declared.beat.Link.{Link}
 use Rattle.check_watch.specs.Allowed.{IsAllowedAsk, IsAllowedReply}
-use Rattle.check_watch.specs.Lawful.{IsLawful, IsAllowed}
+use Rattle.check_watch.specs.Lawful.{IsLawfulGroup, IsAllowed}
 use Rattle.check_watch.specs.Past.{State, scene_of, state, state_after}
-use Rattle.check_watch.specs.Plan.{Plan, Layout, Sighting, Side, side_of, number_of, wide_of, is_of, bus_of}
+use Rattle.check_watch.specs.Plan.{GroupPlan, GroupLayout, Sighting, LinkSide, side_of, link_number, wide_of, is_of, bus_in_group}
 use Rattle.check_watch.specs.Scene.{ask_by, turn_by, flight_after}
 use Rattle.check_watch.proofs.InFlight.{ask_at, reply_at, of_is}
 use Rattle.check_watch_laws.specs.Crossed.{AskSeen, ReplySeen, asking_at, ask_ended, reply_ended, asks, replies}
@@ -21,23 +21,23 @@ use Rattle.check_watch_laws.proofs.Links.{LinksAre, links_are, under_by}
 use Rattle.check_watch_laws.proofs.Turns.{AsksFly, asks_fly, open_before, asked_at, link_on, own_link}
 
 -- the request in flight that has ended
-abbrev pub pending : Side → Turn → List AskSeen
+abbrev pub pending : LinkSide → Turn → List AskSeen
 pending side Idle = []
 pending side (Asking n) = []
 pending side (Asked n ask) = record { link = link_on side n; ask = ask } ∷ []
 
 -- all requests but the one in flight are answered
-pub record InStep (side : Side) (turn : Turn) (asked : List AskSeen) (answered : List ReplySeen) : Type 0 where
+pub record InStep (side : LinkSide) (turn : Turn) (asked : List AskSeen) (answered : List ReplySeen) : Type 0 where
   pub done : List AskSeen
   pub asks_are : asked ≡ done ++ pending side turn
   pub counted : length answered ≡ length done
 
-abbrev pub AreInStep : Plan → State → List Sighting → Type 0
+abbrev pub AreInStep : GroupPlan → State → List Sighting → Type 0
 AreInStep plan s past =
-    (side : Side) (wide : ℕ) → InStep side (s.flights side wide).turn (asks plan side wide past)
+    (side : LinkSide) (wide : ℕ) → InStep side (s.flights side wide).turn (asks plan side wide past)
     (replies plan side wide past)
 
-none_pending : (side : Side) (n : ℕ) (turn : Turn) → (turn ≡ Idle) ⊎ (turn ≡ Asking n) → pending side turn ≡ []
+none_pending : (side : LinkSide) (n : ℕ) (turn : Turn) → (turn ≡ Idle) ⊎ (turn ≡ Asking n) → pending side turn ≡ []
 none_pending side n turn (inl is) = ap (pending side) is
 none_pending side n turn (inr is) = ap (pending side) is
 
@@ -52,11 +52,11 @@ as_list link ask true = refl
 as_list link ask false = refl
 
 -- the request that a beat ends is the one that is seen
-pub ask_seen : (layout : Layout) (past : List Sighting) (link : Link) (known : ℕ) (lanes : List ℕ) (beat : AskHead)
+pub ask_seen : (layout : GroupLayout) (past : List Sighting) (link : Link) (known : ℕ) (lanes : List ℕ) (beat : AskHead)
     → ask_ended layout past (ask_at link known lanes beat) (A beat)
     ≡ ask_list link (ask_by (under_by layout link past) beat lanes)
 ask_seen layout past link known lanes beat =
-    let n = bus_of layout link in
+    let n = bus_in_group layout link in
     let before = asking_at layout link past in
     as_list link (ask_of n before beat (take n lanes)) (ends_ask n before beat)
     ∙ ap (λ r. ask_list link (if ends_ask n before beat then Some r else None)) (ask_on_bus layout link before beat lanes)
@@ -64,7 +64,7 @@ ask_seen layout past link known lanes beat =
 -- a beat of a request: nothing was in flight, and now is what it ends
 ask_steps : (link : Link) (turn : Turn) (ended : Option Request) (asked : List AskSeen) (answered : List ReplySeen)
     → pending (side_of link) turn ≡ [] → InStep (side_of link) turn asked answered
-    → InStep (side_of link) (turn_by (number_of link) ended) (asked ++ ask_list link ended) (answered ++ [])
+    → InStep (side_of link) (turn_by (link_number link) ended) (asked ++ ask_list link ended) (answered ++ [])
 ask_steps link turn ended asked answered none step = go ended
   where
     before : asked ≡ step.done
@@ -73,7 +73,7 @@ ask_steps link turn ended asked answered none step = go ended
     same : length (answered ++ []) ≡ length step.done
     same = ap (λ (l : List ReplySeen). length l) (append-nil answered) ∙ step.counted
 
-    go : (o : Option Request) → InStep (side_of link) (turn_by (number_of link) o) (asked ++ ask_list link o)
+    go : (o : Option Request) → InStep (side_of link) (turn_by (link_number link) o) (asked ++ ask_list link o)
         (answered ++ [])
     go (Some ask) = record {
       done = step.done;
@@ -85,7 +85,7 @@ ask_steps link turn ended asked answered none step = go ended
 
 -- a beat of a reply: it ends what is in flight, or goes on
 reply_steps : (link : Link) (turn : Turn) (ask : Request) (reply : ReplySeen) (flight : Flight)
-    (asked : List AskSeen) (answered : List ReplySeen) → turn ≡ Asked (number_of link) ask → flight.turn ≡ turn
+    (asked : List AskSeen) (answered : List ReplySeen) → turn ≡ Asked (link_number link) ask → flight.turn ≡ turn
     → InStep (side_of link) turn asked answered
     → (ends : Bool) → InStep (side_of link) (if ends then idle else flight).turn (asked ++ [])
     (answered ++ (if ends then reply ∷ [] else []))
@@ -108,27 +108,27 @@ reply_steps link turn ask reply flight asked answered is same step false = recor
   counted = ap (λ (l : List ReplySeen). length l) (append-nil answered) ∙ step.counted;
 }
 
-module _ (plan : Plan) (s : State) (past : List Sighting) (linked : LinksAre plan s past)
+module _ (plan : GroupPlan) (s : State) (past : List Sighting) (linked : LinksAre plan s past)
     (busy : AsksFly plan s) (steps : AreInStep plan s past) (link : Link) (known : ℕ) (lanes : List ℕ) where
   -- what a beat of a request finds pending
   pub nothing_pending : (beat : AskHead) → IsAllowedAsk plan.layout link (scene_of plan s link (A beat)) beat known lanes
       → pending (side_of link) (s.flights (side_of link) (wide_of plan link beat.source)).turn ≡ []
   nothing_pending beat allowed =
-      none_pending (side_of link) (number_of link) (s.flights (side_of link) (wide_of plan link beat.source)).turn
+      none_pending (side_of link) (link_number link) (s.flights (side_of link) (wide_of plan link beat.source)).turn
       (open_before plan s busy link known lanes beat allowed)
 
   pub ask_step : (beat : AskHead) → IsAllowedAsk plan.layout link (scene_of plan s link (A beat)) beat known lanes
       → AreInStep plan (state_after plan s (ask_at link known lanes beat)) (ask_at link known lanes beat ∷ past)
   ask_step beat allowed side wide = go (is_of plan (ask_at link known lanes beat) side wide) refl
     where
-      Steps : Under → Side → ℕ → Type 0
-      Steps u sd w = InStep sd (turn_by (number_of link) (ask_by u beat lanes))
+      Steps : Under → LinkSide → ℕ → Type 0
+      Steps u sd w = InStep sd (turn_by (link_number link) (ask_by u beat lanes))
           (asks plan sd w past ++ ask_ended plan.layout past (ask_at link known lanes beat) (A beat))
           (replies plan sd w past ++ [])
 
       here : Steps (under_by plan.layout link past) (side_of link) (wide_of plan link beat.source)
       here = subst (λ l. InStep (side_of link)
-          (turn_by (number_of link) (ask_by (under_by plan.layout link past) beat lanes))
+          (turn_by (link_number link) (ask_by (under_by plan.layout link past) beat lanes))
           (asks plan (side_of link) (wide_of plan link beat.source) past ++ l)
           (replies plan (side_of link) (wide_of plan link beat.source) past ++ []))
           (sym (ask_seen plan.layout past link known lanes beat))
@@ -146,7 +146,7 @@ module _ (plan : Plan) (s : State) (past : List Sighting) (linked : LinksAre pla
           ++ [] else replies plan side wide past)
       go true is =
           let both = of_is plan (ask_at link known lanes beat) side wide is in
-          let u = s.links (side_of link) (number_of link) in
+          let u = s.links (side_of link) (link_number link) in
           subst (λ sd. Steps u sd wide) both.0 (subst (λ w. Steps u (side_of link) w) both.1
           (subst (λ v. Steps v (side_of link) (wide_of plan link beat.source)) (sym (linked link)) here))
       go false is = steps side wide
@@ -156,7 +156,7 @@ module _ (plan : Plan) (s : State) (past : List Sighting) (linked : LinksAre pla
       → AreInStep plan (state_after plan s (reply_at link known lanes beat)) (reply_at link known lanes beat ∷ past)
   reply_step beat allowed side wide = go (is_of plan (reply_at link known lanes beat) side wide) refl
     where
-      Steps : Under → Side → ℕ → Type 0
+      Steps : Under → LinkSide → ℕ → Type 0
       Steps u sd w = InStep sd (if ends_reply u.bus u.replying beat then idle else
           (scene_of plan s link (D beat)).flight).turn
           (asks plan sd w past ++ [])
@@ -164,14 +164,14 @@ module _ (plan : Plan) (s : State) (past : List Sighting) (linked : LinksAre pla
 
       here : Steps (under_by plan.layout link past) (side_of link) (wide_of plan link beat.source)
       here =
-          let found = asked_at (number_of link)
+          let found = asked_at (link_number link)
           (s.flights (side_of link) (wide_of plan link beat.source)).turn _ allowed.answers in
           reply_steps link (s.flights (side_of link) (wide_of plan link beat.source)).turn found.0
           _ (scene_of plan s link (D beat)).flight
           (asks plan (side_of link) (wide_of plan link beat.source) past)
           (replies plan (side_of link) (wide_of plan link beat.source) past) found.1 refl
           (steps (side_of link) (wide_of plan link beat.source))
-          (ends_reply (bus_of plan.layout link) (under_by plan.layout link past).replying beat)
+          (ends_reply (bus_in_group plan.layout link) (under_by plan.layout link past).replying beat)
 
       go : (of : Bool) → is_of plan (reply_at link known lanes beat) side wide ≡ of
           → InStep side (if of then flight_after plan.layout link (scene_of plan s link (D beat))
@@ -181,12 +181,12 @@ module _ (plan : Plan) (s : State) (past : List Sighting) (linked : LinksAre pla
           ++ reply_ended plan.layout past (reply_at link known lanes beat) (D beat) else replies plan side wide past)
       go true is =
           let both = of_is plan (reply_at link known lanes beat) side wide is in
-          let u = s.links (side_of link) (number_of link) in
+          let u = s.links (side_of link) (link_number link) in
           subst (λ sd. Steps u sd wide) both.0 (subst (λ w. Steps u (side_of link) w) both.1
           (subst (λ v. Steps v (side_of link) (wide_of plan link beat.source)) (sym (linked link)) here))
       go false is = steps side wide
 
-pub in_step : (plan : Plan) (past : List Sighting) → IsLawful plan past → AreInStep plan (state plan past) past
+pub in_step : (plan : GroupPlan) (past : List Sighting) → IsLawfulGroup plan past → AreInStep plan (state plan past) past
 in_step plan [] lawful = λ side wide. record { done = []; asks_are = refl; counted = refl }
 in_step plan (x ∷ past) lawful = go (in_step plan past lawful.0) x.beat lawful.1
   where

@@ -3,7 +3,7 @@ use Rattle.std.proofs.Common.{arith, length, ◌≡◌, ◌∙◌, ℕ, ◌+◌,
 use Rattle.check_beats.specs.Bus.{bus_bytes, bus_log}
 use Rattle.check_beats.specs.Form.{SameFields, SameReplyFields}
 use Rattle.check_beats.specs.Laws.{AreFitting, asking, begun, AreFittingReplies, replying, begun_reply}
-use Rattle.check_beats.specs.Message.{ask_part, seen_at as seen_bytes}
+use Rattle.check_beats.specs.Message.{ask_part, seen_cells as seen_bytes}
 use Rattle.check_beats.specs.Spelling.{AskBeat, ReplyBeat}
 use Rattle.check_beats.specs.State.{AskBegun, ReplyBegun, first_ask, first_reply, ends_ask, ends_reply, ask_after, reply_after, asked_beats, asked_bytes, replied_beats, replied_bytes}
 use Rattle.check_beats.specs.declared.beat.AskHead.{AskHead}

@@ -2,7 +2,7 @@
 use Rattle.std.proofs.Common.{◌≡◌, ◌∙◌, ℕ, Bool, true, false, if◌then◌else◌, List, [], ◌∷◌, ◌++◌, Option, Some, None, unwrap_or, take, refl, ap, sym, subst, append-nil}
 use Rattle.std.specs.List.{AllByRecursion}
 use Rattle.tl_types.specs.Request.{Request}
-use Rattle.check_map.specs.Ranges.{RoutesBytes}
+use Rattle.check_map.specs.Ranges.{RoutesBytesByRanges}
 use Rattle.check_beats.specs.Form.{SameFields}
 use Rattle.check_beats.specs.State.{AskBegun, first_ask, ask_of, ends_ask}
 use Rattle.check_beats.specs.declared.beat.AskHead.{AskHead}
@@ -12,9 +12,9 @@ use Rattle.check_watch.specs.declared.beat.Beat.TheVariants.{A, D}
 use Rattle.check_watch.specs.declared.beat.Link.{Link}
 use Rattle.check_watch.specs.declared.beat.Link.TheVariants.{Master, Port}
 use Rattle.check_watch.specs.Allowed.{IsPlaced, IsAllowedAsk}
-use Rattle.check_watch.specs.Lawful.{IsLawful, IsAllowed}
+use Rattle.check_watch.specs.Lawful.{IsLawfulGroup, IsAllowed}
 use Rattle.check_watch.specs.Past.{State, state, scene_of, state_after}
-use Rattle.check_watch.specs.Plan.{Plan, Layout, Sighting, Side, side_of, number_of, source_of, is_link, is_of, bus_of, HasSource}
+use Rattle.check_watch.specs.Plan.{GroupPlan, GroupLayout, Sighting, LinkSide, side_of, link_number, source_of, is_link, is_of, bus_in_group, HasSource}
 use Rattle.check_watch.specs.Scene.{under_after}
 use Rattle.check_watch.proofs.InFlight.{ask_at, reply_at}
 use Rattle.check_watch_laws.specs.Crossed.{asking_at, ask_ended, asks}
@@ -23,7 +23,7 @@ use Rattle.check_watch_laws.proofs.Heads.{first_after}
 use Rattle.check_watch_laws.proofs.Links.{same_link}
 use Rattle.check_watch_laws.proofs.Replying.{all_more}
 
-pub known_sources : (plan : Plan) (past : List Sighting) → IsLawful plan past
+pub known_sources : (plan : GroupPlan) (past : List Sighting) → IsLawfulGroup plan past
     → AllByRecursion (λ (x : Sighting). HasSource plan.layout x.link (source_of x.beat)) past
 known_sources plan [] lawful = tt
 known_sources plan (x ∷ past) lawful = (go x.beat lawful.1, known_sources plan past lawful.0)
@@ -35,25 +35,25 @@ known_sources plan (x ∷ past) lawful = (go x.beat lawful.1, known_sources plan
 
 -- ---- requests under way
 
-abbrev pub AsksPlaced : Plan → State → Type 0
+abbrev pub AsksPlaced : GroupPlan → State → Type 0
 AsksPlaced plan s =
-    (link : Link) (begun : AskBegun) → (s.links (side_of link) (number_of link)).asking ≡ Some begun
+    (link : Link) (begun : AskBegun) → (s.links (side_of link) (link_number link)).asking ≡ Some begun
     → IsPlaced plan.layout link begun.first
 
-pub placed_as : (layout : Layout) (link : Link) (first beat : AskHead) → SameFields first beat
+pub placed_as : (layout : GroupLayout) (link : Link) (first beat : AskHead) → SameFields first beat
     → IsPlaced layout link first → IsPlaced layout link beat
 placed_as layout (Master m) first beat same is = tt
 placed_as layout (Port p) first beat same is =
-    subst (λ size. RoutesBytes layout.ports beat.address size p) (sym same.size)
-    (subst (λ address. RoutesBytes layout.ports address first.size p) (sym same.address) is)
+    subst (λ size. RoutesBytesByRanges layout.ports beat.address size p) (sym same.size)
+    (subst (λ address. RoutesBytesByRanges layout.ports address first.size p) (sym same.address) is)
 
-module _ (plan : Plan) (s : State) (placed : AsksPlaced plan s) (link : Link) (known : ℕ) (lanes : List ℕ) where
+module _ (plan : GroupPlan) (s : State) (placed : AsksPlaced plan s) (link : Link) (known : ℕ) (lanes : List ℕ) where
   -- each beat of a request is placed, since its first one is
   pub beat_placed : (beat : AskHead) → IsAllowedAsk plan.layout link (scene_of plan s link (A beat)) beat known lanes
       → IsPlaced plan.layout link beat
-  beat_placed beat allowed = go (s.links (side_of link) (number_of link)).asking refl
+  beat_placed beat allowed = go (s.links (side_of link) (link_number link)).asking refl
     where
-      go : (kept : Option AskBegun) → (s.links (side_of link) (number_of link)).asking ≡ kept
+      go : (kept : Option AskBegun) → (s.links (side_of link) (link_number link)).asking ≡ kept
           → IsPlaced plan.layout link beat
       go None is = allowed.placed is
       go (Some b) is = placed_as plan.layout link b.first beat (allowed.fits.same b.first (ap first_ask is))
@@ -61,37 +61,37 @@ module _ (plan : Plan) (s : State) (placed : AsksPlaced plan s) (link : Link) (k
 
   ask_placed : (beat : AskHead) → IsAllowedAsk plan.layout link (scene_of plan s link (A beat)) beat known lanes
       → AsksPlaced plan (state_after plan s (ask_at link known lanes beat))
-  ask_placed beat allowed at begun = go (is_link link (side_of at) (number_of at)) refl
+  ask_placed beat allowed at begun = go (is_link link (side_of at) (link_number at)) refl
     where
-      first : (kept : Option AskBegun) → (s.links (side_of link) (number_of link)).asking ≡ kept
+      first : (kept : Option AskBegun) → (s.links (side_of link) (link_number link)).asking ≡ kept
           → IsPlaced plan.layout link (unwrap_or (first_ask kept) beat)
       first None is = beat_placed beat allowed
       first (Some b) is = placed link b is
 
-      go : (here : Bool) → is_link link (side_of at) (number_of at) ≡ here
-          → (if here then under_after (s.links (side_of link) (number_of link)) (A beat) known lanes
-          else s.links (side_of at) (number_of at)).asking ≡ Some begun
+      go : (here : Bool) → is_link link (side_of at) (link_number at) ≡ here
+          → (if here then under_after (s.links (side_of link) (link_number link)) (A beat) known lanes
+          else s.links (side_of at) (link_number at)).asking ≡ Some begun
           → IsPlaced plan.layout at begun.first
       go true here is =
           subst (λ l. IsPlaced plan.layout l begun.first) (same_link link at here)
           (subst (λ h. IsPlaced plan.layout link h)
-          (first_after (s.links (side_of link) (number_of link)).bus
-          (s.links (side_of link) (number_of link)).asking beat lanes begun is)
-          (first (s.links (side_of link) (number_of link)).asking refl))
+          (first_after (s.links (side_of link) (link_number link)).bus
+          (s.links (side_of link) (link_number link)).asking beat lanes begun is)
+          (first (s.links (side_of link) (link_number link)).asking refl))
       go false here is = placed at begun is
 
   reply_placed : (beat : ReplyHead) → AsksPlaced plan (state_after plan s (reply_at link known lanes beat))
-  reply_placed beat at begun = go (is_link link (side_of at) (number_of at)) refl
+  reply_placed beat at begun = go (is_link link (side_of at) (link_number at)) refl
     where
-      go : (here : Bool) → is_link link (side_of at) (number_of at) ≡ here
-          → (if here then under_after (s.links (side_of link) (number_of link)) (D beat) known lanes
-          else s.links (side_of at) (number_of at)).asking ≡ Some begun
+      go : (here : Bool) → is_link link (side_of at) (link_number at) ≡ here
+          → (if here then under_after (s.links (side_of link) (link_number link)) (D beat) known lanes
+          else s.links (side_of at) (link_number at)).asking ≡ Some begun
           → IsPlaced plan.layout at begun.first
       go true here is = placed at begun
-          (ap (λ (l : Link). (s.links (side_of l) (number_of l)).asking) (sym (same_link link at here)) ∙ is)
+          (ap (λ (l : Link). (s.links (side_of l) (link_number l)).asking) (sym (same_link link at here)) ∙ is)
       go false here is = placed at begun is
 
-pub asks_placed_so : (plan : Plan) (past : List Sighting) → IsLawful plan past → AsksPlaced plan (state plan past)
+pub asks_placed_so : (plan : GroupPlan) (past : List Sighting) → IsLawfulGroup plan past → AsksPlaced plan (state plan past)
 asks_placed_so plan [] lawful = λ link begun is. absurd (cc)
 asks_placed_so plan (x ∷ past) lawful = go (asks_placed_so plan past lawful.0) x.beat lawful.1
   where
@@ -103,12 +103,12 @@ asks_placed_so plan (x ∷ past) lawful = go (asks_placed_so plan past lawful.0)
 
 -- ---- whole requests
 
-in_place : (layout : Layout) (link : Link) (beat : AskHead) (ask : Request) → ask.address ≡ beat.address
+in_place : (layout : GroupLayout) (link : Link) (beat : AskHead) (ask : Request) → ask.address ≡ beat.address
     → ask.size ≡ beat.size → IsPlaced layout link beat → IsInPlace layout (record { link = link; ask = ask })
 in_place layout link beat ask address size placed port is =
     rw (address, size) (subst (λ l. IsPlaced layout l beat) is placed)
 
-pub asks_placed : (plan : Plan) (past : List Sighting) → IsLawful plan past → (side : Side) (wide : ℕ)
+pub asks_placed : (plan : GroupPlan) (past : List Sighting) → IsLawfulGroup plan past → (side : LinkSide) (wide : ℕ)
     → AllByRecursion (IsInPlace plan.layout) (asks plan side wide past)
 asks_placed plan [] lawful side wide = tt
 asks_placed plan (x ∷ past) lawful side wide = go (asks_placed plan past lawful.0 side wide) (is_of plan x side wide)
@@ -124,9 +124,9 @@ asks_placed plan (x ∷ past) lawful side wide = go (asks_placed plan past lawfu
         (asks plan side wide past ++ ask_ended plan.layout past x beat)
     ended before (D beat) allowed = none before
     ended before (A beat) allowed = by_end
-        (ask_of (bus_of plan.layout x.link) (asking_at plan.layout x.link past) beat
-        (take (bus_of plan.layout x.link) x.lanes)) refl refl
-        (ends_ask (bus_of plan.layout x.link) (asking_at plan.layout x.link past) beat)
+        (ask_of (bus_in_group plan.layout x.link) (asking_at plan.layout x.link past) beat
+        (take (bus_in_group plan.layout x.link) x.lanes)) refl refl
+        (ends_ask (bus_in_group plan.layout x.link) (asking_at plan.layout x.link past) beat)
       where
         by_end : (ask : Request) → ask.address ≡ beat.address → ask.size ≡ beat.size → (ends : Bool)
             → AllByRecursion (IsInPlace plan.layout)

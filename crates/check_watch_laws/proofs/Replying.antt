@@ -13,12 +13,12 @@ use Rattle.check_watch.specs.declared.beat.Beat.{Beat}
 use Rattle.check_watch.specs.declared.beat.Beat.TheVariants.{A, D}
 use Rattle.check_watch.specs.declared.beat.Link.{Link}
 use Rattle.check_watch.specs.Allowed.{IsAllowedAsk, IsAllowedReply}
-use Rattle.check_watch.specs.Lawful.{IsLawful, IsAllowed}
+use Rattle.check_watch.specs.Lawful.{IsLawfulGroup, IsAllowed}
 use Rattle.check_watch.specs.Past.{State, scene_of, state}
-use Rattle.check_watch.specs.Plan.{Plan, Sighting, Side, side_of, number_of, wide_of, is_of, bus_of}
+use Rattle.check_watch.specs.Plan.{GroupPlan, Sighting, LinkSide, side_of, link_number, wide_of, is_of, bus_in_group}
 use Rattle.check_watch.proofs.InFlight.{ask_at, reply_at, of_is}
 use Rattle.check_watch_laws.specs.Crossed.{AreWatched, AskSeen, ReplySeen, reply_beat, begun_replies_at, replying_at, replies_over, ask_ended, reply_ended, asks, replies}
-use Rattle.check_watch_laws.specs.Messages.{Answers, IsAnswered}
+use Rattle.check_watch_laws.specs.Messages.{IsReplyBeatTo, IsAnswered}
 use Rattle.check_watch_laws.proofs.Buses.{bus_is}
 use Rattle.check_watch_laws.proofs.Fitting.{replies_fit}
 use Rattle.check_watch_laws.proofs.Flights.{pending, AreInStep, nothing_pending, in_step}
@@ -39,12 +39,12 @@ all_more P (y ∷ xs) x all last = (all.0, all_more P xs x all.1 last)
 
 -- beats that have crossed of a reply answer what a later one does
 begun_answers : (kept : Option ReplyBegun) (beats : List ReplyBeat) (beat : ReplyHead) (ask : Request)
-    → ReplyHeads kept beats → Continues SameReplyFields (first_reply kept) beat → Answers ask beat
-    → AllByRecursion (λ (b : ReplyBeat). Answers ask b.head) beats
+    → ReplyHeads kept beats → Continues SameReplyFields (first_reply kept) beat → IsReplyBeatTo ask beat
+    → AllByRecursion (λ (b : ReplyBeat). IsReplyBeatTo ask b.head) beats
 begun_answers None beats beat ask heads same answers =
-    subst (λ (l : List ReplyBeat). AllByRecursion (λ (b : ReplyBeat). Answers ask b.head) l) (sym (heads.empty refl)) tt
+    subst (λ (l : List ReplyBeat). AllByRecursion (λ (b : ReplyBeat). IsReplyBeatTo ask b.head) l) (sym (heads.empty refl)) tt
 begun_answers (Some b) beats beat ask heads same answers =
-    all_from_each (λ (c : ReplyBeat). Answers ask c.head) beats
+    all_from_each (λ (c : ReplyBeat). IsReplyBeatTo ask c.head) beats
     (λ k c at.
     let fields = heads.each k c at b.first refl in
     let last = same b.first refl in
@@ -53,23 +53,23 @@ begun_answers (Some b) beats beat ask heads same answers =
       opcode = fields.opcode ∙ sym last.opcode ∙ answers.opcode;
     })
 
-abbrev pub AreAnswered : Plan → List Sighting → Type 0
+abbrev pub AreAnswered : GroupPlan → List Sighting → Type 0
 AreAnswered plan past =
-    (side : Side) (wide : ℕ) → AllByRecursion IsAnswered (zip (asks plan side wide past) (replies plan side wide past))
+    (side : LinkSide) (wide : ℕ) → AllByRecursion IsAnswered (zip (asks plan side wide past) (replies plan side wide past))
 
 -- the beats of the reply that is under way at each link have the fields of its first
-abbrev pub RepliesHaveHeads : Plan → List Sighting → Type 0
+abbrev pub RepliesHaveHeads : GroupPlan → List Sighting → Type 0
 RepliesHaveHeads plan past =
     (link : Link) → ReplyHeads (replying_at plan.layout link past) (begun_replies_at plan.layout link past)
 
-pub replies_have_heads : (plan : Plan) (past : List Sighting) → AreWatched plan.layout past → IsLawful plan past
+pub replies_have_heads : (plan : GroupPlan) (past : List Sighting) → AreWatched plan.layout past → IsLawfulGroup plan past
     → RepliesHaveHeads plan past
 replies_have_heads plan past watched lawful link =
     let bus = bus_is plan.layout link in
-    reply_heads (bus_of plan.layout link) bus.0 bus.1 (replies_over plan.layout link past)
+    reply_heads (bus_in_group plan.layout link) bus.0 bus.1 (replies_over plan.layout link past)
     (replies_fit plan past watched lawful link)
 
-module _ (plan : Plan) (s : State) (past : List Sighting) (linked : LinksAre plan s past)
+module _ (plan : GroupPlan) (s : State) (past : List Sighting) (linked : LinksAre plan s past)
     (busy : AsksFly plan s) (steps : AreInStep plan s past)
     (heads : RepliesHaveHeads plan past) (before : AreAnswered plan past) (link : Link)
     (known : ℕ) (lanes : List ℕ) where
@@ -106,17 +106,17 @@ module _ (plan : Plan) (s : State) (past : List Sighting) (linked : LinksAre pla
     own = wide_of plan link beat.source
 
     -- the request that it answers
-    answers : (ask : Request) × ((s.flights (side_of link) own).turn ≡ Asked (number_of link) ask) × Answers ask beat
+    answers : (ask : Request) × ((s.flights (side_of link) own).turn ≡ Asked (link_number link) ask) × IsReplyBeatTo ask beat
     answers =
-        let found = asked_at (number_of link) (s.flights (side_of link) own).turn _ allowed.answers in
+        let found = asked_at (link_number link) (s.flights (side_of link) own).turn _ allowed.answers in
         (found.0, found.1, record { size = found.2.size; opcode = found.2.opcode })
 
     abbrev message : List ReplyBeat
-    message = begun_replies_at plan.layout link past ++ reply_beat (bus_of plan.layout link) beat known lanes ∷ []
+    message = begun_replies_at plan.layout link past ++ reply_beat (bus_in_group plan.layout link) beat known lanes ∷ []
 
-    whole : AllByRecursion (λ (b : ReplyBeat). Answers answers.0 b.head) message
-    whole = all_more (λ (b : ReplyBeat). Answers answers.0 b.head) (begun_replies_at plan.layout link past)
-        (reply_beat (bus_of plan.layout link) beat known lanes)
+    whole : AllByRecursion (λ (b : ReplyBeat). IsReplyBeatTo answers.0 b.head) message
+    whole = all_more (λ (b : ReplyBeat). IsReplyBeatTo answers.0 b.head) (begun_replies_at plan.layout link past)
+        (reply_beat (bus_in_group plan.layout link) beat known lanes)
         (begun_answers (replying_at plan.layout link past) (begun_replies_at plan.layout link past) beat answers.0
         (heads link)
         (subst (λ (u : Under). Continues SameReplyFields (first_reply u.replying) beat) (linked link)
@@ -126,10 +126,10 @@ module _ (plan : Plan) (s : State) (past : List Sighting) (linked : LinksAre pla
         (zip (asks plan (side_of link) own past ++ [])
         (replies plan (side_of link) own past
         ++ reply_ended plan.layout past (reply_at link known lanes beat) (D beat)))
-    own_answered = go (ends_reply (bus_of plan.layout link) (replying_at plan.layout link past) beat) _ whole
+    own_answered = go (ends_reply (bus_in_group plan.layout link) (replying_at plan.layout link past) beat) _ whole
       where
         go : (ends : Bool) (reply : ℕ → Pattern)
-            → AllByRecursion (λ (b : ReplyBeat). Answers answers.0 b.head) message
+            → AllByRecursion (λ (b : ReplyBeat). IsReplyBeatTo answers.0 b.head) message
             → AllByRecursion IsAnswered (zip (asks plan (side_of link) own past ++ [])
             (replies plan (side_of link) own past ++
             (if ends then record { link = link; reply = reply; beats = message } ∷ [] else [])))
@@ -166,12 +166,12 @@ module _ (plan : Plan) (s : State) (past : List Sighting) (linked : LinksAre pla
         go false is = before side wide
         go true is =
             let both = of_is plan (reply_at link known lanes beat) side wide is in
-            let P : Side → ℕ → Type 0 =
+            let P : LinkSide → ℕ → Type 0 =
             λ sd w. AllByRecursion IsAnswered (zip (asks plan sd w past ++ [])
             (replies plan sd w past ++ reply_ended plan.layout past (reply_at link known lanes beat) (D beat))) in
             subst (λ sd. P sd wide) both.0 (subst (λ w. P (side_of link) w) both.1 own_answered)
 
-pub are_answered : (plan : Plan) (past : List Sighting) → AreWatched plan.layout past → IsLawful plan past
+pub are_answered : (plan : GroupPlan) (past : List Sighting) → AreWatched plan.layout past → IsLawfulGroup plan past
     → AreAnswered plan past
 are_answered plan [] watched lawful = λ side wide. tt
 are_answered plan (x ∷ past) watched lawful = go (are_answered plan past watched.1 lawful.0) x.beat lawful.1

@@ -7,7 +7,7 @@ use Rattle.check_memory.specs.Slave.{slave_after, expected_of}
 use Rattle.check_flight.specs.PortSlave.{PortSlave, served_by}
 use Rattle.check_flight.specs.Laws.{StaysAsItIs}
 use Rattle.check_flight.proofs.Known.{stays_accepting, stays_answering}
-use Rattle.check_watch_laws.specs.Moments.{Act, Moment, acting, slave_then, slave_after_all}
+use Rattle.check_watch_laws.specs.Moments.{Act, RequestMoment, acting, slave_then, slave_after_all}
 use Rattle.check_watch_laws.specs.Moments.Act.{Accepts, Answers}
 
 -- a slave that accepts or answers no request stays as it is
@@ -16,7 +16,7 @@ acting_none Accepts slave wide = refl
 acting_none Answers slave wide = refl
 
 -- one moment more
-pub after_more : (slave : PortSlave) (before : List Moment) (moment : Moment)
+pub after_more : (slave : PortSlave) (before : List RequestMoment) (moment : RequestMoment)
     → slave_after_all slave (before ++ moment ∷ []) ≡ slave_then (slave_after_all slave before) moment
 after_more slave [] moment = refl
 after_more slave (first ∷ before) moment = after_more (slave_then slave first) before moment
@@ -27,7 +27,7 @@ pub act_stays : (act : Act) (slave : PortSlave) (wide : ℕ) (ask : Option Reque
 act_stays Accepts slave wide ask = stays_accepting slave wide ask
 act_stays Answers slave wide ask = stays_answering slave wide ask
 
-pub after_order : (slave : PortSlave) (moments : List Moment) → (slave_after_all slave moments).order ≡ slave.order
+pub after_order : (slave : PortSlave) (moments : List RequestMoment) → (slave_after_all slave moments).order ≡ slave.order
 after_order slave [] = refl
 after_order slave (moment ∷ moments) =
     after_order (slave_then slave moment) moments ∙ (act_stays moment.act slave moment.wide (Some moment.ask)).order

@@ -4,15 +4,15 @@ use Rattle.std.specs.Prelude.{IsSomeAnd, nat_lt}
 use Rattle.std.proofs.lemmas.List.{map-append}
 use Rattle.std.proofs.lemmas.List.Elements.{filter-append}
 use Rattle.tl_types.specs.Request.{Request}
-use Rattle.check_cells.specs.Pattern.{Pattern, Fits}
+use Rattle.check_cells.specs.Pattern.{Pattern, FitsPattern}
 use Rattle.check_flight.specs.declared.answer.Answer.{Answer}
 use Rattle.check_flight.specs.Crossing.{Crossing, given as given_in, IsSameReply}
 use Rattle.check_flight.specs.Crossing.Crossing.{Waiting, Crossed, Given}
 use Rattle.check_flight.specs.Flight.{Turn}
 use Rattle.check_flight.specs.Flight.Turn.{Idle, Asking, Asked}
 use Rattle.check_watch.specs.declared.beat.Link.{Link}
-use Rattle.check_watch.specs.Plan.{Plan}
-use Rattle.check_watch.specs.Plan.Side.{AtPorts}
+use Rattle.check_watch.specs.Plan.{GroupPlan}
+use Rattle.check_watch.specs.Plan.LinkSide.{AtPorts}
 use Rattle.check_watch.specs.Scene.{turn_by, given_by}
 use Rattle.check_watch_laws.specs.Crossed.{AskSeen, ReplySeen}
 use Rattle.check_watch_laws.specs.Memories.{widened}
@@ -47,7 +47,7 @@ pub record Story : Type 0 where
   pub taken : List AskSeen
   pub gave : List ReplySeen
 
-module _ (plan : Plan) (wide : ℕ) where
+module _ (plan : GroupPlan) (wide : ℕ) where
   abbrev pub outside : Story → List (AskSeen × ReplySeen)
   outside story = answered_from_outside plan (zip story.sent story.collected)
 
@@ -315,7 +315,7 @@ module _ (plan : Plan) (wide : ℕ) where
 
   -- the reply that a port gives
   pub record IsItsGift (ask : Request) (reply : ReplySeen) (got : Pattern) (due : Option Answer) : Type 0 where
-    pub must : IsSomeAnd due (λ answer. Fits answer.reply got)
+    pub must : IsSomeAnd due (λ answer. FitsPattern answer.reply got)
     pub is : got ≡ reply.reply ask.address
 
   back : (story : Story) (link : Link) (p : ℕ) (ask : Request) (done : List AskSeen) (reply : ReplySeen)

@@ -9,15 +9,15 @@ use Rattle.check_flight.specs.Flight.Turn.{Asked}
 use Rattle.check_watch.specs.declared.beat.Beat.TheVariants.{A, D}
 use Rattle.check_watch.specs.declared.beat.Link.{Link}
 use Rattle.check_watch.specs.declared.beat.Link.TheVariants.{Master, Port}
-use Rattle.check_watch.specs.declared.links.Links.{Links}
-use Rattle.check_watch.specs.declared.links.Links.TheVariants.{Both, Masters, Ports}
-use Rattle.check_watch.specs.Plan.{Plan, Layout, Sighting, side_of, number_of, wide_of, same_side, are_both, HasLink, IsWatched}
-use Rattle.check_watch.specs.Plan.Side.{AtMasters, AtPorts}
+use Rattle.check_watch.specs.declared.links.GroupLinks.{GroupLinks}
+use Rattle.check_watch.specs.declared.links.GroupLinks.TheVariants.{Both, Masters, Ports}
+use Rattle.check_watch.specs.Plan.{GroupPlan, GroupLayout, Sighting, side_of, link_number, wide_of, same_side, are_both, HasGroupLink, IsGroupLink}
+use Rattle.check_watch.specs.Plan.LinkSide.{AtMasters, AtPorts}
 use Rattle.check_watch.specs.Scene.{ask_by, ask_if, takes_effect, begins_reply}
 use Rattle.check_watch.proofs.InFlight.{ask_at, reply_at}
 use Rattle.check_watch_laws.specs.Crossed.{asks, replies, next_answered, replying_at, ask_ended}
 use Rattle.check_watch_laws.specs.Memories.{side_by, side_for, port_for, is_for, ask_answered}
-use Rattle.check_watch_laws.specs.Moments.{Act, Moment, moment_of}
+use Rattle.check_watch_laws.specs.Moments.{Act, RequestMoment, moment_of}
 use Rattle.check_watch_laws.specs.Moments.Act.{Accepts, Answers}
 use Rattle.check_watch_laws.proofs.Flights.{pending, InStep, ask_list, ask_seen}
 use Rattle.check_watch_laws.proofs.Links.{under_by}
@@ -33,14 +33,14 @@ less m n h = go (nat_lt m n) refl
     go true is = refl
     go false is = absurd (omega (arith, h, nltb→le m n (subst (λ b. T (not b)) (sym is) tt)))
 
-at_masters : (links : Links) (has_link : Bool) (m : ℕ) → IsWatched links (Master m)
+at_masters : (links : GroupLinks) (has_link : Bool) (m : ℕ) → IsGroupLink links (Master m)
     → (if are_both links && has_link then false else true) ≡ same_side AtMasters (side_by links has_link)
 at_masters Both true m watched = refl
 at_masters Both false m watched = refl
 at_masters Masters has_link m watched = refl
 at_masters Ports has_link m watched = absurd watched
 
-at_ports : (links : Links) (has_link : Bool) (p : ℕ) → IsWatched links (Port p) → has_link ≡ true
+at_ports : (links : GroupLinks) (has_link : Bool) (p : ℕ) → IsGroupLink links (Port p) → has_link ≡ true
     → true ≡ same_side AtPorts (side_by links has_link)
 at_ports Both true p watched is = refl
 at_ports Both false p watched is = cc
@@ -48,7 +48,7 @@ at_ports Masters has_link p watched is = absurd watched
 at_ports Ports has_link p watched is = refl
 
 -- a port's slave accepts requests at a link that is watched just if it is seen there
-pub takes : (layout : Layout) (link : Link) (port : ℕ) → HasLink layout link → IsWatched layout.links link
+pub takes : (layout : GroupLayout) (link : Link) (port : ℕ) → HasGroupLink layout link → IsGroupLink layout.links link
     → ((p : ℕ) → link ≡ Port p → port ≡ p)
     → takes_effect layout link port ≡ same_side (side_of link) (side_for layout port)
 takes layout (Master m) port has watched own = at_masters layout.links (nat_lt port (length layout.ports)) m watched
@@ -58,7 +58,7 @@ takes layout (Port p) port has watched own =
 
 -- ---- the request of a port's slave
 
-abbrev pub moment_if : Act → ℕ → Option Request → List Moment
+abbrev pub moment_if : Act → ℕ → Option Request → List RequestMoment
 moment_if act wide None = []
 moment_if act wide (Some ask) = record { act = act; wide = wide; ask = ask } ∷ []
 
@@ -72,8 +72,8 @@ none_here : (act : Act) (wide : ℕ) (here : Bool) → [] ≡ (if here then mome
 none_here act wide true = refl
 none_here act wide false = refl
 
-module _ (plan : Plan) (link : Link) (wide port found : ℕ) (has : HasLink plan.layout link)
-    (watched : IsWatched plan.layout.links link) (own : (p : ℕ) → link ≡ Port p → found ≡ p) where
+module _ (plan : GroupPlan) (link : Link) (wide port found : ℕ) (has : HasGroupLink plan.layout link)
+    (watched : IsGroupLink plan.layout.links link) (own : (p : ℕ) → link ≡ Port p → found ≡ p) where
   -- a request that is seen is one of this port, if it goes there
   taken : (act : Act) (ask : Request) → port_for plan link ask ≡ found
       → map (moment_of act wide) (filter (is_for plan port) (record { link = link; ask = ask } ∷ [])) ≡
@@ -81,7 +81,7 @@ module _ (plan : Plan) (link : Link) (wide port found : ℕ) (has : HasLink plan
   taken act ask goes = go (found == port) refl
     where
       -- by where it is seen and where it goes
-      Done : Bool → Bool → List Moment
+      Done : Bool → Bool → List RequestMoment
       Done seen here = map (moment_of act wide) (if seen && here then record { link = link; ask = ask } ∷ [] else [])
 
       at : (seen : Bool) → Done seen true ≡ moment_if act wide (ask_if seen (Some ask))
@@ -156,9 +156,9 @@ module _ (plan : Plan) (link : Link) (wide port found : ℕ) (has : HasLink plan
       go false = off (takes_effect plan.layout link found)
 
 -- the request that the next reply of a source answers is the one in flight
-pub next_is : (plan : Plan) (past : List Sighting) (link : Link) (wide : ℕ) (turn : Turn) (ask : Request)
+pub next_is : (plan : GroupPlan) (past : List Sighting) (link : Link) (wide : ℕ) (turn : Turn) (ask : Request)
     → InStep (side_of link) turn (asks plan (side_of link) wide past) (replies plan (side_of link) wide past)
-    → turn ≡ Asked (number_of link) ask → next_answered plan
+    → turn ≡ Asked (link_number link) ask → next_answered plan
     (side_of link) wide past ≡ record { link = link; ask = ask } ∷ []
 next_is plan past link wide turn ask step is =
     let n = length (replies plan (side_of link) wide past) in
@@ -166,5 +166,5 @@ next_is plan past link wide turn ask step is =
     ap (λ l. take (suc n - n) (drop n l)) step.asks_are
     ∙ ap (λ l. take (suc n - n) l) (drop_front step.done (pending (side_of link) turn) n step.counted)
     ∙ ap (λ t. take (suc n - n) (pending (side_of link) t)) is
-    ∙ ap (λ k. take k (record { link = link_on (side_of link) (number_of link); ask = ask } ∷ [])) one
+    ∙ ap (λ k. take k (record { link = link_on (side_of link) (link_number link); ask = ask } ∷ [])) one
     ∙ ap (λ (l : Link). record { link = l; ask = ask } ∷ []) (own_link link)

@@ -3,7 +3,7 @@ use Rattle.std.proofs.Common.{◌≡◌, ◌∙◌, ℕ, ◌%◌, ◌^◌, Bool,
 use Rattle.std.specs.Prelude.{◌==◌, ◌&&◌, IsSomeAnd}
 use Rattle.std.proofs.lemmas.List.Elements.{filter-append}
 use Rattle.tl_types.specs.Request.{Request}
-use Rattle.check_cells.specs.Pattern.{Pattern, Fits}
+use Rattle.check_cells.specs.Pattern.{Pattern, FitsPattern}
 use Rattle.check_beats.specs.Spelling.{ReplyBeat}
 use Rattle.check_beats.specs.State.{Under, ReplyBegun, ends_reply, reply_of}
 use Rattle.check_beats.specs.declared.beat.AskHead.{AskHead}
@@ -20,9 +20,9 @@ use Rattle.check_watch.specs.declared.beat.Beat.TheVariants.{A, D}
 use Rattle.check_watch.specs.declared.beat.Link.{Link}
 use Rattle.check_watch.specs.declared.beat.Link.TheVariants.{Master, Port}
 use Rattle.check_watch.specs.Allowed.{IsMust, IsAllowedAsk, IsAllowedReply}
-use Rattle.check_watch.specs.Lawful.{IsLawful, IsAllowed}
-use Rattle.check_watch.specs.Past.{State, found_in, scene_of, state, state_after}
-use Rattle.check_watch.specs.Plan.{Plan, Layout, Sighting, Side, side_of, number_of, wide_of, same_side, crosses, is_of, bus_of, HasLink, IsWatched}
+use Rattle.check_watch.specs.Lawful.{IsLawfulGroup, IsAllowed}
+use Rattle.check_watch.specs.Past.{State, scene_found, scene_of, state, state_after}
+use Rattle.check_watch.specs.Plan.{GroupPlan, GroupLayout, Sighting, LinkSide, side_of, link_number, wide_of, same_side, crosses_at_port, is_of, bus_in_group, HasGroupLink, IsGroupLink}
 use Rattle.check_watch.specs.Scene.{ask_by, ask_if, takes_effect, begins_reply, is_given, captured, flight_after}
 use Rattle.check_watch.proofs.InFlight.{ask_at, reply_at, of_is}
 use Rattle.check_watch_laws.specs.Crossed.{AskSeen, ReplySeen, AreWatched, reply_beat, replying_at, begun_replies_at, ask_ended, reply_ended, asks, replies}
@@ -41,11 +41,11 @@ use Rattle.check_watch_laws.proofs.Told.{dues_none, gains, entries_more, AreMatc
 use Rattle.check_watch_laws.proofs.Turns.{AsksFly, asks_fly, asked_at, link_on, own_link, eqb_own, same_side-refl}
 
 -- the exchanges with a port among these requests and replies
-abbrev pub at_port : Plan → ℕ → List AskSeen → List ReplySeen → List (AskSeen × ReplySeen)
+abbrev pub at_port : GroupPlan → ℕ → List AskSeen → List ReplySeen → List (AskSeen × ReplySeen)
 at_port plan port asked answered = filter (λ (seen : AskSeen × ReplySeen). is_for plan port seen.0) (zip asked answered)
 
 -- what is kept, at a side and a wide source that are written another way
-pub told_at : (plan : Plan) (s : State) (past : List Sighting) (port wide own : ℕ) (side mine : Side) → mine ≡ side
+pub told_at : (plan : GroupPlan) (s : State) (past : List Sighting) (port wide own : ℕ) (side mine : LinkSide) → mine ≡ side
     → own ≡ wide
     → IsTold plan port wide side (s.flights side wide)
     (at_port plan port (asks plan side wide past) (replies plan side wide past))
@@ -54,7 +54,7 @@ pub told_at : (plan : Plan) (s : State) (past : List Sighting) (port wide own : 
     (at_port plan port (asks plan mine own past) (replies plan mine own past))
     (entries_of own (history_at plan port past))
 told_at plan s past port wide own side mine side_is wide_is was =
-    let P : Side → ℕ → Type 0 =
+    let P : LinkSide → ℕ → Type 0 =
     λ sd w. IsTold plan port w sd (s.flights sd w)
     (at_port plan port (asks plan sd w past) (replies plan sd w past)) (entries_of w (history_at plan port past)) in
     subst (λ sd. P sd own) (sym side_is) (subst (λ w. P side w) (sym wide_is) was)
@@ -70,22 +70,22 @@ unseen_late false begins ended is = refl
 -- ---- a beat of a request
 
 -- nothing was owed if nothing was in flight
-none_owed : (plan : Plan) (port wide : ℕ) (side : Side) (turn : Turn) (due : Option Answer) → pending side turn ≡ []
+none_owed : (plan : GroupPlan) (port wide : ℕ) (side : LinkSide) (turn : Turn) (due : Option Answer) → pending side turn ≡ []
     → owed plan port wide side turn due ≡ []
 none_owed plan port wide side Idle due none = refl
 none_owed plan port wide side (Asking n) due none = refl
 none_owed plan port wide side (Asked n ask) due none = cc
 
-module _ (plan : Plan) (s : State) (past : List Sighting) (linked : LinksAre plan s past)
+module _ (plan : GroupPlan) (s : State) (past : List Sighting) (linked : LinksAre plan s past)
     (busy : AsksFly plan s) (steps : AreInStep plan s past) (replayed : AreReplayed plan s past)
     (told_so : AreTold plan s past) (link : Link) (known : ℕ) (lanes : List ℕ)
-    (has : HasLink plan.layout link) (watched : IsWatched plan.layout.links link) (beat : AskHead)
+    (has : HasGroupLink plan.layout link) (watched : IsGroupLink plan.layout.links link) (beat : AskHead)
     (allowed : IsAllowedAsk plan.layout link (scene_of plan s link (A beat)) beat known lanes) where
   abbrev own : ℕ
   own = wide_of plan link beat.source
 
   abbrev found : ℕ
-  found = (found_in plan s link (A beat)).port
+  found = (scene_found plan s link (A beat)).port
 
   abbrev done : Option Request
   done = accepts_now plan s link lanes beat
@@ -131,7 +131,7 @@ module _ (plan : Plan) (s : State) (past : List Sighting) (linked : LinksAre pla
       let step = steps (side_of link) own in
       let asked = asks plan (side_of link) own past in
       let answered = replies plan (side_of link) own past in
-      let under = s.links (side_of link) (number_of link) in
+      let under = s.links (side_of link) (link_number link) in
       let ended = ask_by under beat lanes in
       let more = ask_ended plan.layout past (ask_at link known lanes beat) (A beat) in
       let before : entries_of own (history_at plan port past) ≡ was.front =
@@ -159,7 +159,7 @@ module _ (plan : Plan) (s : State) (past : List Sighting) (linked : LinksAre pla
   pub ask_told : AreTold plan (state_after plan s (ask_at link known lanes beat)) (ask_at link known lanes beat ∷ past)
   ask_told port wide = go (is_of plan (ask_at link known lanes beat) (side_for plan.layout port) wide) refl
     where
-      Told : Side → ℕ → Type 0
+      Told : LinkSide → ℕ → Type 0
       Told sd w = IsTold plan port w sd (flight_after plan.layout link (scene_of plan s link (A beat)) (A beat) lanes)
           (at_port plan port (asks plan sd w past
           ++ ask_ended plan.layout past (ask_at link known lanes beat) (A beat))
@@ -184,7 +184,7 @@ module _ (plan : Plan) (s : State) (past : List Sighting) (linked : LinksAre pla
           let was = told_so port wide in
           let none = other_entry plan link has watched found own done
           (port_own plan link (s.flights (side_of link) own).turn (A beat))
-          (unseen_by (takes_effect plan.layout link found) (ask_by (s.links (side_of link) (number_of link)) beat lanes))
+          (unseen_by (takes_effect plan.layout link found) (ask_by (s.links (side_of link) (link_number link)) beat lanes))
           Accepts port wide (slave_after_all (reset_of plan port) (moments plan port past)) is in
           record {
             front = was.front;
@@ -196,29 +196,29 @@ module _ (plan : Plan) (s : State) (past : List Sighting) (linked : LinksAre pla
 -- ---- a beat of a reply
 
 -- if a request takes effect, its reply is what the slave gives
-pub not_given : (layout : Layout) (link : Link) (port : ℕ) → takes_effect layout link port ≡ true
+pub not_given : (layout : GroupLayout) (link : Link) (port : ℕ) → takes_effect layout link port ≡ true
     → is_given layout link port ≡ false
 not_given layout (Port p) port is = refl
-not_given layout (Master m) port is = go (crosses layout port) is
+not_given layout (Master m) port is = go (crosses_at_port layout port) is
   where
     go : (given : Bool) → (if given then false else true) ≡ true → given ≡ false
     go true e = cc
     go false e = refl
 
-fresh_due : (plan : Plan) (s : State) (side : Side) (wide n : ℕ) (turn : Turn) (ask : Request)
+fresh_due : (plan : GroupPlan) (s : State) (side : LinkSide) (wide n : ℕ) (turn : Turn) (ask : Request)
     (due : Option Answer) (seen : Bool) → turn ≡ Asked n ask → HasBegun plan s side wide turn due
-    → (seen && begins_reply (s.links (side_of (link_on side n)) (number_of (link_on side n))).replying) ≡ true
+    → (seen && begins_reply (s.links (side_of (link_on side n)) (link_number (link_on side n))).replying) ≡ true
     → is_due_at_reply (order_at plan (port_for plan (link_on side n) ask)) ≡ true
     → due ≡ None
 fresh_due plan s side wide n turn ask None seen is begun effect late = refl
 fresh_due plan s side wide n turn ask (Some answer) seen is begun effect late =
-    absurd (go seen (s.links (side_of (link_on side n)) (number_of (link_on side n))).replying refl effect)
+    absurd (go seen (s.links (side_of (link_on side n)) (link_number (link_on side n))).replying refl effect)
   where
     here : IsReplying plan s wide (link_on side n)
     here = subst (λ t. HasBegun plan s side wide t (Some answer)) is begun late
 
     go : (takes : Bool) (kept : Option ReplyBegun)
-        → (s.links (side_of (link_on side n)) (number_of (link_on side n))).replying ≡ kept
+        → (s.links (side_of (link_on side n)) (link_number (link_on side n))).replying ≡ kept
         → (takes && begins_reply kept) ≡ true → ⊥
     go true None none all = let under_way : None ≡ Some here.0 = sym none ∙ here.1 in absurd (cc)
     go true (Some b) none all = cc
@@ -237,8 +237,8 @@ late_if : (effect : Bool) (port : ℕ) (slave : PortSlave) (wide : ℕ) (ask : R
 late_if true port slave wide ask answer is = (refl, late_by slave.order port slave wide ask answer is)
 late_if false port slave wide ask answer is = cc
 
-owed_off : (plan : Plan) (port wide n : ℕ) (link : Link) (ask : Request) (due : Option Answer)
-    → (port_for plan link ask == port) ≡ false → n ≡ number_of link
+owed_off : (plan : GroupPlan) (port wide n : ℕ) (link : Link) (ask : Request) (due : Option Answer)
+    → (port_for plan link ask == port) ≡ false → n ≡ link_number link
     → owed plan port wide (side_of link) (Asked n ask) due ≡ []
 owed_off plan port wide n link ask None off is = refl
 owed_off plan port wide n link ask (Some answer) off is =
@@ -247,15 +247,15 @@ owed_off plan port wide n link ask (Some answer) off is =
     (ap (λ l. port_for plan l ask == port) there ∙ off)
 
 -- the last reply is the one that was owed
-last_entry : (plan : Plan) (port wide : ℕ) (link : Link) (ask : Request) (reply : ℕ → Pattern) (beats : List ReplyBeat)
+last_entry : (plan : GroupPlan) (port wide : ℕ) (link : Link) (ask : Request) (reply : ℕ → Pattern) (beats : List ReplyBeat)
     (seen : List (AskSeen × ReplySeen)) (front : List (Request × Pattern)) (due : Option Answer)
-    → (port_for plan link ask == port) ≡ true → IsSourced (Asked (number_of link) ask) due
-    → IsSomeAnd due (λ answer. Fits answer.reply (reply ask.address)) → AreMatched wide seen front
+    → (port_for plan link ask == port) ≡ true → IsSourced (Asked (link_number link) ask) due
+    → IsSomeAnd due (λ answer. FitsPattern answer.reply (reply ask.address)) → AreMatched wide seen front
     → AreMatched wide (seen ++ (
       record { link = link; ask = ask },
       record { link = link; reply = reply; beats = beats },
     ) ∷ [])
-    (front ++ owed plan port wide (side_of link) (Asked (number_of link) ask) due)
+    (front ++ owed plan port wide (side_of link) (Asked (link_number link) ask) due)
 last_entry plan port wide link ask reply beats seen front None goes sourced must all = absurd must
 last_entry plan port wide link ask reply beats seen front (Some answer) goes sourced must all =
     let last : AskSeen × ReplySeen = (
@@ -267,16 +267,16 @@ last_entry plan port wide link ask reply beats seen front (Some answer) goes sou
     ap (λ k. record answer.reply { source = k }) (sym sourced) in
     let is : IsEntry wide last entry = record {
       ask = refl;
-      fits = subst (λ (r : Pattern). Fits r (reply ask.address)) (sym same) must;
+      fits = subst (λ (r : Pattern). FitsPattern r (reply ask.address)) (sym same) must;
     } in
-    let owed_is : entry ∷ [] ≡ owed plan port wide (side_of link) (Asked (number_of link) ask) (Some answer) =
+    let owed_is : entry ∷ [] ≡ owed plan port wide (side_of link) (Asked (link_number link) ask) (Some answer) =
     ap (λ (b : Bool). if b then entry ∷ [] else [])
     (sym (ap (λ l. port_for plan l ask == port) (own_link link) ∙ goes)) in
     subst (λ l. AreMatched wide (seen ++ last ∷ []) (front ++ l)) owed_is
     (matched_more wide seen front last entry all is)
 
 -- the exchanges with one reply more
-pub seen_more : (plan : Plan) (port : ℕ) (asked done : List AskSeen) (answered : List ReplySeen) (last : AskSeen)
+pub seen_more : (plan : GroupPlan) (port : ℕ) (asked done : List AskSeen) (answered : List ReplySeen) (last : AskSeen)
     (reply : ReplySeen) → asked ≡ done ++ last ∷ [] → length answered ≡ length done
     → at_port plan port asked answered ++ (if is_for plan port last then (last, reply) ∷ [] else []) ≡ at_port plan port
     (asked ++ []) (answered ++ reply ∷ [])
@@ -290,15 +290,15 @@ seen_more plan port asked done answered last reply is counted =
     ∙ ap (λ l. at_port plan port l (answered ++ reply ∷ [])) (sym (append-nil asked ∙ is))
 
 -- a beat of a reply to the request in flight, whether it is lawful or not
-module _ (plan : Plan) (s : State) (past : List Sighting) (linked : LinksAre plan s past) (steps : AreInStep plan s past)
+module _ (plan : GroupPlan) (s : State) (past : List Sighting) (linked : LinksAre plan s past) (steps : AreInStep plan s past)
     (dues : AreDue plan s) (replayed : AreReplayed plan s past) (link : Link) (known : ℕ) (lanes : List ℕ)
-    (has : HasLink plan.layout link) (watched : IsWatched plan.layout.links link) (beat : ReplyHead) (ask : Request)
-    (in_flight : (s.flights (side_of link) (wide_of plan link beat.source)).turn ≡ Asked (number_of link) ask) where
+    (has : HasGroupLink plan.layout link) (watched : IsGroupLink plan.layout.links link) (beat : ReplyHead) (ask : Request)
+    (in_flight : (s.flights (side_of link) (wide_of plan link beat.source)).turn ≡ Asked (link_number link) ask) where
   abbrev key : ℕ
   key = wide_of plan link beat.source
 
   abbrev to_port : ℕ
-  to_port = (found_in plan s link (D beat)).port
+  to_port = (scene_found plan s link (D beat)).port
 
   abbrev effect_now : Option Request
   effect_now = answers_now plan s link beat
@@ -335,11 +335,11 @@ module _ (plan : Plan) (s : State) (past : List Sighting) (linked : LinksAre pla
           ∙ ap (λ p. gains Answers p (s.slaves p) key effect_now) (sym (eqb-true to_port port is))
 
   pub goes_there : port_for plan link ask ≡ to_port
-  goes_there = reply_goes plan link flying.turn (number_of link) beat ask in_flight
+  goes_there = reply_goes plan link flying.turn (link_number link) beat ask in_flight
 
   abbrev effects : Bool
   effects = takes_effect plan.layout link to_port
-      && begins_reply (s.links (side_of link) (number_of link)).replying
+      && begins_reply (s.links (side_of link) (link_number link)).replying
 
   -- its entry stands last, once its reply is due
   pub put_last : (port : ℕ) (front : List (Request × Pattern))
@@ -347,15 +347,15 @@ module _ (plan : Plan) (s : State) (past : List Sighting) (linked : LinksAre pla
       → entries_of key (history_at plan port (reply_at link known lanes beat ∷ past)) ≡ front
       ++ owed plan port key (side_of link) flying.turn due_now
   put_last port front is =
-      let order_is : port_for plan (link_on (side_of link) (number_of link)) ask ≡ to_port =
+      let order_is : port_for plan (link_on (side_of link) (link_number link)) ask ≡ to_port =
       ap (λ l. port_for plan l ask) (own_link link) ∙ goes_there in
       let fresh : (answer : Answer)
       → due_answering to_port (s.slaves to_port) key (ask_if effects (Some ask)) ≡ Some answer → flying.due ≡ None =
       λ answer due. let so = late_if effects to_port (s.slaves to_port) key ask answer due in
-      fresh_due plan s (side_of link) key (number_of link) flying.turn ask flying.due
+      fresh_due plan s (side_of link) key (link_number link) flying.turn ask flying.due
       (takes_effect plan.layout link to_port) in_flight (dues (side_of link) key).begun
       (ap (λ (l : Link). takes_effect plan.layout link to_port
-      && begins_reply (s.links (side_of l) (number_of l)).replying) (own_link link) ∙ so.0)
+      && begins_reply (s.links (side_of l) (link_number l)).replying) (own_link link) ∙ so.0)
       (ap (λ p. is_due_at_reply (order_at plan p)) order_is
       ∙ ap is_due_at_reply (orders plan s past replayed to_port) ∙ so.1) in
       gain port key
@@ -368,25 +368,25 @@ module _ (plan : Plan) (s : State) (past : List Sighting) (linked : LinksAre pla
       ∙ ap (λ l. front ++ l) (late_owed plan port key to_port link
       (s.slaves to_port) effects flying.turn ask flying.due in_flight goes_there fresh)
 
-  pub sourced_late : IsSourced (Asked (number_of link) ask) due_now
+  pub sourced_late : IsSourced (Asked (link_number link) ask) due_now
   sourced_late =
-      let before : IsSourced (Asked (number_of link) ask) flying.due =
+      let before : IsSourced (Asked (link_number link) ask) flying.due =
       subst (λ t. IsSourced t flying.due) in_flight (dues (side_of link) key).sourced in
-      subst (λ t. IsSourced (Asked (number_of link) ask)
+      subst (λ t. IsSourced (Asked (link_number link) ask)
       (due_by flying.due (due_answering to_port (s.slaves to_port) key (ask_if effects (asked t)))))
       (sym in_flight)
-      (late_sourced to_port key (s.slaves to_port) effects (number_of link) ask flying.due before)
+      (late_sourced to_port key (s.slaves to_port) effects (link_number link) ask flying.due before)
 
-module _ (plan : Plan) (s : State) (past : List Sighting) (linked : LinksAre plan s past) (steps : AreInStep plan s past)
+module _ (plan : GroupPlan) (s : State) (past : List Sighting) (linked : LinksAre plan s past) (steps : AreInStep plan s past)
     (dues : AreDue plan s) (replayed : AreReplayed plan s past) (told_so : AreTold plan s past) (link : Link)
     (known : ℕ) (lanes : List ℕ)
-    (has : HasLink plan.layout link) (watched : IsWatched plan.layout.links link) (beat : ReplyHead)
+    (has : HasGroupLink plan.layout link) (watched : IsGroupLink plan.layout.links link) (beat : ReplyHead)
     (allowed : IsAllowedReply plan.layout link (scene_of plan s link (D beat)) beat known lanes) where
   abbrev mine : ℕ
   mine = wide_of plan link beat.source
 
   abbrev goes_to : ℕ
-  goes_to = (found_in plan s link (D beat)).port
+  goes_to = (scene_found plan s link (D beat)).port
 
   abbrev does : Option Request
   does = answers_now plan s link beat
@@ -399,13 +399,13 @@ module _ (plan : Plan) (s : State) (past : List Sighting) (linked : LinksAre pla
   late_due = due_by here.due (due_answering goes_to (s.slaves goes_to) mine does)
 
   -- the request that is answered
-  answers : (ask : Request) × (here.turn ≡ Asked (number_of link) ask)
+  answers : (ask : Request) × (here.turn ≡ Asked (link_number link) ask)
   answers =
-      let found = asked_at (number_of link) here.turn _ allowed.answers in
+      let found = asked_at (link_number link) here.turn _ allowed.answers in
       (found.0, found.1)
 
   goes : port_for plan link answers.0 ≡ goes_to
-  goes = reply_goes plan link here.turn (number_of link) beat answers.0 answers.1
+  goes = reply_goes plan link here.turn (link_number link) beat answers.0 answers.1
 
   reply_gained : (port wide : ℕ) → entries_of wide (history_at plan port (reply_at link known lanes beat ∷ past))
       ≡ entries_of wide (history_at plan port past)
@@ -419,12 +419,12 @@ module _ (plan : Plan) (s : State) (past : List Sighting) (linked : LinksAre pla
       ++ owed plan port mine (side_of link) here.turn late_due
   mid = put_last plan s past linked steps dues replayed link known lanes has watched beat answers.0 answers.1
 
-  late_is_sourced : IsSourced (Asked (number_of link) answers.0) late_due
+  late_is_sourced : IsSourced (Asked (link_number link) answers.0) late_due
   late_is_sourced =
       sourced_late plan s past linked steps dues replayed link known lanes has watched beat answers.0 answers.1
 
   abbrev bus : ℕ
-  bus = bus_of plan.layout link
+  bus = bus_in_group plan.layout link
 
   abbrev message : List ReplyBeat
   message = begun_replies_at plan.layout link past ++ reply_beat bus beat known lanes ∷ []
@@ -436,10 +436,10 @@ module _ (plan : Plan) (s : State) (past : List Sighting) (linked : LinksAre pla
   reply_now = record { link = link; reply = λ address. got address; beats = message }
 
   -- what is captured, after these beats of the link
-  captured_is : captured (s.links (side_of link) (number_of link)) here.turn beat known lanes ≡ got answers.0.address
+  captured_is : captured (s.links (side_of link) (link_number link)) here.turn beat known lanes ≡ got answers.0.address
   captured_is =
-      ap (λ t. captured (s.links (side_of link) (number_of link)) t beat known lanes) answers.1
-      ∙ ap (λ (u : Under). captured u (Asked (number_of link) answers.0) beat known lanes) (linked link)
+      ap (λ t. captured (s.links (side_of link) (link_number link)) t beat known lanes) answers.1
+      ∙ ap (λ (u : Under). captured u (Asked (link_number link) answers.0) beat known lanes) (linked link)
       ∙ sym (reply_on_bus plan.layout link (replying_at plan.layout link past) answers.0.address beat known lanes)
 
   abbrev asked_now : List AskSeen
@@ -454,8 +454,8 @@ module _ (plan : Plan) (s : State) (past : List Sighting) (linked : LinksAre pla
   abbrev ends_now : Bool
   ends_now = ends_reply bus (replying_at plan.layout link past) beat
 
-  ends_is : ends_reply (s.links (side_of link) (number_of link)).bus
-      (s.links (side_of link) (number_of link)).replying beat ≡ ends_now
+  ends_is : ends_reply (s.links (side_of link) (link_number link)).bus
+      (s.links (side_of link) (link_number link)).replying beat ≡ ends_now
   ends_is = ap (λ (u : Under). ends_reply u.bus u.replying beat) (linked link)
 
   -- the exchange that ends is the entry that stands last
@@ -480,15 +480,15 @@ module _ (plan : Plan) (s : State) (past : List Sighting) (linked : LinksAre pla
       go : (at : Bool) → (port_for plan link answers.0 == port) ≡ at
           → AreMatched mine (at_port plan port asked_now answered_now
           ++ (if is_for plan port now then (now, reply_now) ∷ [] else []))
-          (front ++ owed plan port mine (side_of link) (Asked (number_of link) answers.0) late_due)
+          (front ++ owed plan port mine (side_of link) (Asked (link_number link) answers.0) late_due)
       go false is =
-          let none = owed_off plan port mine (number_of link) link answers.0 late_due is refl in
+          let none = owed_off plan port mine (link_number link) link answers.0 late_due is refl in
           subst (λ b. AreMatched mine (at_port plan port asked_now answered_now
           ++ (if b then (now, reply_now) ∷ [] else []))
-          (front ++ owed plan port mine (side_of link) (Asked (number_of link) answers.0) late_due))
+          (front ++ owed plan port mine (side_of link) (Asked (link_number link) answers.0) late_due))
           (sym (for_is ∙ is))
           (subst (λ l. AreMatched mine l (front ++ owed plan port mine (side_of link)
-          (Asked (number_of link) answers.0) late_due))
+          (Asked (link_number link) answers.0) late_due))
           (sym (append-nil (at_port plan port asked_now answered_now)))
           (subst (λ l. AreMatched mine (at_port plan port asked_now answered_now) l)
           (sym (ap (λ l. front ++ l) none ∙ append-nil front)) all))
@@ -497,14 +497,14 @@ module _ (plan : Plan) (s : State) (past : List Sighting) (linked : LinksAre pla
           let effective : takes_effect plan.layout link goes_to ≡ true =
           takes plan.layout link goes_to has watched (port_own plan link here.turn (D beat))
           ∙ ap (λ p. same_side (side_of link) (side_for plan.layout p)) there ∙ seen_here in
-          let must : IsSomeAnd late_due (λ answer. Fits answer.reply (got answers.0.address)) =
+          let must : IsSomeAnd late_due (λ answer. FitsPattern answer.reply (got answers.0.address)) =
           subst (λ (r : Pattern). IsMust false (s.crossings mine) late_due r) captured_is
           (subst (λ given. IsMust given (s.crossings mine) late_due
-          (captured (s.links (side_of link) (number_of link)) here.turn beat known lanes))
+          (captured (s.links (side_of link) (link_number link)) here.turn beat known lanes))
           (not_given plan.layout link goes_to effective) (allowed.ends (ends_is ∙ ends))) in
           subst (λ b. AreMatched mine (at_port plan port asked_now answered_now
           ++ (if b then (now, reply_now) ∷ [] else []))
-          (front ++ owed plan port mine (side_of link) (Asked (number_of link) answers.0) late_due))
+          (front ++ owed plan port mine (side_of link) (Asked (link_number link) answers.0) late_due))
           (sym (for_is ∙ is))
           (last_entry plan port mine link answers.0 (λ address. got address) message
           (at_port plan port asked_now answered_now) front late_due is late_is_sourced must all)
@@ -552,7 +552,7 @@ module _ (plan : Plan) (s : State) (past : List Sighting) (linked : LinksAre pla
       (reply_at link known lanes beat ∷ past)
   reply_told port wide = go (is_of plan (reply_at link known lanes beat) (side_for plan.layout port) wide) refl
     where
-      Told : Side → ℕ → Type 0
+      Told : LinkSide → ℕ → Type 0
       Told sd w = IsTold plan port w sd (flight_after plan.layout link (scene_of plan s link (D beat)) (D beat) lanes)
           (at_port plan port (asks plan sd w past ++ [])
           (replies plan sd w past ++ reply_ended plan.layout past (reply_at link known lanes beat) (D beat)))
@@ -577,7 +577,7 @@ module _ (plan : Plan) (s : State) (past : List Sighting) (linked : LinksAre pla
           let was = told_so port wide in
           let none = other_entry plan link has watched goes_to mine does (port_own plan link here.turn (D beat))
           (unseen_late (takes_effect plan.layout link goes_to)
-          (begins_reply (s.links (side_of link) (number_of link)).replying) (asked here.turn))
+          (begins_reply (s.links (side_of link) (link_number link)).replying) (asked here.turn))
           Answers port wide (slave_after_all (reset_of plan port) (moments plan port past)) is in
           record {
             front = was.front;
@@ -588,7 +588,7 @@ module _ (plan : Plan) (s : State) (past : List Sighting) (linked : LinksAre pla
 
 -- ---- all beats
 
-pub are_told : (plan : Plan) (past : List Sighting) → AreWatched plan.layout past → IsLawful plan past
+pub are_told : (plan : GroupPlan) (past : List Sighting) → AreWatched plan.layout past → IsLawfulGroup plan past
     → AreTold plan (state plan past) past
 are_told plan [] watched lawful =
     λ port wide. record {

@@ -8,14 +8,14 @@ use Rattle.check_flight.specs.declared.answer.Answer.{Answer}
 use Rattle.check_flight.specs.PortSlave.{PortSlave}
 use Rattle.check_watch_laws.specs.Crossed.{AskSeen, ReplySeen}
 use Rattle.check_watch_laws.specs.Memories.{IsEntry, AreEntries, entries_of}
-use Rattle.check_watch_laws.specs.Moments.{Act, Moment, due_acting, slave_then, slave_after_all, entry_due, dues_of}
+use Rattle.check_watch_laws.specs.Moments.{Act, RequestMoment, due_acting, slave_then, slave_after_all, entry_due, dues_of}
 use Rattle.check_watch_laws.proofs.Taking.{moment_if}
 
 pub dues_none : (port : ℕ) (slave : PortSlave) → dues_of port slave [] ≡ []
 unfolding dues_of
 dues_none port slave = refl
 
-pub dues_cons : (port : ℕ) (slave : PortSlave) (moment : Moment) (moments : List Moment)
+pub dues_cons : (port : ℕ) (slave : PortSlave) (moment : RequestMoment) (moments : List RequestMoment)
     → dues_of port slave (moment ∷ moments)
     ≡ entry_due moment.wide moment.ask (due_acting moment.act port slave moment.wide (Some moment.ask))
     ++ dues_of port (slave_then slave moment) moments
@@ -23,7 +23,7 @@ unfolding dues_of
 dues_cons port slave moment moments = refl
 
 -- one moment more
-dues_more : (port : ℕ) (slave : PortSlave) (moments : List Moment) (moment : Moment)
+dues_more : (port : ℕ) (slave : PortSlave) (moments : List RequestMoment) (moment : RequestMoment)
     → dues_of port slave (moments ++ moment ∷ []) ≡ dues_of port slave moments
     ++ entry_due moment.wide moment.ask
     (due_acting moment.act port (slave_after_all slave moments) moment.wide (Some moment.ask))
@@ -56,7 +56,7 @@ sorted wide other ask None = both (other == wide)
 sorted wide other ask (Some answer) = refl
 
 -- one moment more, or none
-pub entries_more : (port : ℕ) (slave : PortSlave) (moments : List Moment) (wide other : ℕ) (act : Act) (here : Bool)
+pub entries_more : (port : ℕ) (slave : PortSlave) (moments : List RequestMoment) (wide other : ℕ) (act : Act) (here : Bool)
     (did : Option Request)
     → entries_of wide (dues_of port slave (moments ++ (if here then moment_if act other did else [])))
     ≡ entries_of wide (dues_of port slave moments) ++ (if here then

@@ -4,7 +4,7 @@ use Rattle.std.specs.List.{AllByRecursion}
 use Rattle.tl_types.specs.Request.{Request}
 use Rattle.check_beats.specs.Bus.{bus_bytes}
 use Rattle.check_beats.specs.Form.{SameFields, SameReplyFields}
-use Rattle.check_beats.specs.Laws.{AreFitting, IsSpelled, CanEnd, asking, begun, ended, AreFittingReplies, IsReplySpelled, ReplyCanEndSo, replying, begun_reply, ended_replies}
+use Rattle.check_beats.specs.Laws.{AreFitting, IsSpelled, CanEnd, asking, begun, ended_asks, AreFittingReplies, IsReplySpelled, ReplyCanEndSo, replying, begun_reply, ended_replies}
 use Rattle.check_beats.specs.Spelling.{AskBeat, ReplyBeat}
 use Rattle.check_beats.specs.State.{Under, AskBegun, ReplyBegun}
 use Rattle.check_beats.specs.declared.bus.Bus.{Bus}
@@ -16,11 +16,11 @@ use Rattle.check_flight.specs.Flight.Turn.{Idle, Asking, Asked}
 use Rattle.check_watch.specs.declared.beat.Link.{Link}
 use Rattle.check_watch.specs.declared.beat.Link.TheVariants.{Port}
 use Rattle.check_watch.specs.Allowed.{OfAsked}
-use Rattle.check_watch.specs.Lawful.{IsLawful}
+use Rattle.check_watch.specs.Lawful.{IsLawfulGroup}
 use Rattle.check_watch.specs.Past.{state}
-use Rattle.check_watch.specs.Plan.{Plan, Sighting, Side, side_of, number_of, wide_of, bus_of}
+use Rattle.check_watch.specs.Plan.{GroupPlan, Sighting, LinkSide, side_of, link_number, wide_of, bus_in_group}
 use Rattle.check_watch_laws.specs.Crossed.{AreWatched, AskSeen, next_answered, asks_over, replies_over, asking_at, begun_at, replying_at, begun_replies_at, asks, replies}
-use Rattle.check_watch_laws.specs.Messages.{CarriesMessages, Answers, AsksAt, TakeTurns, AreMessages}
+use Rattle.check_watch_laws.specs.Messages.{CarriesMessages, IsReplyBeatTo, AsksAt, TakeTurns, AreMessages}
 use Rattle.check_watch_laws.proofs.Buses.{bus_is}
 use Rattle.check_watch_laws.proofs.Fitting.{asks_fit, replies_fit}
 use Rattle.check_watch_laws.proofs.Flights.{pending, InStep, in_step}
@@ -36,10 +36,10 @@ use Rattle.check_watch_laws.proofs.UnderWay.{replies_answer, of_weaker}
 -- ---- links: the laws of beats, on the bus of a link
 
 on_bus : (n : ℕ) (bus : Bus) → bus_bytes bus ≡ n → (past : List AskBeat) → AreFitting n past
-    → AllByRecursion (IsSpelled n) (ended n past) × (asking n past ≢ None → CanEnd n (begun n past))
+    → AllByRecursion (IsSpelled n) (ended_asks n past) × (asking n past ≢ None → CanEnd n (begun n past))
 on_bus n bus is past =
     subst (λ m. AreFitting m past
-    → AllByRecursion (IsSpelled m) (ended m past) × (asking m past ≢ None → CanEnd m (begun m past))) is
+    → AllByRecursion (IsSpelled m) (ended_asks m past) × (asking m past ≢ None → CanEnd m (begun m past))) is
     (λ fits. (spelled bus past fits, ask_can_end bus past fits))
 
 replies_on_bus : (n : ℕ) (bus : Bus) → bus_bytes bus ≡ n → (past : List ReplyBeat) → AreFittingReplies n past
@@ -51,10 +51,10 @@ replies_on_bus n bus is past =
     × (replying m past ≢ None → ReplyCanEndSo m (begun_reply m past))) is
     (λ fits. (replies_spelled bus past fits, reply_can_end bus past fits))
 
-module _ (plan : Plan) (past : List Sighting) (watched : AreWatched plan.layout past) (lawful : IsLawful plan past) where
+module _ (plan : GroupPlan) (past : List Sighting) (watched : AreWatched plan.layout past) (lawful : IsLawfulGroup plan past) where
   carries : (link : Link) → CarriesMessages plan.layout past link
   carries link =
-      let n = bus_of plan.layout link in
+      let n = bus_in_group plan.layout link in
       let bus = bus_is plan.layout link in
       let asked = asks_over plan.layout link past in
       let replied = replies_over plan.layout link past in
@@ -72,25 +72,25 @@ module _ (plan : Plan) (past : List Sighting) (watched : AreWatched plan.layout 
 
   -- ---- sources
 
-  few_pending : (side : Side) (turn : Turn) → length (pending side turn) ≤ 1
+  few_pending : (side : LinkSide) (turn : Turn) → length (pending side turn) ≤ 1
   few_pending side Idle = omega arith
   few_pending side (Asking n) = omega arith
   few_pending side (Asked n ask) = omega arith
 
   -- the first beat of a request that is under way is kept
   kept_ask : (link : Link) (first : AskBeat) (more : List AskBeat) → begun_at plan.layout link past ≡ first ∷ more
-      → (b : AskBegun) × (((state plan past).links (side_of link) (number_of link)).asking ≡ Some b)
+      → (b : AskBegun) × (((state plan past).links (side_of link) (link_number link)).asking ≡ Some b)
       × SameFields b.first first.head
   kept_ask link first more is =
       let bus = bus_is plan.layout link in
       let found = ask_first (asking_at plan.layout link past) (begun_at plan.layout link past) first more
-      (ask_heads (bus_of plan.layout link) bus.0 bus.1 (asks_over plan.layout link past)
+      (ask_heads (bus_in_group plan.layout link) bus.0 bus.1 (asks_over plan.layout link past)
       (asks_fit plan past watched lawful link)) is in
       (found.0, ap (λ (u : Under). u.asking) (links_are plan past link) ∙ found.1, found.2)
 
   kept_reply : (link : Link) (first : ReplyBeat) (more : List ReplyBeat)
       → begun_replies_at plan.layout link past ≡ first ∷ more
-      → (b : ReplyBegun) × (((state plan past).links (side_of link) (number_of link)).replying ≡ Some b)
+      → (b : ReplyBegun) × (((state plan past).links (side_of link) (link_number link)).replying ≡ Some b)
       × SameReplyFields b.first first.head
   kept_reply link first more is =
       let found = reply_first (replying_at plan.layout link past) (begun_replies_at plan.layout link past) first more
@@ -98,8 +98,8 @@ module _ (plan : Plan) (past : List Sighting) (watched : AreWatched plan.layout 
       (found.0, ap (λ (u : Under). u.replying) (links_are plan past link) ∙ found.1, found.2)
 
   -- a request that has begun is in flight of its source
-  asking_here : (side : Side) (wide : ℕ) (link : Link) → side_of link ≡ side → AsksAt plan past wide link
-      → ((state plan past).flights side wide).turn ≡ Asking (number_of link)
+  asking_here : (side : LinkSide) (wide : ℕ) (link : Link) → side_of link ≡ side → AsksAt plan past wide link
+      → ((state plan past).flights side wide).turn ≡ Asking (link_number link)
   asking_here side wide link is at =
       let kept = kept_ask link at.first at.more at.begun in
       rw (← is, ← at.of)
@@ -109,16 +109,16 @@ module _ (plan : Plan) (past : List Sighting) (watched : AreWatched plan.layout 
   -- a reply that has begun answers the request in flight of its source
   replying_here : (link : Link) (first : ReplyBeat) (more : List ReplyBeat)
       → begun_replies_at plan.layout link past ≡ first ∷ more
-      → OfAsked (number_of link) ((state plan past).flights (side_of link)
-      (wide_of plan link first.head.source)).turn (λ ask. Answers ask first.head)
+      → OfAsked (link_number link) ((state plan past).flights (side_of link)
+      (wide_of plan link first.head.source)).turn (λ ask. IsReplyBeatTo ask first.head)
   replying_here link first more begun_is =
       let kept = kept_reply link first more begun_is in
       let source : kept.0.first.source ≡ first.head.source = sym kept.2.source in
-      subst (λ n. OfAsked (number_of link) ((state plan past).flights (side_of link) (wide_of plan link n)).turn
-      (λ ask. Answers ask first.head)) source
-      (of_weaker (number_of link)
+      subst (λ n. OfAsked (link_number link) ((state plan past).flights (side_of link) (wide_of plan link n)).turn
+      (λ ask. IsReplyBeatTo ask first.head)) source
+      (of_weaker (link_number link)
       ((state plan past).flights (side_of link) (wide_of plan link kept.0.first.source)).turn
-      (λ ask. Answers ask kept.0.first) (λ ask. Answers ask first.head)
+      (λ ask. IsReplyBeatTo ask kept.0.first) (λ ask. IsReplyBeatTo ask first.head)
       (replies_answer plan past lawful link kept.0 kept.1)
       (λ ask answers. record {
         size = kept.2.size ∙ answers.size;
@@ -130,15 +130,15 @@ module _ (plan : Plan) (past : List Sighting) (watched : AreWatched plan.layout 
       → (ask : Request)
       × (next_answered plan (side_of link) (wide_of plan link first.head.source) past
       ≡ record { link = link; ask = ask } ∷ [])
-      × Answers ask first.head
+      × IsReplyBeatTo ask first.head
   reply_asked link first more begun_is =
       let wide = wide_of plan link first.head.source in
       let turn = ((state plan past).flights (side_of link) wide).turn in
-      let found = asked_at (number_of link) turn (λ ask. Answers ask first.head)
+      let found = asked_at (link_number link) turn (λ ask. IsReplyBeatTo ask first.head)
       (replying_here link first more begun_is) in
       (found.0, next_is plan past link wide turn found.0 (in_step plan past lawful (side_of link) wide) found.1, found.2)
 
-  module _ (side : Side) (wide : ℕ) where
+  module _ (side : LinkSide) (wide : ℕ) where
     step : InStep side ((state plan past).flights side wide).turn (asks plan side wide past)
         (replies plan side wide past)
     step = in_step plan past lawful side wide
@@ -161,12 +161,12 @@ module _ (plan : Plan) (past : List Sighting) (watched : AreWatched plan.layout 
           omega (arith, counted, ap (λ t. length (pending side t)) (asking_here side wide link is at));
       begins_once = λ link other is other_is at there.
           same_link link other (is_link_by link other (is ∙ sym other_is)
-          (asking_same (number_of link) (number_of other)
+          (asking_same (link_number link) (link_number other)
           (sym (asking_here side wide link is at) ∙ asking_here side wide other other_is there)));
       replies_asked = λ link is at.
-          let Asked : Side → ℕ → Type 0 =
+          let Asked : LinkSide → ℕ → Type 0 =
           λ sd w. (ask : Request) × (next_answered plan sd w past ≡ record { link = link; ask = ask } ∷ [])
-          × Answers ask at.first.head in
+          × IsReplyBeatTo ask at.first.head in
           subst (λ sd. Asked sd wide) is (subst (λ w. Asked (side_of link) w) at.of
           (reply_asked link at.first at.more at.begun));
     }

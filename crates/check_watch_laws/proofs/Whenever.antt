@@ -3,13 +3,13 @@
 use Rattle.std.proofs.Common.{◌≡◌, ◌∙◌, ℕ, ◌≤◌, Bool, true, false, if◌then◌else◌, List, [], ◌∷◌, ◌++◌, length, Option, refl, ap, sym, subst, arith}
 use Rattle.std.specs.Prelude.{◌==◌}
 use Rattle.tl_types.specs.Request.{Request}
-use Rattle.check_cells.specs.Pattern.{Pattern, Fits}
+use Rattle.check_cells.specs.Pattern.{Pattern, FitsPattern}
 use Rattle.check_contests.specs.declared.accepted.Accepted.{Accepted}
 use Rattle.check_contests.specs.Below.{IsBelowTruth}
 use Rattle.check_contests.specs.Contests.{kept_answering}
 use Rattle.check_contests.specs.Laws.{IsDueBelow}
-use Rattle.check_contests.specs.Moments.{Moment as SlaveMoment, Course, Truth, IsServed, IsWaiting, MayAllCome, truth_accepting, truth_answering, truth_serving, truth_taking, untouched}
-use Rattle.check_contests.specs.Moments.Moment.{Accepts as SlaveAccepts, TakesEffect, Answers as SlaveAnswers}
+use Rattle.check_contests.specs.Moments.{SlaveMoment, Course, Truth, IsServedCourse, IsWaiting, MayAllCome, truth_accepting, truth_answering, truth_serving, truth_taking, untouched}
+use Rattle.check_contests.specs.Moments.SlaveMoment.{Accepts as SlaveAccepts, TakesEffect, Answers as SlaveAnswers}
 use Rattle.check_contests.specs.Moments.Course.{Idle, Waiting, Served}
 use Rattle.check_contests.proofs.AcceptedSlave.{accepting_keeps}
 use Rattle.check_contests.proofs.Answering.{answering_keeps}
@@ -19,11 +19,11 @@ use Rattle.check_contests.proofs.Serving.{serving_keeps}
 use Rattle.check_memory.specs.declared.slave.Slave.{Slave}
 use Rattle.check_flight.specs.declared.order.Order.TheVariants.{Any}
 use Rattle.check_flight.specs.PortSlave.{PortSlave, accepted_by, answered_by, answer_of_kept, contested_by, due_accepted_by, due_answered_by}
-use Rattle.check_watch.specs.Lawful.{IsLawful}
-use Rattle.check_watch.specs.Plan.{Plan, IsPlan, Sighting}
+use Rattle.check_watch.specs.Lawful.{IsLawfulGroup}
+use Rattle.check_watch.specs.Plan.{GroupPlan, IsGroupPlan, Sighting}
 use Rattle.check_watch_laws.specs.Crossed.{AskSeen, ReplySeen, AreWatched}
 use Rattle.check_watch_laws.specs.Memories.{AreEntries, entries_of, exchanges_at, order_at, reset_of}
-use Rattle.check_watch_laws.specs.Moments.{IsDueAt, Moment, dues_of, entry_due, moments, slave_then}
+use Rattle.check_watch_laws.specs.Moments.{IsDueAt, RequestMoment, dues_of, entry_due, moments, slave_then}
 use Rattle.check_watch_laws.specs.Moments.Act.{Accepts, Answers}
 use Rattle.check_watch_laws.specs.Whenever.{AlwaysKeepsRulesWhenever, AreFresh, IsDoneWhenever, answer_given, given_in, seen_answer, seen_in}
 use Rattle.check_watch_laws.specs.Rules.{AreSeenWhole}
@@ -35,7 +35,7 @@ use Rattle.check_watch_laws.proofs.Told.{dues_none, dues_cons}
 -- the same request, and what is due says no more than what was given
 pub record IsNoMore (due given : Request × Pattern) : Type 0 where
   pub ask : due.0 ≡ given.0
-  pub fits : Fits due.1 given.1
+  pub fits : FitsPattern due.1 given.1
 
 abbrev AreNoMore : List (Request × Pattern) → List (Request × Pattern) → Type 0
 AreNoMore [] [] = Unit {0}
@@ -62,8 +62,8 @@ of_source wide (d ∷ dues) (g ∷ given) all =
     go false rest = rest
 
 -- a source does not matter, if both have it
-with_source : (due given : Pattern) (source : ℕ) → Fits due given
-    → Fits (record due { source = source }) (record given { source = source })
+with_source : (due given : Pattern) (source : ℕ) → FitsPattern due given
+    → FitsPattern (record due { source = source }) (record given { source = source })
 with_source due given source fits = record {
   op_is = fits.op_is;
   size_is = fits.size_is;
@@ -111,7 +111,7 @@ module _ (port : ℕ) (later : List SlaveMoment) (rest : LaterIsNoMore port late
       ∷ seen_in (truth_accepting truth wide ask) later))
       (given_in (truth_accepting truth wide ask) later)
   accepts ask kept may =
-      let here : Moment = record { act = Accepts; wide = wide; ask = ask } in
+      let here : RequestMoment = record { act = Accepts; wide = wide; ask = ask } in
       let after = truth_accepting truth wide ask in
       let seen = seen_in after later in
       let is : dues_of port slave (here ∷ seen) ≡ dues_of port (contested_by slave wide ask) seen =
@@ -136,7 +136,7 @@ module _ (port : ℕ) (later : List SlaveMoment) (rest : LaterIsNoMore port late
       ∷ seen_in (truth_answering truth wide) later))
       ((record ask { source = wide }, record reply { source = wide }) ∷ given_in (truth_answering truth wide) later)
   answers ask reply at may =
-      let here : Moment = record { act = Answers; wide = wide; ask = ask } in
+      let here : RequestMoment = record { act = Answers; wide = wide; ask = ask } in
       let after = truth_answering truth wide in
       let seen = seen_in after later in
       let left : PortSlave = record slave { contests = kept_answering slave.contests wide } in
@@ -157,7 +157,7 @@ module _ (port : ℕ) (later : List SlaveMoment) (rest : LaterIsNoMore port late
         rest left after any (answering_keeps slave.kept slave.contests truth wide ask reply below at) may,
       )
 
-  answers_if : (course : Course) → truth.course wide ≡ course → IsServed course
+  answers_if : (course : Course) → truth.course wide ≡ course → IsServedCourse course
       → MayAllCome (truth_answering truth wide) later
       → AreNoMore (dues_of port slave (seen_answer wide course ++ seen_in (truth_answering truth wide) later))
       (answer_given wide course ++ given_in (truth_answering truth wide) later)
@@ -178,7 +178,7 @@ all_no_more port (SlaveAnswers wide ∷ later) slave truth any below may =
 
 -- ---- at a port
 
-pub whenever_is_due : (plan : Plan) (past : List Sighting) (port : ℕ) (slave : Slave) (all : List SlaveMoment)
+pub whenever_is_due : (plan : GroupPlan) (past : List Sighting) (port : ℕ) (slave : Slave) (all : List SlaveMoment)
     → order_at plan port ≡ Any → (reset_of plan port).contests ≡ [] → IsDoneWhenever plan past port slave all
     → (history : List (Request × Pattern)) × IsDueAt plan past port history
 whenever_is_due plan past port slave all any fresh done =
@@ -202,8 +202,8 @@ whenever_is_due plan past port slave all any fresh done =
 
 -- ---- all beats
 
-pub whenever_is_lawful : (plan : Plan) (past : List Sighting) → IsPlan plan → AreFresh plan
-    → AreWatched plan.layout past → AreSeenWhole plan past → AlwaysKeepsRulesWhenever plan past → IsLawful plan past
+pub whenever_is_lawful : (plan : GroupPlan) (past : List Sighting) → IsGroupPlan plan → AreFresh plan
+    → AreWatched plan.layout past → AreSeenWhole plan past → AlwaysKeepsRulesWhenever plan past → IsLawfulGroup plan past
 whenever_is_lawful plan past is fresh watched seen always =
     rules_make_lawful plan past is watched seen (λ later earlier so.
     let rules = always later earlier so in

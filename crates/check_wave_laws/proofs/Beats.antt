@@ -5,14 +5,14 @@ use Rattle.std.specs.Str.Parse.{digits_value}
 use Rattle.tl_text.specs.Number.{number_of}
 use Rattle.check_beats.specs.declared.bus.Bus.{Bus}
 use Rattle.check_watch.specs.declared.beat.Link.{Link}
-use Rattle.check_rows.specs.Buses.{IsLinkOf, bus_of}
+use Rattle.check_rows.specs.Buses.{IsLinkOf, bus_of_link}
 use Rattle.check_rows.specs.Columns.{flag_of}
 use Rattle.check_rows.specs.Number.{decimal_of}
-use Rattle.check_rows.specs.Row.{ask_of, reply_of, row_of}
-use Rattle.check_rows.specs.declared.columns.Channel.TheVariants as channel
+use Rattle.check_rows.specs.Row.{ask_of_words, reply_of_words, row_of}
+use Rattle.check_rows.specs.declared.columns.RowChannel.TheVariants as channel
 use Rattle.check_samples.specs.Digits.{bits_of}
-use Rattle.check_samples.specs.Row.{ask_text, cells_of_ask, cells_of_reply, hex_text, known, link_text, reply_text}
-use Rattle.check_samples.specs.Row.{◌>>=◌}
+use Rattle.check_samples.specs.Row.{ask_text, cells_of_ask, cells_of_reply, hex_text, known_number, link_text, reply_text}
+use Rattle.tl_text.specs.Reading.{◌>>=◌}
 use Rattle.check_samples.specs.Rows.{row_at, row_by}
 use Rattle.check_samples.specs.declared.channel.AskTaps.{AskTaps}
 use Rattle.check_samples.specs.declared.channel.BeatTaps.{BeatTaps}
@@ -25,8 +25,8 @@ use Rattle.check_samples.specs.declared.row.TheConstants.{MAX_BITS}
 use Rattle.check_samples.specs.declared.signal.Signal.{Signal}
 use Rattle.check_samples.specs.declared.signal.Signal.TheVariants as signal
 use Rattle.check_wave_laws.specs.Rows.{IsRow}
-use Rattle.check_wave_laws.specs.Seen.{AskFits, BeatFits, ReplyFits, ask_in, beat_in, lanes_in, number_in, reply_in, row_in}
-use Rattle.check_wave_laws.specs.Seen.{row_at as row_shown}
+use Rattle.check_wave_laws.specs.Seen.{AskFits, BeatFits, ReplyFits, ask_in, beat_in, lanes_in, number_in, reply_in, row_of_channel}
+use Rattle.check_wave_laws.specs.Seen.{row_on_line as row_shown}
 use Rattle.check_wave_laws.proofs.Buses.{IsBus, bus-of}
 use Rattle.check_wave_laws.proofs.Columns.{ask-line, ask-spelled, ask_words, channel-a, channel-d, link-read, reply-line, reply-spelled, reply_words, row-spelled, word-link}
 use Rattle.check_wave_laws.proofs.Lanes.{lanes-read, mask-read}
@@ -35,7 +35,7 @@ use Rattle.check_wave_laws.proofs.Words.{AreWords, joined, parts-joined, plain-j
 
 -- ---- the numbers of a beat
 
-known-number : (which : Signal) (bits : List ℕ) (n : ℕ) → known which bits ≡ Ok n → HasNumber bits n
+known-number : (which : Signal) (bits : List ℕ) (n : ℕ) → known_number which bits ≡ Ok n → HasNumber bits n
 known-number which bits n is = has-number MAX_BITS bits n (go (number_of 2 MAX_BITS bits) is)
   where
     go : (number : Option ℕ) → ok_or number which ≡ Ok n → number ≡ Some n
@@ -104,10 +104,10 @@ reply-parts (Ok o) (Ok z) (Ok s) (Ok n) (Err e) cells is = absurd (cc)
 ask-numbers : (values : List (List ℕ)) (taps : AskTaps) (cells : AskCells) → cells_of_ask values taps ≡ Ok cells
     → AskNumbers values taps cells
 ask-numbers values taps cells is =
-    let parts = ask-parts (known signal.AOpcode (bits_of values taps.opcode))
-    (known signal.AParam (bits_of values taps.param)) (known signal.ASize (bits_of values taps.size))
-    (known signal.ASource (bits_of values taps.source)) (known signal.AAddress (bits_of values taps.address))
-    (known signal.AMask (bits_of values taps.mask)) cells is in
+    let parts = ask-parts (known_number signal.AOpcode (bits_of values taps.opcode))
+    (known_number signal.AParam (bits_of values taps.param)) (known_number signal.ASize (bits_of values taps.size))
+    (known_number signal.ASource (bits_of values taps.source)) (known_number signal.AAddress (bits_of values taps.address))
+    (known_number signal.AMask (bits_of values taps.mask)) cells is in
     let mask = known-number signal.AMask (bits_of values taps.mask) parts.5.0 parts.5.1 in
     record {
       opcode = known-number signal.AOpcode (bits_of values taps.opcode) cells.opcode parts.0;
@@ -121,9 +121,9 @@ ask-numbers values taps cells is =
 reply-numbers : (values : List (List ℕ)) (taps : ReplyTaps) (cells : ReplyCells) → cells_of_reply values taps ≡ Ok cells
     → ReplyNumbers values taps cells
 reply-numbers values taps cells is =
-    let parts = reply-parts (known signal.DOpcode (bits_of values taps.opcode))
-    (known signal.DSize (bits_of values taps.size)) (known signal.DSource (bits_of values taps.source))
-    (known signal.DDenied (bits_of values taps.denied)) (known signal.DCorrupt (bits_of values taps.corrupt)) cells is in
+    let parts = reply-parts (known_number signal.DOpcode (bits_of values taps.opcode))
+    (known_number signal.DSize (bits_of values taps.size)) (known_number signal.DSource (bits_of values taps.source))
+    (known_number signal.DDenied (bits_of values taps.denied)) (known_number signal.DCorrupt (bits_of values taps.corrupt)) cells is in
     record {
       opcode = known-number signal.DOpcode (bits_of values taps.opcode) cells.opcode parts.0;
       size = known-number signal.DSize (bits_of values taps.size) cells.size parts.1;
@@ -148,7 +148,7 @@ flag-of bits n has fits =
 
 ask-columns : (bus time : ℕ) (link : Link) (values : List (List ℕ)) (taps : AskTaps) (cells : AskCells)
     → IsBus bus → AskNumbers values taps cells → AskFits bus values taps
-    → ask_of bus (decimal time ∷ ask_words link cells (bits_of values taps.mask) (bits_of values taps.data))
+    → ask_of_words bus (decimal time ∷ ask_words link cells (bits_of values taps.mask) (bits_of values taps.data))
     ≡ Ok (ask_in bus values taps)
 ask-columns bus time link values taps cells of has fits =
     ask-spelled bus (decimal time) (link_text link) (65 ∷ []) (decimal cells.opcode) (decimal cells.param)
@@ -166,7 +166,7 @@ ask-columns bus time link values taps cells of has fits =
 
 reply-columns : (bus time : ℕ) (link : Link) (values : List (List ℕ)) (taps : ReplyTaps) (cells : ReplyCells)
     → IsBus bus → ReplyNumbers values taps cells → ReplyFits bus values taps
-    → reply_of bus (decimal time ∷ reply_words link cells (bits_of values taps.data)) ≡ Ok (reply_in bus values taps)
+    → reply_of_words bus (decimal time ∷ reply_words link cells (bits_of values taps.data)) ≡ Ok (reply_in bus values taps)
 reply-columns bus time link values taps cells of has fits =
     reply-spelled bus (decimal time) (link_text link) (68 ∷ []) (decimal cells.opcode) (decimal cells.size)
     (decimal cells.source) (hex_text (bits_of values taps.data)) (decimal cells.denied) (decimal cells.corrupt)
@@ -257,11 +257,11 @@ reply-words masters ports time link values taps cells at has = (
 
 ask-row : (masters ports : List Bus) (line time : ℕ) (link : Link) (values : List (List ℕ)) (taps : AskTaps)
     (cells : AskCells) → Stands masters ports time link → AskNumbers values taps cells
-    → AskFits (bus_of masters ports link) values taps
-    → IsRow masters ports (row_shown line time link (ask_in (bus_of masters ports link) values taps))
+    → AskFits (bus_of_link masters ports link) values taps
+    → IsRow masters ports (row_shown line time link (ask_in (bus_of_link masters ports link) values taps))
     (ask_text time link cells (bits_of values taps.mask) (bits_of values taps.data))
 ask-row masters ports line time link values taps cells at has fits =
-    let bus = bus_of masters ports link in
+    let bus = bus_of_link masters ports link in
     let mask = bits_of values taps.mask in
     let lanes = bits_of values taps.data in
     let words = ask_words link cells mask lanes in
@@ -282,11 +282,11 @@ ask-row masters ports line time link values taps cells at has fits =
 
 reply-row : (masters ports : List Bus) (line time : ℕ) (link : Link) (values : List (List ℕ)) (taps : ReplyTaps)
     (cells : ReplyCells) → Stands masters ports time link → ReplyNumbers values taps cells
-    → ReplyFits (bus_of masters ports link) values taps
-    → IsRow masters ports (row_shown line time link (reply_in (bus_of masters ports link) values taps))
+    → ReplyFits (bus_of_link masters ports link) values taps
+    → IsRow masters ports (row_shown line time link (reply_in (bus_of_link masters ports link) values taps))
     (reply_text time link cells (bits_of values taps.data))
 reply-row masters ports line time link values taps cells at has fits =
-    let bus = bus_of masters ports link in
+    let bus = bus_of_link masters ports link in
     let lanes = bits_of values taps.data in
     let words = reply_words link cells lanes in
     let are = reply-words masters ports time link values taps cells at has in
@@ -307,13 +307,13 @@ reply-row masters ports line time link values taps cells at has fits =
 -- ---- the row of a channel
 
 row-by : (masters ports : List Bus) (line time : ℕ) (values : List (List ℕ)) (which : Channel) (text : List ℕ)
-    (beat : BeatTaps) → Stands masters ports time which.link → BeatFits (bus_of masters ports which.link) beat values
+    (beat : BeatTaps) → Stands masters ports time which.link → BeatFits (bus_of_link masters ports which.link) beat values
     → row_by beat time values which ≡ Ok text
-    → IsRow masters ports (row_shown line time which.link (beat_in (bus_of masters ports which.link) beat values)) text
+    → IsRow masters ports (row_shown line time which.link (beat_in (bus_of_link masters ports which.link) beat values)) text
 row-by masters ports line time values which text (A taps) at fits is = go (cells_of_ask values taps) refl is
   where
     bus : ℕ
-    bus = bus_of masters ports which.link
+    bus = bus_of_link masters ports which.link
 
     go : (r : Result AskCells Signal) → cells_of_ask values taps ≡ r
         → (r >>= (λ cells. Ok (ask_text time which.link cells (bits_of values taps.mask) (bits_of values taps.data))))
@@ -327,7 +327,7 @@ row-by masters ports line time values which text (A taps) at fits is = go (cells
 row-by masters ports line time values which text (D taps) at fits is = go (cells_of_reply values taps) refl is
   where
     bus : ℕ
-    bus = bus_of masters ports which.link
+    bus = bus_of_link masters ports which.link
 
     go : (r : Result ReplyCells Signal) → cells_of_reply values taps ≡ r
         → (r >>= (λ cells. Ok (reply_text time which.link cells (bits_of values taps.data)))) ≡ Ok text
@@ -340,8 +340,8 @@ row-by masters ports line time values which text (D taps) at fits is = go (cells
 
 pub beat-row : (masters ports : List Bus) (line time : ℕ) (values : List (List ℕ)) (which : Channel) (text : List ℕ)
     → length masters < 2 ^ 64 → length ports < 2 ^ 64 → time < 2 ^ 64 → IsLinkOf masters ports which.link
-    → BeatFits (bus_of masters ports which.link) which.beat values → row_at time values which ≡ Ok text
-    → IsRow masters ports (row_in masters ports line time values which) text
+    → BeatFits (bus_of_link masters ports which.link) which.beat values → row_at time values which ≡ Ok text
+    → IsRow masters ports (row_of_channel masters ports line time values which) text
 beat-row masters ports line time values which text m p t inside fits is =
     row-by masters ports line time values which text which.beat
     (record { few_masters = m; few_ports = p; in_time = t; has_link = inside }) fits is

@@ -6,7 +6,7 @@ use Rattle.check_beats.specs.declared.bus.Bus.{Bus}
 use Rattle.check_beats.specs.declared.bus.Bus.TheVariants.{One, Two, Four, Eight, Sixteen, ThirtyTwo, SixtyFour}
 use Rattle.check_watch.specs.declared.beat.Link.{Link}
 use Rattle.check_watch.specs.declared.beat.Link.TheVariants.{Master, Port}
-use Rattle.check_rows.specs.Buses.{HasBus, IsLinkOf, bus_of}
+use Rattle.check_rows.specs.Buses.{HasBus, IsLinkOf, bus_of_link}
 
 some-bytes : (bus : Bus) → 0 < bus_bytes bus
 some-bytes One = omega arith
@@ -40,19 +40,19 @@ is-bus : (bytes : ℕ) (bus : Bus) → bytes ≡ bus_bytes bus → IsBus bytes
 is-bus bytes bus is = record { width = bus; is = is; some = omega (arith, is, some-bytes bus) }
 
 -- the bus of a link that a system has is one
-pub bus-of : (masters ports : List Bus) (link : Link) → IsLinkOf masters ports link → IsBus (bus_of masters ports link)
+pub bus-of : (masters ports : List Bus) (link : Link) → IsLinkOf masters ports link → IsBus (bus_of_link masters ports link)
 bus-of masters ports (Master number) inside =
     let has = bus-at masters number inside in
-    is-bus (bus_of masters ports (Master number)) has.0 (bytes-of (slice_get masters number) has.0 has.1)
+    is-bus (bus_of_link masters ports (Master number)) has.0 (bytes-of (slice_get masters number) has.0 has.1)
 bus-of masters ports (Port number) inside =
     let has = bus-at ports number inside in
-    is-bus (bus_of masters ports (Port number)) has.0 (bytes-of (slice_get ports number) has.0 has.1)
+    is-bus (bus_of_link masters ports (Port number)) has.0 (bytes-of (slice_get ports number) has.0 has.1)
 
 -- a link that has a bus
 pub record IsThere (masters ports : List Bus) (link : Link) (bus : Bus) : Type 0 where
   pub inside : IsLinkOf masters ports link
-  pub bytes : bus_of masters ports link ≡ bus_bytes bus
-  pub some : 0 < bus_of masters ports link
+  pub bytes : bus_of_link masters ports link ≡ bus_bytes bus
+  pub some : 0 < bus_of_link masters ports link
 
 pub link-there : (masters ports : List Bus) (link : Link) (bus : Bus) → HasBus masters ports link bus
     → IsThere masters ports link bus

@@ -9,21 +9,21 @@ use Rattle.std.proofs.lemmas.List.FromFn.{fill_by_all, get_or-map-range_with_len
 use Rattle.check_vcd.specs.Body.{Happens, At, Sets, Wrong}
 use Rattle.check_samples.specs.Digits.{extended, set_extended}
 use Rattle.check_samples.specs.Sampling.{Sampling, with_value}
-use Rattle.check_wave_laws.specs.Sampled.{Change, NeverFalls, Wave, changes_after, cut_after, is_before, is_until, is_whole, last_of, value_after, value_by, values_after, values_before, values_until}
+use Rattle.check_wave_laws.specs.Sampled.{ValueChange, NeverFalls, Wave, changes_after, cut_after, is_before, is_until, is_whole, last_of, value_after, value_by, values_after, values_before, values_until}
 
 -- ---- times
 
 -- what is so of the time of each change
-abbrev pub EachTime : (Option ℕ → Type 0) → List Change → Type 0
+abbrev pub EachTime : (Option ℕ → Type 0) → List ValueChange → Type 0
 EachTime P [] = ⊤
 EachTime P (change ∷ changes) = P change.time × EachTime P changes
 
-pub each-weaker : (P Q : Option ℕ → Type 0) (changes : List Change) → ((at : Option ℕ) → P at → Q at)
+pub each-weaker : (P Q : Option ℕ → Type 0) (changes : List ValueChange) → ((at : Option ℕ) → P at → Q at)
     → EachTime P changes → EachTime Q changes
 each-weaker P Q [] so each = tt
 each-weaker P Q (change ∷ changes) so each = (so change.time each.0, each-weaker P Q changes so each.1)
 
-pub each-push : (P : Option ℕ → Type 0) (changes : List Change) (change : Change) → EachTime P changes
+pub each-push : (P : Option ℕ → Type 0) (changes : List ValueChange) (change : ValueChange) → EachTime P changes
     → P change.time → EachTime P (changes ++ (change ∷ []))
 each-push P [] change each one = (one, tt)
 each-push P (other ∷ changes) change each one = (each.0, each-push P changes change each.1 one)
@@ -104,70 +104,70 @@ whole-before time (Wrong line mistake ∷ happens) early rises less =
 
 -- ---- the changes up to a time
 
-all-pass : (test : Option ℕ → Bool) (changes : List Change) → EachTime (λ at. test at ≡ true) changes
-    → filter (λ (change : Change). test change.time) changes ≡ changes
+all-pass : (test : Option ℕ → Bool) (changes : List ValueChange) → EachTime (λ at. test at ≡ true) changes
+    → filter (λ (change : ValueChange). test change.time) changes ≡ changes
 all-pass test [] each = refl
 all-pass test (change ∷ changes) each =
-    let rest = filter (λ (other : Change). test other.time) changes in
+    let rest = filter (λ (other : ValueChange). test other.time) changes in
     cond-true (test change.time) (change ∷ rest) rest each.0
-    ∙ ap (λ (cs : List Change). change ∷ cs) (all-pass test changes each.1)
+    ∙ ap (λ (cs : List ValueChange). change ∷ cs) (all-pass test changes each.1)
 
-none-passes : (test : Option ℕ → Bool) (changes : List Change) → EachTime (λ at. test at ≡ false) changes
-    → filter (λ (change : Change). test change.time) changes ≡ []
+none-passes : (test : Option ℕ → Bool) (changes : List ValueChange) → EachTime (λ at. test at ≡ false) changes
+    → filter (λ (change : ValueChange). test change.time) changes ≡ []
 none-passes test [] each = refl
 none-passes test (change ∷ changes) each =
-    let rest = filter (λ (other : Change). test other.time) changes in
+    let rest = filter (λ (other : ValueChange). test other.time) changes in
     cond-false (test change.time) (change ∷ rest) rest each.0 ∙ none-passes test changes each.1
 
-first-pass : (test : Option ℕ → Bool) (past later : List Change) → EachTime (λ at. test at ≡ true) past
+first-pass : (test : Option ℕ → Bool) (past later : List ValueChange) → EachTime (λ at. test at ≡ true) past
     → EachTime (λ at. test at ≡ false) later
-    → filter (λ (change : Change). test change.time) (past ++ later) ≡ past
+    → filter (λ (change : ValueChange). test change.time) (past ++ later) ≡ past
 first-pass test past later on off =
-    filter-append (λ (change : Change). test change.time) past later
-    ∙ ap (λ (cs : List Change). cs ++ filter (λ (change : Change). test change.time) later) (all-pass test past on)
-    ∙ ap (λ (cs : List Change). past ++ cs) (none-passes test later off)
+    filter-append (λ (change : ValueChange). test change.time) past later
+    ∙ ap (λ (cs : List ValueChange). cs ++ filter (λ (change : ValueChange). test change.time) later) (all-pass test past on)
+    ∙ ap (λ (cs : List ValueChange). past ++ cs) (none-passes test later off)
     ∙ append-nil past
 
-pub before-past : (wave : Wave) (past later : List Change) (time : ℕ) → wave.changes ≡ past ++ later
+pub before-past : (wave : Wave) (past later : List ValueChange) (time : ℕ) → wave.changes ≡ past ++ later
     → EachTime (λ at. is_before time at ≡ true) past → EachTime (λ at. is_before time at ≡ false) later
     → values_before wave time ≡ values_after wave past
 before-past wave past later time is on off =
-    ap (λ (cs : List Change). values_after wave (filter (λ (change : Change). is_before time change.time) cs)) is
-    ∙ ap (λ (cs : List Change). values_after wave cs) (first-pass (is_before time) past later on off)
+    ap (λ (cs : List ValueChange). values_after wave (filter (λ (change : ValueChange). is_before time change.time) cs)) is
+    ∙ ap (λ (cs : List ValueChange). values_after wave cs) (first-pass (is_before time) past later on off)
 
-pub until-past : (wave : Wave) (past later : List Change) (time : ℕ) → wave.changes ≡ past ++ later
+pub until-past : (wave : Wave) (past later : List ValueChange) (time : ℕ) → wave.changes ≡ past ++ later
     → EachTime (λ at. is_until time at ≡ true) past → EachTime (λ at. is_until time at ≡ false) later
     → values_until wave time ≡ values_after wave past
 until-past wave past later time is on off =
-    ap (λ (cs : List Change). values_after wave (filter (λ (change : Change). is_until time change.time) cs)) is
-    ∙ ap (λ (cs : List Change). values_after wave cs) (first-pass (is_until time) past later on off)
+    ap (λ (cs : List ValueChange). values_after wave (filter (λ (change : ValueChange). is_until time change.time) cs)) is
+    ∙ ap (λ (cs : List ValueChange). values_after wave cs) (first-pass (is_until time) past later on off)
 
 -- ---- one change more
 
-last-push : (last : Option Change) (changes : List Change) (change : Change)
+last-push : (last : Option ValueChange) (changes : List ValueChange) (change : ValueChange)
     → last_or last (changes ++ (change ∷ [])) ≡ Some change
 last-push last [] change = refl
 last-push last (other ∷ changes) change = last-push (Some other) changes change
 
-last-same : (slot : ℕ) (changes : List Change) (change : Change) → (change.slot == slot) ≡ true
+last-same : (slot : ℕ) (changes : List ValueChange) (change : ValueChange) → (change.slot == slot) ≡ true
     → last_of slot (changes ++ (change ∷ [])) ≡ Some change
 last-same slot changes change same =
-    let kept = filter (λ (other : Change). other.slot == slot) changes in
-    ap (λ (cs : List Change). last_or None cs)
-    (filter-append (λ (other : Change). other.slot == slot) changes (change ∷ [])
-    ∙ ap (λ (cs : List Change). kept ++ cs) (cond-true (change.slot == slot) (change ∷ []) [] same))
+    let kept = filter (λ (other : ValueChange). other.slot == slot) changes in
+    ap (λ (cs : List ValueChange). last_or None cs)
+    (filter-append (λ (other : ValueChange). other.slot == slot) changes (change ∷ [])
+    ∙ ap (λ (cs : List ValueChange). kept ++ cs) (cond-true (change.slot == slot) (change ∷ []) [] same))
     ∙ last-push None kept change
 
-last-other : (slot : ℕ) (changes : List Change) (change : Change) → (change.slot == slot) ≡ false
+last-other : (slot : ℕ) (changes : List ValueChange) (change : ValueChange) → (change.slot == slot) ≡ false
     → last_of slot (changes ++ (change ∷ [])) ≡ last_of slot changes
 last-other slot changes change other =
-    let kept = filter (λ (one : Change). one.slot == slot) changes in
-    ap (λ (cs : List Change). last_or None cs)
-    (filter-append (λ (one : Change). one.slot == slot) changes (change ∷ [])
-    ∙ ap (λ (cs : List Change). kept ++ cs) (cond-false (change.slot == slot) (change ∷ []) [] other)
+    let kept = filter (λ (one : ValueChange). one.slot == slot) changes in
+    ap (λ (cs : List ValueChange). last_or None cs)
+    (filter-append (λ (one : ValueChange). one.slot == slot) changes (change ∷ [])
+    ∙ ap (λ (cs : List ValueChange). kept ++ cs) (cond-false (change.slot == slot) (change ∷ []) [] other)
     ∙ append-nil kept)
 
-module _ (wave : Wave) (changes : List Change) where
+module _ (wave : Wave) (changes : List ValueChange) where
   pub length-values : length (values_after wave changes) ≡ length wave.first
   length-values = length-map-range_with_len (value_after wave changes) 0 (length wave.first)
 
@@ -176,17 +176,17 @@ module _ (wave : Wave) (changes : List Change) where
   value-at slot d inside =
       get_or-map-range_with_len (value_after wave changes) 0 (length wave.first) slot slot d inside (omega arith)
 
-module _ (wave : Wave) (changes : List Change) (change : Change) where
+module _ (wave : Wave) (changes : List ValueChange) (change : ValueChange) where
   value-same : value_after wave (changes ++ (change ∷ [])) change.slot
       ≡ extended (get_or wave.widths change.slot 0) change.digits
   value-same =
-      ap (λ (last : Option Change). value_by (get_or wave.first change.slot []) (get_or wave.widths change.slot 0) last)
+      ap (λ (last : Option ValueChange). value_by (get_or wave.first change.slot []) (get_or wave.widths change.slot 0) last)
       (last-same change.slot changes change (eq-eqb change.slot change.slot refl))
 
   value-other : (slot : ℕ) → (slot ≡ change.slot → ⊥)
       → value_after wave (changes ++ (change ∷ [])) slot ≡ value_after wave changes slot
   value-other slot other =
-      ap (λ (last : Option Change). value_by (get_or wave.first slot []) (get_or wave.widths slot 0) last)
+      ap (λ (last : Option ValueChange). value_by (get_or wave.first slot []) (get_or wave.widths slot 0) last)
       (last-other slot changes change (ne_eqb change.slot slot (λ same. other (sym same))))
 
   set-at : change.slot < length wave.first → (k : ℕ) (d : List ℕ) → k < length wave.first
@@ -256,7 +256,7 @@ value-kept s slot digits = go (nat_lt slot (length s.now))
     go false = record { time = refl; probes = refl; widths = refl; earlier = refl }
 
 -- and what it changes
-pub now-push : (wave : Wave) (past : List Change) (s : Sampling) (change : Change) → s.now ≡ values_after wave past
+pub now-push : (wave : Wave) (past : List ValueChange) (s : Sampling) (change : ValueChange) → s.now ≡ values_after wave past
     → s.widths ≡ wave.widths
     → (with_value s change.slot change.digits).now ≡ values_after wave (past ++ (change ∷ []))
 now-push wave past s change now widths = go (nat_lt change.slot (length s.now)) refl

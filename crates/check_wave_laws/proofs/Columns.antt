@@ -6,19 +6,19 @@ use Rattle.check_beats.specs.declared.bus.Bus.{Bus}
 use Rattle.check_watch.specs.declared.beat.Beat.TheVariants as beat
 use Rattle.check_watch.specs.declared.beat.Link.{Link}
 use Rattle.check_watch.specs.declared.beat.Link.TheVariants.{Master, Port}
-use Rattle.check_rows.specs.Buses.{IsLinkOf, bus_of}
+use Rattle.check_rows.specs.Buses.{IsLinkOf, bus_of_link}
 use Rattle.check_rows.specs.Columns.{channel_of, flag_of, link_of, nothing_of}
-use Rattle.check_rows.specs.Lanes.{Lanes, lanes_of}
+use Rattle.check_rows.specs.Lanes.{SeenLanes, lanes_of}
 use Rattle.check_rows.specs.Number.{address_of, decimal_of, mask_of}
-use Rattle.check_rows.specs.Reading.{◌>>=◌}
-use Rattle.check_rows.specs.Row.{SeenBeat, ask_of, beat_of, reply_of, row_of}
-use Rattle.check_rows.specs.declared.columns.Channel.{Channel}
-use Rattle.check_rows.specs.declared.columns.Channel.TheVariants as channel
+use Rattle.tl_text.specs.Reading.{◌>>=◌}
+use Rattle.check_rows.specs.Row.{SeenBeat, ask_of_words, beat_of, reply_of_words, row_of}
+use Rattle.check_rows.specs.declared.columns.RowChannel.{RowChannel}
+use Rattle.check_rows.specs.declared.columns.RowChannel.TheVariants as channel
 use Rattle.check_rows.specs.declared.fault.RowFault.{RowFault}
 use Rattle.check_samples.specs.Row.{ask_text, hex_text, link_text, reply_text}
 use Rattle.check_samples.specs.declared.row.AskCells.{AskCells}
 use Rattle.check_samples.specs.declared.row.ReplyCells.{ReplyCells}
-use Rattle.check_wave_laws.specs.Seen.{row_at}
+use Rattle.check_wave_laws.specs.Seen.{row_on_line}
 use Rattle.check_wave_laws.proofs.Numbers.{index-read}
 use Rattle.check_wave_laws.proofs.Words.{IsWord, joined, word-decimal}
 
@@ -112,35 +112,35 @@ channel-d = refl
 
 -- ---- the row that words spell
 
-pub ask-spelled : (bus : ℕ) (t l c wo wp wz ws wa wm wd : List ℕ) (o p z s a m : ℕ) (lanes : Lanes)
+pub ask-spelled : (bus : ℕ) (t l c wo wp wz ws wa wm wd : List ℕ) (o p z s a m : ℕ) (lanes : SeenLanes)
     → decimal_of 255 wo ≡ Ok o → decimal_of 255 wp ≡ Ok p → decimal_of 255 wz ≡ Ok z → decimal_of 65535 ws ≡ Ok s
     → address_of wa ≡ Ok a → mask_of bus wm ≡ Ok m → lanes_of bus wd ≡ Ok lanes
-    → ask_of bus (t ∷ l ∷ c ∷ wo ∷ wp ∷ wz ∷ ws ∷ wa ∷ wm ∷ wd ∷ [] ∷ [] ∷ [])
+    → ask_of_words bus (t ∷ l ∷ c ∷ wo ∷ wp ∷ wz ∷ ws ∷ wa ∷ wm ∷ wd ∷ [] ∷ [] ∷ [])
     ≡ Ok (record {
       beat = beat.A (record { opcode = o; param = p; size = z; source = s; address = a; mask = m });
       lanes = lanes;
     })
-unfolding ask_of field_at nothing_of
+unfolding ask_of_words field_at nothing_of
 ask-spelled bus t l c wo wp wz ws wa wm wd o p z s a m lanes eo ep ez es ea em ed = rw (eo, ep, ez, es, ea, em, ed) refl
 
-pub reply-spelled : (bus : ℕ) (t l c wo wz ws wd wn wc : List ℕ) (o z s : ℕ) (n k : Bool) (lanes : Lanes)
+pub reply-spelled : (bus : ℕ) (t l c wo wz ws wd wn wc : List ℕ) (o z s : ℕ) (n k : Bool) (lanes : SeenLanes)
     → decimal_of 255 wo ≡ Ok o → decimal_of 255 wz ≡ Ok z → decimal_of 65535 ws ≡ Ok s → lanes_of bus wd ≡ Ok lanes
     → flag_of wn ≡ Ok n → flag_of wc ≡ Ok k
-    → reply_of bus (t ∷ l ∷ c ∷ wo ∷ [] ∷ wz ∷ ws ∷ [] ∷ [] ∷ wd ∷ wn ∷ wc ∷ [])
+    → reply_of_words bus (t ∷ l ∷ c ∷ wo ∷ [] ∷ wz ∷ ws ∷ [] ∷ [] ∷ wd ∷ wn ∷ wc ∷ [])
     ≡ Ok (record {
       beat = beat.D (record { opcode = o; size = z; source = s; denied = n; corrupt = k });
       lanes = lanes;
     })
-unfolding reply_of field_at nothing_of
+unfolding reply_of_words field_at nothing_of
 reply-spelled bus t l c wo wz ws wd wn wc o z s n k lanes eo ez es ed en ec = rw (eo, ez, es, ed, en, ec) refl
 
-pub row-spelled : (masters ports : List Bus) (line time : ℕ) (link : Link) (which : Channel) (seen : SeenBeat)
+pub row-spelled : (masters ports : List Bus) (line time : ℕ) (link : Link) (which : RowChannel) (seen : SeenBeat)
     (t l c w3 w4 w5 w6 w7 w8 w9 w10 w11 : List ℕ)
     → decimal_of (2 ^ 64 - 1) t ≡ Ok time → link_of masters ports l ≡ Ok link → channel_of c ≡ Ok which
-    → beat_of (bus_of masters ports link) which (t ∷ l ∷ c ∷ w3 ∷ w4 ∷ w5 ∷ w6 ∷ w7 ∷ w8 ∷ w9 ∷ w10 ∷ w11 ∷ [])
+    → beat_of (bus_of_link masters ports link) which (t ∷ l ∷ c ∷ w3 ∷ w4 ∷ w5 ∷ w6 ∷ w7 ∷ w8 ∷ w9 ∷ w10 ∷ w11 ∷ [])
     ≡ Ok seen
     → row_of masters ports line (t ∷ l ∷ c ∷ w3 ∷ w4 ∷ w5 ∷ w6 ∷ w7 ∷ w8 ∷ w9 ∷ w10 ∷ w11 ∷ [])
-    ≡ Ok (row_at line time link seen)
+    ≡ Ok (row_on_line line time link seen)
 unfolding row_of field_at
 row-spelled masters ports line time link which seen t l c w3 w4 w5 w6 w7 w8 w9 w10 w11 et el ec eb =
     rw (et, el, ec, eb) refl

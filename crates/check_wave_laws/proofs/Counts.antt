@@ -6,18 +6,17 @@ use Rattle.std.specs.Str.{is_utf8}
 use Rattle.toml.specs.Data.{Data, Items, Members, as_array, get_member}
 use Rattle.toml.specs.Parse.{parse_document}
 use Rattle.tl_script.specs.Value.{list_of}
-use Rattle.check_map.specs.declared.limits.TheConstants.{MAX_MASTERS, MAX_PORTS}
-use Rattle.check_signals.specs.Names as signals
-use Rattle.check_signals.specs.Names.{Names, all_names, clock_in, is_low_in, link_of, links_by, links_in, names_of_file, optional_text}
-use Rattle.check_signals.specs.declared.fault.Key.{Key}
-use Rattle.check_signals.specs.declared.fault.Key.TheVariants as key
+use Rattle.check_map.specs.declared.limits.TheConstants.{MAX_JUDGED_MASTERS, MAX_JUDGED_PORTS}
+use Rattle.check_signals.specs.Names.{SignalNames, all_names, clock_in, is_low_in, link_of, links_by, links_in, names_of_file, optional_text}
+use Rattle.check_signals.specs.declared.fault.SignalKey.{SignalKey}
+use Rattle.check_signals.specs.declared.fault.SignalKey.TheVariants as key
 use Rattle.check_signals.specs.declared.fault.KeyFault.{KeyFault}
 use Rattle.check_signals.specs.declared.fault.KeyFault.TheVariants as key_fault
 use Rattle.check_beats.specs.declared.bus.Bus.{Bus}
 use Rattle.check_beats.specs.declared.bus.Bus.TheVariants.{Eight}
-use Rattle.check_keys.specs.Bus.{bus_at}
+use Rattle.check_keys.specs.Bus.{bus_in_table}
 use Rattle.check_keys.specs.Key as system_key
-use Rattle.check_keys.specs.Reading.{◌>>=◌, each}
+use Rattle.tl_text.specs.Reading.{◌>>=◌, each}
 use Rattle.check_keys.specs.Value.{array_of, one_up_to, table_of, tables_of, up_to, value_at}
 use Rattle.check_keys.specs.declared.fault.Key as part_key
 use Rattle.check_keys.specs.declared.fault.Key.TheVariants as part
@@ -44,37 +43,22 @@ each-counts {A} {B} {F} f (x ∷ xs) ys is = go (f x) (each f xs) (λ zs same. e
         let all : y ∷ zs ≡ ys = cc in
         omega (arith, more zs refl, ap length all)
 
-names-counts : {A B : Type 0} → (f : A → Result B KeyFault) (xs : List A) (ys : List B) → signals.each f xs ≡ Ok ys
-    → length xs ≡ length ys
-names-counts {A} {B} f [] ys is = let none : [] ≡ ys = cc in ap length none
-names-counts {A} {B} f (x ∷ xs) ys is =
-    go (f x) (signals.each f xs) (λ zs same. names-counts f xs zs same) is
-  where
-    go : (r : Result B KeyFault) (rest : Result (List B) KeyFault)
-        → ((zs : List B) → rest ≡ Ok zs → length xs ≡ length zs)
-        → (signals.◌>>=◌ r (λ y. signals.◌>>=◌ rest (λ zs. Ok (y ∷ zs)))) ≡ Ok ys → length (x ∷ xs) ≡ length ys
-    go (Err e) rest more same = absurd (cc)
-    go (Ok y) (Err e) more same = absurd (cc)
-    go (Ok y) (Ok zs) more same =
-        let all : y ∷ zs ≡ ys = cc in
-        omega (arith, more zs refl, ap length all)
-
 -- ---- one document
 
 -- both read the table of one document
-record Table (file : List ℕ) (names : Names) (parts : Parts) : Type 0 where
+record Table (file : List ℕ) (names : SignalNames) (parts : Parts) : Type 0 where
   members : Members
   named : all_names members ≡ Ok names
   divided : parts_in members ≡ Ok parts
 
-one-table : (file : List ℕ) (names : Names) (parts : Parts) → names_of_file file ≡ Ok names
+one-table : (file : List ℕ) (names : SignalNames) (parts : Parts) → names_of_file file ≡ Ok names
     → parts_of file ≡ Ok parts → Table file names parts
 unfolding names_of_file document_of
 one-table file names parts named divided =
     go (nat_lt MAX_SYSTEM (length file)) (is_utf8 file) (parse_document file) named divided
   where
     go : (long text : Bool) (read : Option Members)
-        → cond text (signals.◌>>=◌ (ok_or read key_fault.NotToml) all_names) (Err key_fault.NotToml) ≡ Ok names
+        → cond text (◌>>=◌ (ok_or read key_fault.NotToml) all_names) (Err key_fault.NotToml) ≡ Ok names
         → (cond long (Err fault.TooLong) (cond text (ok_or read fault.NotToml) (Err fault.NotToml)) >>= parts_in)
         ≡ Ok parts
         → Table file names parts
@@ -84,11 +68,11 @@ one-table file names parts named divided =
     go false false read x y = absurd (cc)
 
 -- the links of each kind
-record Links (members : Members) (names : Names) : Type 0 where
+record Links (members : Members) (names : SignalNames) : Type 0 where
   ports : links_in key.Port members ≡ Ok names.ports
   masters : links_in key.Master members ≡ Ok names.masters
 
-links-are : (members : Members) (names : Names) → all_names members ≡ Ok names → Links members names
+links-are : (members : Members) (names : SignalNames) → all_names members ≡ Ok names → Links members names
 unfolding all_names
 links-are members names is =
     go (clock_in members) (optional_text key.Reset members) (is_low_in members) (links_in key.Port members)
@@ -97,8 +81,8 @@ links-are members names is =
     go : (c : Result (List ℕ) KeyFault) (r : Result (Option (List ℕ)) KeyFault) (l : Result Bool KeyFault)
         (p m : Result (List (Option (List (List ℕ)))) KeyFault)
         → links_in key.Port members ≡ p → links_in key.Master members ≡ m
-        → signals.◌>>=◌ c (λ clock. signals.◌>>=◌ r (λ reset. signals.◌>>=◌ l (λ is_low. signals.◌>>=◌ p
-        (λ of_ports. signals.◌>>=◌ m (λ of_masters. Ok (record {
+        → ◌>>=◌ c (λ clock. ◌>>=◌ r (λ reset. ◌>>=◌ l (λ is_low. ◌>>=◌ p
+        (λ of_ports. ◌>>=◌ m (λ of_masters. Ok (record {
           clock = clock;
           reset = reset;
           is_low = is_low;
@@ -112,11 +96,11 @@ links-are members names is =
     go (Ok c) (Ok r) (Ok l) (Err e) m x y w = absurd (cc)
     go (Ok c) (Ok r) (Ok l) (Ok p) (Err e) x y w = absurd (cc)
     go (Ok c) (Ok r) (Ok l) (Ok p) (Ok m) x y w =
-        let made : Names = record { clock = c; reset = r; is_low = l; ports = p; masters = m } in
+        let made : SignalNames = record { clock = c; reset = r; is_low = l; ports = p; masters = m } in
         let same : made ≡ names = cc in
         record {
-          ports = x ∙ ap (λ (n : Names). Ok n.ports) same;
-          masters = y ∙ ap (λ (n : Names). Ok n.masters) same;
+          ports = x ∙ ap (λ (n : SignalNames). Ok n.ports) same;
+          masters = y ∙ ap (λ (n : SignalNames). Ok n.masters) same;
         }
 
 -- the parts of each kind
@@ -127,7 +111,7 @@ record Divided (members : Members) (parts : Parts) : Type 0 where
 
 parts-are : (members : Members) (parts : Parts) → parts_in members ≡ Ok parts → Divided members parts
 unfolding parts_in
-parts-are members parts is = go (bus_at Eight members) is
+parts-are members parts is = go (bus_in_table Eight members) is
   where
     by : (bus : Bus) (p : Result (List Port) SystemFault) (m : Result (List Master) SystemFault)
         → ports_of bus members ≡ p → masters_of bus members ≡ m
@@ -154,16 +138,16 @@ parts-are members parts is = go (bus_at Eight members) is
 -- ---- the values at a key
 
 -- as many links as the array at a key has values
-link-values : (which : Key) (value : Data) (links : List (Option (List (List ℕ)))) → links_by which (Some value) ≡ Ok links
+link-values : (which : SignalKey) (value : Data) (links : List (Option (List (List ℕ)))) → links_by which (Some value) ≡ Ok links
     → (items : Items) × (as_array value ≡ Some items) × (length (list_of items) ≡ length links)
 link-values which value links is = go (as_array value) refl is
   where
     go : (o : Option Items) → as_array value ≡ o
-        → signals.◌>>=◌ (ok_or o (key_fault.WrongType which)) (λ items. signals.each (link_of which) (list_of items))
+        → ◌>>=◌ (ok_or o (key_fault.WrongType which)) (λ items. each (link_of which) (list_of items))
         ≡ Ok links
         → (items : Items) × (as_array value ≡ Some items) × (length (list_of items) ≡ length links)
     go None x y = absurd (cc)
-    go (Some items) x y = (items, x, names-counts (link_of which) (list_of items) links y)
+    go (Some items) x y = (items, x, each-counts (link_of which) (list_of items) links y)
 
 -- as many tables, if they are tables
 table-values : (value : Data) (which : part_key.Key) (tables : List Members) (items : Items)
@@ -195,28 +179,28 @@ few which most xs ys is = go (nat_lt most (length xs)) refl is
 
 ports-same : (bus : Bus) (members : Members) (links : List (Option (List (List ℕ)))) (of_ports : List Port)
     → links_in key.Port members ≡ Ok links → ports_of bus members ≡ Ok of_ports
-    → (length links ≡ length of_ports) × (length of_ports ≤ MAX_PORTS)
+    → (length links ≡ length of_ports) × (length of_ports ≤ MAX_JUDGED_PORTS)
 unfolding links_in ports_of port_tables
 ports-same bus members links of_ports named divided = go (get_member (system_key.key_name part.Port) members) named divided
   where
     by : (value : Data) → links_by key.Port (Some value) ≡ Ok links → (r : Result (List Members) SystemFault)
-        → tables_of part.Port value ≡ r → ((r >>= up_to part.Port MAX_PORTS) >>= each (port_of bus)) ≡ Ok of_ports
-        → (length links ≡ length of_ports) × (length of_ports ≤ MAX_PORTS)
+        → tables_of part.Port value ≡ r → ((r >>= up_to part.Port MAX_JUDGED_PORTS) >>= each (port_of bus)) ≡ Ok of_ports
+        → (length links ≡ length of_ports) × (length of_ports ≤ MAX_JUDGED_PORTS)
     by value x (Err e) at y = absurd (cc)
-    by value x (Ok tables) at y = then (up_to part.Port MAX_PORTS tables) refl y
+    by value x (Ok tables) at y = then (up_to part.Port MAX_JUDGED_PORTS tables) refl y
       where
-        then : (r : Result (List Members) SystemFault) → up_to part.Port MAX_PORTS tables ≡ r
-            → (r >>= each (port_of bus)) ≡ Ok of_ports → (length links ≡ length of_ports) × (length of_ports ≤ MAX_PORTS)
+        then : (r : Result (List Members) SystemFault) → up_to part.Port MAX_JUDGED_PORTS tables ≡ r
+            → (r >>= each (port_of bus)) ≡ Ok of_ports → (length links ≡ length of_ports) × (length of_ports ≤ MAX_JUDGED_PORTS)
         then (Err e) z w = absurd (cc)
         then (Ok some) z w =
             let found = link-values key.Port value links x in
-            let are = few part.Port MAX_PORTS tables some z in
+            let are = few part.Port MAX_JUDGED_PORTS tables some z in
             let count = table-values value part.Port tables found.0 found.1 at in
             let parts = each-counts (port_of bus) some of_ports w in
             (omega (arith, found.2, count, ap length are.0, parts), omega (arith, are.1, parts))
 
     go : (o : Option Data) → links_by key.Port o ≡ Ok links → (tables_by o >>= each (port_of bus)) ≡ Ok of_ports
-        → (length links ≡ length of_ports) × (length of_ports ≤ MAX_PORTS)
+        → (length links ≡ length of_ports) × (length of_ports ≤ MAX_JUDGED_PORTS)
     go None x y =
         let one : [] ≡ links = cc in
         let two : [] ≡ of_ports = cc in
@@ -225,40 +209,40 @@ ports-same bus members links of_ports named divided = go (get_member (system_key
 
 -- the tables of an array of masters
 abbrev counted : Data → Result (List Members) SystemFault
-counted value = tables_of part.Master value >>= one_up_to part.Master MAX_MASTERS
+counted value = tables_of part.Master value >>= one_up_to part.Master MAX_JUDGED_MASTERS
 
 masters-same : (bus : Bus) (members : Members) (links : List (Option (List (List ℕ)))) (of_masters : List Master)
     → links_in key.Master members ≡ Ok links → masters_of bus members ≡ Ok of_masters
-    → (length links ≡ length of_masters) × (length of_masters ≤ MAX_MASTERS)
+    → (length links ≡ length of_masters) × (length of_masters ≤ MAX_JUDGED_MASTERS)
 unfolding links_in masters_of master_tables value_at
 masters-same bus members links of_masters named divided =
     go (get_member (system_key.key_name part.Master) members) named divided
   where
     by : (value : Data) → links_by key.Master (Some value) ≡ Ok links → (r : Result (List Members) SystemFault)
         → tables_of part.Master value ≡ r
-        → ((r >>= one_up_to part.Master MAX_MASTERS)
+        → ((r >>= one_up_to part.Master MAX_JUDGED_MASTERS)
         >>= (λ tables. each (master_of bus (list_any has_first tables)) tables)) ≡ Ok of_masters
-        → (length links ≡ length of_masters) × (length of_masters ≤ MAX_MASTERS)
+        → (length links ≡ length of_masters) × (length of_masters ≤ MAX_JUDGED_MASTERS)
     by value x (Err e) at y = absurd (cc)
-    by value x (Ok tables) at y = then (nat_lt (length tables) 1) (up_to part.Master MAX_MASTERS tables) refl y
+    by value x (Ok tables) at y = then (nat_lt (length tables) 1) (up_to part.Master MAX_JUDGED_MASTERS tables) refl y
       where
-        then : (t : Bool) (r : Result (List Members) SystemFault) → up_to part.Master MAX_MASTERS tables ≡ r
-            → ((cond t (Err (fault.OutOfRange part.Master)) (Ok tables) >>= up_to part.Master MAX_MASTERS)
+        then : (t : Bool) (r : Result (List Members) SystemFault) → up_to part.Master MAX_JUDGED_MASTERS tables ≡ r
+            → ((cond t (Err (fault.OutOfRange part.Master)) (Ok tables) >>= up_to part.Master MAX_JUDGED_MASTERS)
             >>= (λ some. each (master_of bus (list_any has_first some)) some)) ≡ Ok of_masters
-            → (length links ≡ length of_masters) × (length of_masters ≤ MAX_MASTERS)
+            → (length links ≡ length of_masters) × (length of_masters ≤ MAX_JUDGED_MASTERS)
         then true r z w = absurd (cc)
         then false r z w =
             last r z
             (ap (λ (q : Result (List Members) SystemFault). q >>= (λ some. each (master_of bus (list_any has_first some)) some))
             (sym z) ∙ w)
           where
-            last : (r : Result (List Members) SystemFault) → up_to part.Master MAX_MASTERS tables ≡ r
+            last : (r : Result (List Members) SystemFault) → up_to part.Master MAX_JUDGED_MASTERS tables ≡ r
                 → (r >>= (λ some. each (master_of bus (list_any has_first some)) some)) ≡ Ok of_masters
-                → (length links ≡ length of_masters) × (length of_masters ≤ MAX_MASTERS)
+                → (length links ≡ length of_masters) × (length of_masters ≤ MAX_JUDGED_MASTERS)
             last (Err e) z w = absurd (cc)
             last (Ok some) z w =
                 let found = link-values key.Master value links x in
-                let are = few part.Master MAX_MASTERS tables some z in
+                let are = few part.Master MAX_JUDGED_MASTERS tables some z in
                 let count = table-values value part.Master tables found.0 found.1 at in
                 let parts = each-counts (master_of bus (list_any has_first some)) some of_masters w in
                 (omega (arith, found.2, count, ap length are.0, parts), omega (arith, are.1, parts))
@@ -266,18 +250,18 @@ masters-same bus members links of_masters named divided =
     go : (o : Option Data) → links_by key.Master o ≡ Ok links
         → ((ok_or o (fault.Missing part.Master) >>= counted)
         >>= (λ tables. each (master_of bus (list_any has_first tables)) tables)) ≡ Ok of_masters
-        → (length links ≡ length of_masters) × (length of_masters ≤ MAX_MASTERS)
+        → (length links ≡ length of_masters) × (length of_masters ≤ MAX_JUDGED_MASTERS)
     go None x y = absurd (cc)
     go (Some value) x y = by value x (tables_of part.Master value) refl y
 
 -- as many names as links, of which there are few
-pub record SameCounts (names : Names) (system : Description) : Type 0 where
+pub record SameCounts (names : SignalNames) (system : Description) : Type 0 where
   pub ports : length names.ports ≡ length system.ports
   pub masters : length names.masters ≡ length system.masters
   pub few_ports : length system.ports < 2 ^ 64
   pub few_masters : length system.masters < 2 ^ 64
 
-pub same-counts : (file : List ℕ) (names : Names) (parts : Parts) (system : Description) → parts_of file ≡ Ok parts
+pub same-counts : (file : List ℕ) (names : SignalNames) (parts : Parts) (system : Description) → parts_of file ≡ Ok parts
     → Makes parts system → names_of_file file ≡ Ok names → SameCounts names system
 same-counts file names parts system is makes named =
     let table = one-table file names parts named is in

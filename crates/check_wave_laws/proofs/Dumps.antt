@@ -7,17 +7,17 @@ use Rattle.tl_text.specs.Number.{are_digits, number_of}
 use Rattle.check_beats.specs.declared.bus.Bus.{Bus}
 use Rattle.check_vcd.specs.Body.{At, Body, Fails, Find, Gives, Goes, Happens, Sets, Step, Wrong, begun_by, changed, changed_to, falls, followed, happenings, passed, passed_to, set, start, step_at, step_of, timed, timed_at, with_bit, with_digits}
 use Rattle.check_vcd.specs.Header as header
-use Rattle.check_vcd.specs.Header.{Header, Opened, Var, behind, blank, opening}
-use Rattle.check_vcd.specs.Token.{are_bits, is_end, kind_of}
-use Rattle.check_vcd.specs.Words.{Front, Word, is_blank, line_after, nothing, with_byte, word_if_any, words_from, words_of}
-use Rattle.check_vcd.specs.declared.body.Place.{Place}
-use Rattle.check_vcd.specs.declared.body.Place.TheVariants.{Plain, InComment, BehindVector, BehindOther}
+use Rattle.check_vcd.specs.Header.{Header, Opened, Var, words_behind, blank, opening}
+use Rattle.check_vcd.specs.Token.{are_bits, is_end, token_kind}
+use Rattle.check_vcd.specs.Words.{Front, Word, is_blank, line_after, nothing, with_byte, word_if_any, words_from, dump_words}
+use Rattle.check_vcd.specs.declared.body.BodyPlace.{BodyPlace}
+use Rattle.check_vcd.specs.declared.body.BodyPlace.TheVariants.{Plain, InComment, BehindVector, BehindOther}
 use Rattle.check_vcd.specs.declared.body.TheConstants.{TIME_DIGITS}
 use Rattle.check_vcd.specs.declared.codes.Coded.{Coded}
 use Rattle.check_vcd.specs.declared.fault.Mistake.TheVariants.{BadValue, TimeFalls, TooWide}
 use Rattle.check_vcd.specs.declared.scanner.TheConstants.{MAX_WORD}
-use Rattle.check_vcd.specs.declared.token.Kind.{Kind}
-use Rattle.check_vcd.specs.declared.token.Kind.TheVariants as kind
+use Rattle.check_vcd.specs.declared.token.TokenKind.{TokenKind}
+use Rattle.check_vcd.specs.declared.token.TokenKind.TheVariants as kind
 use Rattle.check_samples.specs.Sampling.{Sampling, rows_from}
 use Rattle.check_wave_laws.specs.Text.{FindFits, HappensFit, HasRows, SamplingFits}
 use Rattle.check_wave_laws.proofs.Text.{readable-from}
@@ -107,7 +107,7 @@ digits-fit widths body digits size short = go ((length digits == 0) || not (are_
     go false = short
 
 module _ (widths : List ℕ) (find : Find) (fit : FindFits widths find) where
-  begun-fits : (which : Kind) (body : Body) (size first : ℕ) (rest : List ℕ) → IsShort body
+  begun-fits : (which : TokenKind) (body : Body) (size first : ℕ) (rest : List ℕ) → IsShort body
       → length (first ∷ rest) ≤ size → StepFits widths (begun_by which find body size first rest)
   begun-fits kind.Scalar body size first rest short whole =
       changed-fits widths find fit (with_bit body first) rest (omega arith)
@@ -119,11 +119,11 @@ module _ (widths : List ℕ) (find : Find) (fit : FindFits widths find) where
   begun-fits kind.Ignored body size first rest short whole = short
   begun-fits kind.Unknown body size first rest short whole = tt
 
-  word-fits : (place : Place) (body : Body) (size : ℕ) (word : List ℕ) → IsShort body → length word ≤ size
+  word-fits : (place : BodyPlace) (body : Body) (size : ℕ) (word : List ℕ) → IsShort body → length word ≤ size
       → StepFits widths (step_at place find body size word)
   word-fits Plain body size [] short whole = tt
   word-fits Plain body size (first ∷ rest) short whole =
-      begun-fits (kind_of first (first ∷ rest)) body size first rest short whole
+      begun-fits (token_kind first (first ∷ rest)) body size first rest short whole
   word-fits InComment body size word short whole = go (is_end word)
     where
       go : (t : Bool) → IsShort (cond t (record body { place = Plain }) body)
@@ -187,7 +187,7 @@ words-from-fit line front (byte ∷ text) fits =
     go true blank letter = word-then line front (words_from (line_after line byte) nothing text) fits blank
     go false blank letter = letter
 
-words-fit : (text : List ℕ) → WordsFit (words_of text)
+words-fit : (text : List ℕ) → WordsFit (dump_words text)
 words-fit text = words-from-fit 1 nothing text (omega arith)
 
 -- the words after a header
@@ -199,17 +199,17 @@ opened-fit (word ∷ words) h vars rest whole is =
     by (header.step_of h word.bytes) (λ next. opened-fit words next vars rest whole.1) is
   where
     by : (step : header.Step) → ((next : Header) → opening words next ≡ Opened vars rest → WordsFit rest)
-        → behind step word words (opening words) ≡ Opened vars rest → WordsFit rest
+        → words_behind step word words (opening words) ≡ Opened vars rest → WordsFit rest
     by (header.Goes next) others e = others next e
     by (header.Ends next) others e =
         let same : words ≡ rest = cc in subst WordsFit same whole.1
     by (header.Fails mistake) others e = absurd (cc)
 
 pub dump-rows : (masters ports : List Bus) (line : ℕ) (text : List ℕ) (vars : List Var) (words : List Word) (find : Find)
-    (s : Sampling) → length masters < 2 ^ 64 → length ports < 2 ^ 64 → opening (words_of text) blank ≡ Opened vars words → FindFits s.widths find
+    (s : Sampling) → length masters < 2 ^ 64 → length ports < 2 ^ 64 → opening (dump_words text) blank ≡ Opened vars words → FindFits s.widths find
     → SamplingFits masters ports s
     → HasRows masters ports s.probes.channels line (rows_from (happenings find words start) s).text
 dump-rows masters ports line text vars words find s few_masters few_ports opened fit fits =
     readable-from masters ports few_masters few_ports (happenings find words start) s fits
-    (happens-fit s.widths find fit words start (opened-fit (words_of text) blank vars words (words-fit text) opened)
+    (happens-fit s.widths find fit words start (opened-fit (dump_words text) blank vars words (words-fit text) opened)
     (omega arith)) line

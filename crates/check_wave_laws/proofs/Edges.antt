@@ -8,7 +8,7 @@ use Rattle.check_samples.specs.Digits.{bits_of}
 use Rattle.check_samples.specs.Rows.{Rows, and_then, crosses, followed_by, has_edge, is_active, is_one, is_zero, no_rows, rises, row_alone, row_at, rows_of}
 use Rattle.check_samples.specs.declared.channel.Channel.{Channel}
 use Rattle.check_samples.specs.declared.channel.UnknownBit.{UnknownBit}
-use Rattle.check_wave_laws.specs.Sampled.{AreInOrder, Beat, IsBeatOf, Precedes, Wave, is_whole, sampled_row, sampled_rows, values_before, values_until}
+use Rattle.check_wave_laws.specs.Sampled.{AreInOrder, SampledBeat, IsSampledBeat, Precedes, Wave, is_whole, sampled_row, sampled_rows, values_before, values_until}
 
 -- ---- rows, one after the other
 
@@ -26,7 +26,7 @@ followed-twice (Some unknown) other text more rest = refl
 and-then-twice : (one two rest : Rows) → and_then (and_then one two) rest ≡ and_then one (and_then two rest)
 and-then-twice one two rest = followed-twice one.fault two.fault one.text two.text rest
 
-pub rows-append : (wave : Wave) (beats more : List Beat)
+pub rows-append : (wave : Wave) (beats more : List SampledBeat)
     → sampled_rows wave (beats ++ more) ≡ and_then (sampled_rows wave beats) (sampled_rows wave more)
 rows-append wave [] more = refl
 rows-append wave (beat ∷ beats) more =
@@ -35,13 +35,13 @@ rows-append wave (beat ∷ beats) more =
 
 -- ---- lists of beats
 
-pub here : (beat : Beat) (beats : List Beat) → Contains (beat ∷ beats) beat
+pub here : (beat : SampledBeat) (beats : List SampledBeat) → Contains (beat ∷ beats) beat
 here beat beats = (0, omega arith, refl)
 
-pub there : (beat other : Beat) (beats : List Beat) → Contains beats other → Contains (beat ∷ beats) other
+pub there : (beat other : SampledBeat) (beats : List SampledBeat) → Contains beats other → Contains (beat ∷ beats) other
 there beat other beats has = (suc has.0, omega (arith, has.1), has.2)
 
-pub here-or-there : (beat other : Beat) (beats : List Beat) → Contains (beat ∷ beats) other
+pub here-or-there : (beat other : SampledBeat) (beats : List SampledBeat) → Contains (beat ∷ beats) other
     → (beat ≡ other) ⊎ Contains beats other
 here-or-there beat other beats has = go has.0 has.1 has.2
   where
@@ -50,11 +50,11 @@ here-or-there beat other beats has = go has.0 has.1 has.2
     go zero inside is = inl is
     go (suc k) inside is = inr (k, omega (arith, inside), is)
 
-pub none-there : (beat : Beat) → Contains [] beat → ⊥
+pub none-there : (beat : SampledBeat) → Contains [] beat → ⊥
 none-there beat has = omega (arith, has.1)
 
-pub order-append : (beats more : List Beat) → AreInOrder beats → AreInOrder more
-    → ((beat later : Beat) → Contains beats beat → Contains more later → Precedes beat later)
+pub order-append : (beats more : List SampledBeat) → AreInOrder beats → AreInOrder more
+    → ((beat later : SampledBeat) → Contains beats beat → Contains more later → Precedes beat later)
     → AreInOrder (beats ++ more)
 order-append [] more first second across = second
 order-append (beat ∷ beats) more first second across = (
@@ -62,28 +62,28 @@ order-append (beat ∷ beats) more first second across = (
   order-append beats more first.1 second (λ one later has after. across one later (there beat one beats has) after),
 )
   where
-    by : (later : Beat) → Contains beats later ⊎ Contains more later → Precedes beat later
+    by : (later : SampledBeat) → Contains beats later ⊎ Contains more later → Precedes beat later
     by later (inl near) = first.0 later near
     by later (inr far) = across beat later (here beat beats) far
 
 -- ---- one edge
 
-abbrev pub beat-of : ℕ → ℕ → Channel → Beat
+abbrev pub beat-of : ℕ → ℕ → Channel → SampledBeat
 beat-of time place channel = record { time = time; place = place; channel = channel }
 
 -- a beat and others, or the others alone
-abbrev pub first-if : Bool → Beat → List Beat → List Beat
+abbrev pub first-if : Bool → SampledBeat → List SampledBeat → List SampledBeat
 first-if t beat beats = cond t (beat ∷ beats) beats
 
 -- the beats that cross at a time, of channels of which the first has this place
-abbrev pub crossing : Wave → ℕ → ℕ → List Channel → List Beat
+abbrev pub crossing : Wave → ℕ → ℕ → List Channel → List SampledBeat
 crossing wave time place [] = []
 crossing wave time place (channel ∷ channels) =
     first-if (crosses (values_before wave time) channel) (beat-of time place channel)
     (crossing wave time (place + 1) channels)
 
 -- the beat is of one of these channels and crosses then
-pub record Crosses (wave : Wave) (time place : ℕ) (channels : List Channel) (beat : Beat) : Type 0 where
+pub record Crosses (wave : Wave) (time place : ℕ) (channels : List Channel) (beat : SampledBeat) : Type 0 where
   pub index : ℕ
   pub now : beat.time ≡ time
   pub spot : beat.place ≡ place + index
@@ -91,7 +91,7 @@ pub record Crosses (wave : Wave) (time place : ℕ) (channels : List Channel) (b
   pub crossed : crosses (values_before wave time) beat.channel ≡ true
 
 module _ (wave : Wave) (time : ℕ) where
-  crosses-on : (place : ℕ) (channel : Channel) (channels : List Channel) (beat : Beat)
+  crosses-on : (place : ℕ) (channel : Channel) (channels : List Channel) (beat : SampledBeat)
       → Crosses wave time (place + 1) channels beat → Crosses wave time place (channel ∷ channels) beat
   crosses-on place channel channels beat one = record {
     index = suc one.index;
@@ -101,8 +101,8 @@ module _ (wave : Wave) (time : ℕ) where
     crossed = one.crossed;
   }
 
-  crossing-one : (place : ℕ) (channel : Channel) (channels : List Channel) (beat : Beat)
-      → ((other : Beat) → Contains (crossing wave time (place + 1) channels) other
+  crossing-one : (place : ℕ) (channel : Channel) (channels : List Channel) (beat : SampledBeat)
+      → ((other : SampledBeat) → Contains (crossing wave time (place + 1) channels) other
       → Crosses wave time (place + 1) channels other)
       → (t : Bool) → crosses (values_before wave time) channel ≡ t
       → Contains (first-if t (beat-of time place channel) (crossing wave time (place + 1) channels)) beat
@@ -113,35 +113,35 @@ module _ (wave : Wave) (time : ℕ) where
       go : (beat-of time place channel ≡ beat) ⊎ Contains (crossing wave time (place + 1) channels) beat
           → Crosses wave time place (channel ∷ channels) beat
       go (inl same) =
-          subst (λ (b : Beat). Crosses wave time place (channel ∷ channels) b) same
+          subst (λ (b : SampledBeat). Crosses wave time place (channel ∷ channels) b) same
           (record { index = 0; now = refl; spot = omega arith; is = refl; crossed = is })
       go (inr far) = crosses-on place channel channels beat (more beat far)
   crossing-one place channel channels beat more false is has = crosses-on place channel channels beat (more beat has)
 
-  pub crossing-each : (place : ℕ) (channels : List Channel) (beat : Beat)
+  pub crossing-each : (place : ℕ) (channels : List Channel) (beat : SampledBeat)
       → Contains (crossing wave time place channels) beat → Crosses wave time place channels beat
   crossing-each place [] beat has = absurd (none-there beat has)
   crossing-each place (channel ∷ channels) beat has =
       crossing-one place channel channels beat (crossing-each (place + 1) channels)
       (crosses (values_before wave time) channel) refl has
 
-  same-beat : (place : ℕ) (channel : Channel) (beat : Beat) → beat.time ≡ time → beat.place ≡ place
+  same-beat : (place : ℕ) (channel : Channel) (beat : SampledBeat) → beat.time ≡ time → beat.place ≡ place
       → channel ≡ beat.channel → beat-of time place channel ≡ beat
   same-beat place channel beat now at is =
       ap (λ (c : Channel). beat-of time place c) is ∙ ap (λ (n : ℕ). beat-of n place beat.channel) (sym now)
       ∙ ap (λ (n : ℕ). beat-of beat.time n beat.channel) (sym at)
 
-  first-has : (t : Bool) (beat other : Beat) (beats : List Beat) → t ≡ true → beat ≡ other
+  first-has : (t : Bool) (beat other : SampledBeat) (beats : List SampledBeat) → t ≡ true → beat ≡ other
       → Contains (first-if t beat beats) other
   first-has true beat other beats is same = (0, omega arith, same)
   first-has false beat other beats is same = absurd (cc)
 
-  rest-has : (t : Bool) (beat other : Beat) (beats : List Beat) → Contains beats other
+  rest-has : (t : Bool) (beat other : SampledBeat) (beats : List SampledBeat) → Contains beats other
       → Contains (first-if t beat beats) other
   rest-has true beat other beats has = there beat other beats has
   rest-has false beat other beats has = has
 
-  pub crossing-all : (place : ℕ) (channels : List Channel) (beat : Beat) (index : ℕ) → beat.time ≡ time
+  pub crossing-all : (place : ℕ) (channels : List Channel) (beat : SampledBeat) (index : ℕ) → beat.time ≡ time
       → beat.place ≡ place + index → slice_get channels index ≡ Some beat.channel
       → crosses (values_before wave time) beat.channel ≡ true → Contains (crossing wave time place channels) beat
   crossing-all place [] beat index now at is crossed = absurd (cc)
@@ -156,7 +156,7 @@ module _ (wave : Wave) (time : ℕ) where
       (crossing wave time (place + 1) channels)
       (crossing-all (place + 1) channels beat index now (omega (arith, at)) is crossed)
 
-  later-place : (place : ℕ) (channel : Channel) (channels : List Channel) (later : Beat)
+  later-place : (place : ℕ) (channel : Channel) (channels : List Channel) (later : SampledBeat)
       → Contains (crossing wave time (place + 1) channels) later → Precedes (beat-of time place channel) later
   later-place place channel channels later has =
       let one = crossing-each (place + 1) channels later has in inr (sym one.now, omega (arith, one.spot))
@@ -197,14 +197,14 @@ not-both bits is0 is1 =
     omega (arith, same)
 
 -- without a change of its values a time has no beat
-pub no-beat : (wave : Wave) (values : List (List ℕ)) (beat : Beat) → values_before wave beat.time ≡ values
-    → values_until wave beat.time ≡ values → IsBeatOf wave beat → ⊥
+pub no-beat : (wave : Wave) (values : List (List ℕ)) (beat : SampledBeat) → values_before wave beat.time ≡ values
+    → values_until wave beat.time ≡ values → IsSampledBeat wave beat → ⊥
 no-beat wave values beat before until is =
     not-both (bits_of values wave.probes.clock)
     (subst (λ (vs : List (List ℕ)). is_zero (bits_of vs wave.probes.clock) ≡ true) before is.low)
     (subst (λ (vs : List (List ℕ)). is_one (bits_of vs wave.probes.clock) ≡ true) until is.high)
 
-pub edge-at : (wave : Wave) (time : ℕ) (beat : Beat) → beat.time ≡ time → IsBeatOf wave beat
+pub edge-at : (wave : Wave) (time : ℕ) (beat : SampledBeat) → beat.time ≡ time → IsSampledBeat wave beat
     → has_edge (values_before wave time) (values_until wave time) wave.probes ≡ true
 edge-at wave time beat now is =
     subst (λ (n : ℕ). has_edge (values_before wave n) (values_until wave n) wave.probes ≡ true) now
@@ -214,17 +214,17 @@ edge-at wave time beat now is =
     (is_one (bits_of (values_until wave beat.time) wave.probes.clock)) is.low is.high)
     (not_from_false (is_active (values_before wave beat.time) wave.probes.reset) is.running))
 
-pub crossed-at : (wave : Wave) (time : ℕ) (beat : Beat) → beat.time ≡ time → IsBeatOf wave beat
+pub crossed-at : (wave : Wave) (time : ℕ) (beat : SampledBeat) → beat.time ≡ time → IsSampledBeat wave beat
     → crosses (values_before wave time) beat.channel ≡ true
 crossed-at wave time beat now is =
     subst (λ (n : ℕ). crosses (values_before wave n) beat.channel ≡ true) now
     (and_from (is_one (bits_of (values_before wave beat.time) beat.channel.valid))
     (is_one (bits_of (values_before wave beat.time) beat.channel.ready)) is.valid is.ready)
 
-pub beat-at : (wave : Wave) (time : ℕ) (beat : Beat) → beat.time ≡ time
+pub beat-at : (wave : Wave) (time : ℕ) (beat : SampledBeat) → beat.time ≡ time
     → has_edge (values_before wave time) (values_until wave time) wave.probes ≡ true
     → slice_get wave.probes.channels beat.place ≡ Some beat.channel
-    → crosses (values_before wave time) beat.channel ≡ true → is_whole wave.cut time ≡ true → IsBeatOf wave beat
+    → crosses (values_before wave time) beat.channel ≡ true → is_whole wave.cut time ≡ true → IsSampledBeat wave beat
 beat-at wave time beat now edge looked crossed whole =
     let outside = and_parts (rises (values_before wave time) (values_until wave time) wave.probes.clock)
     (not (is_active (values_before wave time) wave.probes.reset)) edge in

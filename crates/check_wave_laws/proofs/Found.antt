@@ -6,19 +6,20 @@ use Rattle.std.specs.Option.{option_and_then}
 use Rattle.std.specs.Str.{bytes_eq}
 use Rattle.std.proofs.lemmas.Bool.{ltb-false}
 use Rattle.std.proofs.lemmas.Bool.Decides.{nat_tests}
+use Rattle.tl_text.specs.Reading.{◌>>=◌, each}
 use Rattle.check_beats.specs.Bus.{bus_bytes}
 use Rattle.check_beats.specs.declared.bus.Bus.{Bus}
-use Rattle.check_rows.specs.Buses.{HasBus, IsLinkOf, bus_of}
+use Rattle.check_rows.specs.Buses.{HasBus, IsLinkOf, bus_of_link}
 use Rattle.check_vcd.specs.Header.{Var}
 use Rattle.check_vcd.specs.declared.range.Span.{Span}
 use Rattle.check_samples.specs.declared.signal.Signal.{Signal}
 use Rattle.check_samples.specs.declared.signal.Signal.TheVariants as signal
-use Rattle.check_signals.specs.Found.{LinkSources, NamedLink, NamesOf, asked_by, asked_of, each, link_at, link_sources, links_from, named_before, names_at, numbered, owner_of, sources_of, width_in, ◌>>=◌}
-use Rattle.check_signals.specs.Source.{Asked, Changing, Constant, Fault, Kept, Source, Twice, alone, constant_of, digit_in, measured, missing, source_by, source_in, too_wide, width_of, within}
+use Rattle.check_signals.specs.Found.{LinkSources, NamedLink, NamesOf, asked_by, signals_asked, link_at, link_sources, links_from, named_before, names_at, numbered, owner_of, sources_of, width_in}
+use Rattle.check_signals.specs.Source.{WantedSignal, Changing, Constant, SearchFault, Kept, Source, Twice, alone, constant_of, digit_in, measured, missing, source_by, source_in, too_wide, width_of, within}
 use Rattle.check_signals.specs.Wanted.{bits_fit, count_of, wanted_of}
 use Rattle.check_signals.specs.Wires.{Wire, first_of, places_in, sought, wire_at, wire_by, wire_of, wires, wires_called}
 use Rattle.check_signals.specs.declared.keys.TheConstants.{SIGNALS}
-use Rattle.check_signals.specs.declared.signal_fault.Owner.{Owner}
+use Rattle.check_signals.specs.declared.signal_fault.SignalOwner.{SignalOwner}
 use Rattle.check_signals.specs.declared.source.TheConstants.{MAX_WIDTH}
 use Rattle.check_signals.specs.declared.wanted.Wanted.{Wanted}
 use Rattle.check_signals.specs.declared.wanted.Wanted.TheVariants.{Exactly, AtMost}
@@ -126,7 +127,7 @@ first-fits name part (var ∷ vars) wire is =
         let same : found ≡ wire = cc in
         subst WireFits same (wire-fits name part var found x)
 
-within-fits : (vars : List Var) (asked : Asked) (wire : Wire) (width : ℕ) (s : Source)
+within-fits : (vars : List Var) (asked : WantedSignal) (wire : Wire) (width : ℕ) (s : Source)
     → width ≡ width_of vars wire.var.code → WireFits wire → HasBits asked.wanted (wire.places.to - wire.places.from)
     → within vars asked wire width ≡ Ok s → SourceFits vars asked.wanted s
 within-fits vars asked wire width s has fits bits is =
@@ -157,7 +158,7 @@ within-fits vars asked wire width s has fits bits is =
           bits = subst (HasBits asked.wanted) count bits;
         })
 
-measured-fits : (vars : List Var) (asked : Asked) (wire : Wire) (s : Source) → WireFits wire
+measured-fits : (vars : List Var) (asked : WantedSignal) (wire : Wire) (s : Source) → WireFits wire
     → measured vars asked wire ≡ Ok s → SourceFits vars asked.wanted s
 measured-fits vars asked wire s fits is = go (bits_fit asked.wanted (wire.places.to - wire.places.from)) refl is
   where
@@ -170,7 +171,7 @@ measured-fits vars asked wire s fits is = go (bits_fit asked.wanted (wire.places
         (bits-fit asked.wanted (wire.places.to - wire.places.from) x) e
     go false x e = absurd (cc)
 
-alone-fits : (vars : List Var) (asked : Asked) (some : List Wire) (first : Option Wire) (s : Source)
+alone-fits : (vars : List Var) (asked : WantedSignal) (some : List Wire) (first : Option Wire) (s : Source)
     → ((wire : Wire) → first ≡ Some wire → WireFits wire) → alone vars asked some first ≡ Ok s
     → SourceFits vars asked.wanted s
 alone-fits vars asked some None s fits is = absurd (cc)
@@ -182,7 +183,7 @@ alone-fits vars asked some (Some wire) s fits is =
     go true e = absurd (cc)
     go false e = measured-fits vars asked wire s (fits wire refl) e
 
-pub source-fits : (vars : List Var) (asked : Asked) (s : Source) → 0 < count_of asked.wanted
+pub source-fits : (vars : List Var) (asked : WantedSignal) (s : Source) → 0 < count_of asked.wanted
     → source_in vars asked ≡ Ok s → SourceFits vars asked.wanted s
 unfolding source_in
 source-fits vars asked s some is = go (digit_in asked.name) is
@@ -224,18 +225,18 @@ wanted-some signal.DData bus some = omega (arith, some)
 wanted-some signal.DDenied bus some = omega arith
 wanted-some signal.DCorrupt bus some = omega arith
 
-all-fit : (vars : List Var) (owner : Owner) (bus : ℕ) (signals : List Signal) (names : List (List ℕ))
-    (sources : List Source) → 0 < bus → each (source_in vars) (asked_of owner bus signals names) ≡ Ok sources
+all-fit : (vars : List Var) (owner : SignalOwner) (bus : ℕ) (signals : List Signal) (names : List (List ℕ))
+    (sources : List Source) → 0 < bus → each (source_in vars) (signals_asked owner bus signals names) ≡ Ok sources
     → FitsAll vars bus signals sources
 all-fit vars owner bus [] names sources some is =
     let same : [] ≡ sources = cc in subst (FitsAll vars bus []) same tt
 all-fit vars owner bus (which ∷ signals) [] sources some is =
     let same : [] ≡ sources = cc in subst (FitsAll vars bus (which ∷ signals)) same tt
 all-fit vars owner bus (which ∷ signals) (name ∷ names) sources some is =
-    go (source_in vars (asked_by owner bus (which, name))) (each (source_in vars) (asked_of owner bus signals names)) refl
+    go (source_in vars (asked_by owner bus (which, name))) (each (source_in vars) (signals_asked owner bus signals names)) refl
     (λ more fits. all-fit vars owner bus signals names more some fits) is
   where
-    go : (r : Result Source Fault) (rest : Result (List Source) Fault)
+    go : (r : Result Source SearchFault) (rest : Result (List Source) SearchFault)
         → source_in vars (asked_by owner bus (which, name)) ≡ r
         → ((more : List Source) → rest ≡ Ok more → FitsAll vars bus signals more)
         → (r >>= (λ y. rest >>= (λ ys. Ok (y ∷ ys)))) ≡ Ok sources → FitsAll vars bus (which ∷ signals) sources
@@ -251,7 +252,7 @@ all-fit vars owner bus (which ∷ signals) (name ∷ names) sources some is =
 -- a link that the system has, whose signals' sources fit
 pub record LinkFits (vars : List Var) (masters ports : List Bus) (found : LinkSources) : Type 0 where
   pub link : IsLinkOf masters ports found.link
-  pub sources : FitsAll vars (bus_of masters ports found.link) SIGNALS found.sources
+  pub sources : FitsAll vars (bus_of_link masters ports found.link) SIGNALS found.sources
 
 -- ---- the links of a kind
 
@@ -280,7 +281,7 @@ link-fits : (vars : List Var) (masters ports : List Bus) (named : NamedLink) (fo
 link-fits vars masters ports named found has is =
     go (sources_of vars (owner_of named.link) (bus_bytes named.bus) named.names) refl is
   where
-    go : (r : Result (List Source) Fault)
+    go : (r : Result (List Source) SearchFault)
         → sources_of vars (owner_of named.link) (bus_bytes named.bus) named.names ≡ r
         → (r >>= (λ sources. Ok (record { link = named.link; sources = sources }))) ≡ Ok found
         → LinkFits vars masters ports found
@@ -291,7 +292,7 @@ link-fits vars masters ports named found has is =
         let there = link-there masters ports named.link named.bus has in
         subst (LinkFits vars masters ports) same (record {
           link = there.inside;
-          sources = all-fit vars (owner_of named.link) (bus_of masters ports named.link) SIGNALS named.names sources
+          sources = all-fit vars (owner_of named.link) (bus_of_link masters ports named.link) SIGNALS named.names sources
               there.some
               (ap (λ (bytes : ℕ). sources_of vars (owner_of named.link) bytes named.names) there.bytes ∙ x);
         })
@@ -305,7 +306,7 @@ each-fit vars masters ports (link ∷ links) found named is =
     go (link_sources vars link) (each (link_sources vars) links) refl
     (λ more fits. each-fit vars masters ports links more named.1 fits) is
   where
-    go : (r : Result LinkSources Fault) (rest : Result (List LinkSources) Fault) → link_sources vars link ≡ r
+    go : (r : Result LinkSources SearchFault) (rest : Result (List LinkSources) SearchFault) → link_sources vars link ≡ r
         → ((more : List LinkSources) → rest ≡ Ok more → Each (LinkFits vars masters ports) more)
         → (r >>= (λ y. rest >>= (λ ys. Ok (y ∷ ys)))) ≡ Ok found → Each (LinkFits vars masters ports) found
     go (Err fault) rest x y e = absurd (cc)

@@ -5,9 +5,10 @@ use Rattle.std.specs.Str.{bytes_eq}
 use Rattle.std.proofs.lemmas.Bool.Decides.{nat_tests}
 use Rattle.std.proofs.lemmas.List.{length-replicate}
 use Rattle.std.proofs.lemmas.Slice.Eq.{bytes_eq-Decides}
+use Rattle.tl_text.specs.Reading.{◌>>=◌, if_any}
 use Rattle.check_beats.specs.declared.bus.Bus.{Bus}
 use Rattle.check_watch.specs.declared.beat.Link.{Link}
-use Rattle.check_rows.specs.Buses.{IsLinkOf, bus_of}
+use Rattle.check_rows.specs.Buses.{IsLinkOf, bus_of_link}
 use Rattle.check_vcd.specs.Body.{Find}
 use Rattle.check_vcd.specs.Codes.{coded_in}
 use Rattle.check_vcd.specs.Dump.{with_slot}
@@ -16,14 +17,14 @@ use Rattle.check_vcd.specs.declared.codes.Coded.{Coded}
 use Rattle.check_samples.specs.Digits.{unknown}
 use Rattle.check_samples.specs.declared.channel.BeatTaps.TheVariants.{A, D}
 use Rattle.check_samples.specs.declared.channel.Channel.{Channel}
-use Rattle.check_signals.specs.Found.{Found, LinkSources, Sources, all_by, all_of, code_in, digits_in, distinct, find_of, flat, found_in, found_of, if_any, in_order, is_kept, is_same, kept_of, links_from, pair_at, pair_of, pairs_of, place_of, sampling_of, slot_one, slots_from, sources_in, system_source, tap_by, width_in, ◌>>=◌}
-use Rattle.check_signals.specs.Names.{Names}
-use Rattle.check_signals.specs.Source.{Changing, Constant, Fault, Kept, Source, width_by, width_of}
+use Rattle.check_signals.specs.Found.{Found, LinkSources, FoundSources, all_by, all_of, code_in, digits_in, distinct, find_of, flat, found_in, found_of, in_order, is_kept, is_same, values_kept, links_from, pair_at, channels_of_link, channel_pairs, slot_place, sampling_of, slot_one, slots_from, sources_in, system_source, tap_by, width_in}
+use Rattle.check_signals.specs.Names.{SignalNames}
+use Rattle.check_signals.specs.Source.{Changing, Constant, SearchFault, Kept, Source, width_by, width_of}
 use Rattle.check_signals.specs.declared.keys.TheConstants.{SIGNALS}
 use Rattle.check_samples.specs.declared.signal.Signal.{Signal}
-use Rattle.check_signals.specs.declared.signal_fault.Owner.TheVariants as owner
+use Rattle.check_signals.specs.declared.signal_fault.SignalOwner.TheVariants as owner
 use Rattle.check_signals.specs.declared.wanted.Wanted.TheVariants.{AtMost}
-use Rattle.check_wave_laws.specs.Text.{ChannelFits, FindFits, SamplingFits, Takes}
+use Rattle.check_wave_laws.specs.Text.{ChannelFits, FindFits, SamplingFits, TakesBeat}
 use Rattle.check_wave_laws.proofs.Found.{Each, FitsAll, KeptFits, LinkFits, SourceFits, each-append, each-first, each-has, each-map, each-second, masters-fit, ports-fit, source-fits}
 
 -- ---- one value and another
@@ -98,25 +99,25 @@ distinct-fits vars some (value ∷ values) all =
 
 -- the slot of a value has its width
 place-width : (vars : List Var) (kept : List Kept) (value : Kept) → Each (KeptFits vars) kept → KeptFits vars value
-    → is_kept kept value ≡ true → get_or (map width_in kept) (place_of kept value) 0 ≡ width_in value
+    → is_kept kept value ≡ true → get_or (map width_in kept) (slot_place kept value) 0 ≡ width_in value
 place-width vars [] value all fits is = absurd (cc)
 place-width vars (other ∷ kept) value all fits is =
     go (is_same other value) refl (λ rest. place-width vars kept value all.1 fits rest) is
   where
     go : (t : Bool) → is_same other value ≡ t
-        → (is_kept kept value ≡ true → get_or (map width_in kept) (place_of kept value) 0 ≡ width_in value)
+        → (is_kept kept value ≡ true → get_or (map width_in kept) (slot_place kept value) 0 ≡ width_in value)
         → t || is_kept kept value ≡ true
-        → get_or (width_in other ∷ map width_in kept) (cond t 0 (place_of kept value + 1)) 0 ≡ width_in value
+        → get_or (width_in other ∷ map width_in kept) (cond t 0 (slot_place kept value + 1)) 0 ≡ width_in value
     go true x rest e = same-width vars other value all.0 fits x
     go false x rest e =
-        let next : place_of kept value + 1 ≡ suc (place_of kept value) = omega arith in
+        let next : slot_place kept value + 1 ≡ suc (slot_place kept value) = omega arith in
         ap (λ (n : ℕ). get_or (width_in other ∷ map width_in kept) n 0) next ∙ rest e
 
 -- ---- the sources
 
 -- the slot of a source has the width of its value
 abbrev SlotFits : List Kept → Source → Type 0
-SlotFits kept s = get_or (map width_in kept) (place_of kept s.kept) 0 ≡ width_in s.kept
+SlotFits kept s = get_or (map width_in kept) (slot_place kept s.kept) 0 ≡ width_in s.kept
 
 abbrev ValueFits : List Var → Source → Type 0
 ValueFits vars s = KeptFits vars s.kept
@@ -132,7 +133,7 @@ flat-fits : (vars : List Var) (masters ports : List Bus) (links : List LinkSourc
 flat-fits vars masters ports [] fits = tt
 flat-fits vars masters ports (found ∷ links) fits =
     each-append (ValueFits vars) found.sources (flat links)
-    (values-fit vars (bus_of masters ports found.link) SIGNALS found.sources fits.0.sources)
+    (values-fit vars (bus_of_link masters ports found.link) SIGNALS found.sources fits.0.sources)
     (flat-fits vars masters ports links fits.1)
 
 slots-fit : (vars : List Var) (kept : List Kept) (sources : List Source) → Each (KeptFits vars) kept
@@ -148,8 +149,8 @@ pub record KeptAll (vars : List Var) (kept : List Kept) (sources : List Source) 
   pub slots : Each (SlotFits kept) sources
 
 pub kept-all : (vars : List Var) (sources : List Source) → Each (ValueFits vars) sources
-    → KeptAll vars (kept_of sources) sources
-unfolding kept_of
+    → KeptAll vars (values_kept sources) sources
+unfolding values_kept
 kept-all vars sources fits =
     let values = map (λ (s : Source). s.kept) sources in
     let kept = distinct [] values in
@@ -164,7 +165,7 @@ PairFits masters ports widths pair =
     ChannelFits masters ports widths pair.0 × ChannelFits masters ports widths pair.1
 
 takes : (kept : List Kept) (s : Source) (n : ℕ) → s.from ≤ s.to → s.to ≤ width_in s.kept → s.to - s.from ≡ n
-    → SlotFits kept s → Takes (map width_in kept) (tap_by kept s) n
+    → SlotFits kept s → TakesBeat (map width_in kept) (tap_by kept s) n
 takes kept s n from inside bits slot = record {
   from = from;
   inside = subst (λ (w : ℕ). s.to ≤ w) (sym slot) inside;
@@ -172,8 +173,8 @@ takes kept s n from inside bits slot = record {
 }
 
 pair-fits : (vars : List Var) (masters ports : List Bus) (kept : List Kept) (link : Link) (sources : List Source)
-    (pair : Channel × Channel) → IsLinkOf masters ports link → FitsAll vars (bus_of masters ports link) SIGNALS sources
-    → Each (SlotFits kept) sources → pair_of link (map (tap_by kept) sources) ≡ Some pair
+    (pair : Channel × Channel) → IsLinkOf masters ports link → FitsAll vars (bus_of_link masters ports link) SIGNALS sources
+    → Each (SlotFits kept) sources → channels_of_link link (map (tap_by kept) sources) ≡ Some pair
     → PairFits masters ports (map width_in kept) pair
 pair-fits vars masters ports kept link
     (a_valid ∷ a_ready ∷ a_opcode ∷ a_param ∷ a_size ∷ a_source ∷ a_address ∷ a_mask ∷ a_data ∷ d_valid ∷ d_ready
@@ -183,7 +184,7 @@ pair-fits vars masters ports kept link
     let g = f.1.1.1.1.1 in
     let h = g.1.1.1.1 in
     let r = slots.1.1.1.1.1.1.1 in
-    let bus = bus_of masters ports link in
+    let bus = bus_of_link masters ports link in
     let ask : Channel = record {
       link = link;
       valid = tap_by kept a_valid;
@@ -240,7 +241,7 @@ pair-fits vars masters ports kept link sources pair one fits slots is = absurd (
 
 pairs-fit : (vars : List Var) (masters ports : List Bus) (kept : List Kept) (links : List LinkSources)
     → Each (LinkFits vars masters ports) links → Each (SlotFits kept) (flat links)
-    → Each (PairFits masters ports (map width_in kept)) (pairs_of kept links)
+    → Each (PairFits masters ports (map width_in kept)) (channel_pairs kept links)
 pairs-fit vars masters ports kept [] fits slots = tt
 pairs-fit vars masters ports kept (found ∷ links) fits slots =
     go (pair_at kept found)
@@ -250,8 +251,8 @@ pairs-fit vars masters ports kept (found ∷ links) fits slots =
   where
     go : (o : Option (Channel × Channel))
         → ((pair : Channel × Channel) → o ≡ Some pair → PairFits masters ports (map width_in kept) pair)
-        → Each (PairFits masters ports (map width_in kept)) (pairs_of kept links)
-        → Each (PairFits masters ports (map width_in kept)) (cons_option o (pairs_of kept links))
+        → Each (PairFits masters ports (map width_in kept)) (channel_pairs kept links)
+        → Each (PairFits masters ports (map width_in kept)) (cons_option o (channel_pairs kept links))
     go None fit others = others
     go (Some pair) fit others = (fit pair refl, others)
 
@@ -380,7 +381,7 @@ find-fits vars kept fits code coded slot e s =
 -- ---- all of a system
 
 -- what the names of a system find
-pub record AllFit (vars : List Var) (masters ports : List Bus) (sources : Sources) : Type 0 where
+pub record AllFit (vars : List Var) (masters ports : List Bus) (sources : FoundSources) : Type 0 where
   pub clock : SourceFits vars (AtMost 1) sources.clock
   pub reset : (reset : Source) → sources.reset ≡ Some reset → SourceFits vars (AtMost 1) reset
   pub of_ports : Each (LinkFits vars masters ports) sources.ports
@@ -397,22 +398,22 @@ slots-of-others : (kept : List Kept) (clock : Source) (reset : Option Source) (o
 slots-of-others kept clock None others all = all.1
 slots-of-others kept clock (Some reset) others all = all.1.1
 
-pub found-fits : (vars : List Var) (masters ports : List Bus) (is_low : Bool) (sources : Sources)
+pub found-fits : (vars : List Var) (masters ports : List Bus) (is_low : Bool) (sources : FoundSources)
     → AllFit vars masters ports sources
     → SamplingFits masters ports (sampling_of (found_of is_low sources))
     × FindFits (sampling_of (found_of is_low sources)).widths (find_of vars (found_of is_low sources))
 found-fits vars masters ports is_low sources fits =
     let others = flat sources.ports ++ flat sources.masters in
     let all = all_of sources in
-    let kept = kept_of all in
+    let kept = values_kept all in
     let are : KeptAll vars kept all = kept-all vars all (values-of-all vars sources.clock sources.reset others
     fits.clock.kept (λ s is. (fits.reset s is).kept)
     (each-append (ValueFits vars) (flat sources.ports) (flat sources.masters)
     (flat-fits vars masters ports sources.ports fits.of_ports)
     (flat-fits vars masters ports sources.masters fits.of_masters))) in
     let slots = slots-of-others kept sources.clock sources.reset others are.slots in
-    let channels = order-fits masters ports (map width_in kept) (pairs_of kept sources.ports)
-    (pairs_of kept sources.masters)
+    let channels = order-fits masters ports (map width_in kept) (channel_pairs kept sources.ports)
+    (channel_pairs kept sources.masters)
     (pairs-fit vars masters ports kept sources.ports fits.of_ports
     (each-first (SlotFits kept) (flat sources.ports) (flat sources.masters) slots))
     (pairs-fit vars masters ports kept sources.masters fits.of_masters
@@ -423,7 +424,7 @@ found-fits vars masters ports is_low sources fits =
         time = tt;
         channels = λ which has.
             each-has (ChannelFits masters ports (map width_in kept))
-            (in_order (pairs_of kept sources.ports) (pairs_of kept sources.masters)) which channels has;
+            (in_order (channel_pairs kept sources.ports) (channel_pairs kept sources.masters)) which channels has;
       },
       find-fits vars kept are.values,
     )
@@ -434,7 +435,7 @@ reset-fits vars None reset is s e =
     let none : None ≡ reset = cc in absurd (cc)
 reset-fits vars (Some name) reset is s e = go (system_source vars name) refl is
   where
-    go : (r : Result Source Fault) → system_source vars name ≡ r → (r >>= (λ y. Ok (Some y))) ≡ Ok reset
+    go : (r : Result Source SearchFault) → system_source vars name ≡ r → (r >>= (λ y. Ok (Some y))) ≡ Ok reset
         → SourceFits vars (AtMost 1) s
     go (Err fault) x y = absurd (cc)
     go (Ok found) x y =
@@ -443,14 +444,14 @@ reset-fits vars (Some name) reset is s e = go (system_source vars name) refl is
         subst (SourceFits vars (AtMost 1)) is
         (source-fits vars (record { owner = owner.System; name = name; wanted = AtMost 1 }) found (omega arith) x)
 
-pub sources-fit : (vars : List Var) (masters ports : List Bus) (names : Names) (sources : Sources)
+pub sources-fit : (vars : List Var) (masters ports : List Bus) (names : SignalNames) (sources : FoundSources)
     → sources_in vars masters ports names ≡ Ok sources → AllFit vars masters ports sources
 unfolding sources_in
 sources-fit vars masters ports names sources is =
     go (system_source vars names.clock) (if_any (system_source vars) names.reset)
     (links_from vars true names.ports 0 ports) (links_from vars false names.masters 0 masters) refl refl refl refl is
   where
-    go : (c : Result Source Fault) (r : Result (Option Source) Fault) (p m : Result (List LinkSources) Fault)
+    go : (c : Result Source SearchFault) (r : Result (Option Source) SearchFault) (p m : Result (List LinkSources) SearchFault)
         → system_source vars names.clock ≡ c → if_any (system_source vars) names.reset ≡ r
         → links_from vars true names.ports 0 ports ≡ p → links_from vars false names.masters 0 masters ≡ m
         → (c >>= (λ clock. r >>= (λ reset. p >>= (λ of_ports. m >>= (λ of_masters.
@@ -461,7 +462,7 @@ sources-fit vars masters ports names sources is =
     go (Ok clock) (Ok reset) (Err fault) m x y z w e = absurd (cc)
     go (Ok clock) (Ok reset) (Ok of_ports) (Err fault) x y z w e = absurd (cc)
     go (Ok clock) (Ok reset) (Ok of_ports) (Ok of_masters) x y z w e =
-        let made : Sources =
+        let made : FoundSources =
         record { clock = clock; reset = reset; ports = of_ports; masters = of_masters } in
         let same : made ≡ sources = cc in
         subst (AllFit vars masters ports) same (record {
@@ -472,14 +473,14 @@ sources-fit vars masters ports names sources is =
           of_masters = masters-fit vars masters ports names.masters of_masters w;
         })
 
-pub all-found : (vars : List Var) (masters ports : List Bus) (names : Names) (found : Found)
+pub all-found : (vars : List Var) (masters ports : List Bus) (names : SignalNames) (found : Found)
     → found_in vars masters ports names ≡ Ok found
     → SamplingFits masters ports (sampling_of found) × FindFits (sampling_of found).widths (find_of vars found)
 unfolding found_in
 all-found vars masters ports names found is =
     go (sources_in vars masters ports names) (λ sources x. sources-fit vars masters ports names sources x) is
   where
-    go : (r : Result Sources Fault) → ((sources : Sources) → r ≡ Ok sources → AllFit vars masters ports sources)
+    go : (r : Result FoundSources SearchFault) → ((sources : FoundSources) → r ≡ Ok sources → AllFit vars masters ports sources)
         → (r >>= (λ sources. Ok (found_of names.is_low sources))) ≡ Ok found
         → SamplingFits masters ports (sampling_of found) × FindFits (sampling_of found).widths (find_of vars found)
     go (Err fault) fit e = absurd (cc)

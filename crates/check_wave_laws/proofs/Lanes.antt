@@ -11,9 +11,9 @@ use Rattle.tl_text.specs.Number.{below_64_bits, number_of, pair_of}
 use Rattle.check_beats.specs.Bus.{bus_bytes}
 use Rattle.check_beats.specs.declared.bus.Bus.{Bus}
 use Rattle.check_beats.specs.declared.bus.Bus.TheVariants.{One, Two, Four, Eight, Sixteen, ThirtyTwo, SixtyFour}
-use Rattle.check_rows.specs.Lanes.{all_of, is_shown, lane_at, lane_of, lanes_of, seen_of, shown_by, zeros}
+use Rattle.check_rows.specs.Lanes.{all_of, is_shown, lane_at, lane_of_digits, lanes_of, seen_of, shown_by, zeros}
 use Rattle.check_rows.specs.Number.{hex_of, mask_digits, mask_of}
-use Rattle.check_rows.specs.Reading.{◌>>=◌}
+use Rattle.tl_text.specs.Reading.{◌>>=◌}
 use Rattle.check_rows.specs.declared.fault.RowFault.{RowFault}
 use Rattle.check_rows.specs.declared.fault.RowFault.TheVariants.{Number}
 use Rattle.check_samples.specs.Row.{digit_by, digit_of, hex_text, hexes}
@@ -80,19 +80,19 @@ glyph-digit d below = rw (glyph-value d below) (lt-ltb d 16 below)
 
 -- what two characters say of a lane, by whether they are digits
 lane-digits : (high low : ℕ) → is_digit high 16 ≡ true → is_digit low 16 ≡ true
-    → lane_of high low ≡ Some (Some (16 * digit_value high + digit_value low))
-unfolding lane_of
+    → lane_of_digits high low ≡ Some (Some (16 * digit_value high + digit_value low))
+unfolding lane_of_digits
 lane-digits high low h l =
     ap (λ (t : Bool). cond t (option_map Some (cond t (Some (16 * digit_value high + digit_value low)) None))
     (cond (is_shown high && is_shown low) (Some None) None))
     (and_from (is_digit high 16) (is_digit low 16) h l)
 
-lane-no-high : (low : ℕ) → is_shown low ≡ true → lane_of 120 low ≡ Some None
-unfolding lane_of
+lane-no-high : (low : ℕ) → is_shown low ≡ true → lane_of_digits 120 low ≡ Some None
+unfolding lane_of_digits
 lane-no-high low shown = ap (λ (t : Bool). cond t (Some None) None) shown
 
-lane-no-low : (high : ℕ) → is_digit high 16 ≡ true → lane_of high 120 ≡ Some None
-unfolding lane_of
+lane-no-low : (high : ℕ) → is_digit high 16 ≡ true → lane_of_digits high 120 ≡ Some None
+unfolding lane_of_digits
 lane-no-low high digit =
     ap (λ (t : Bool). cond (t && false) (option_map Some (pair_of high 120))
     (cond ((t || ((high == 120) || (high == 88) || (high == 122) || (high == 90))) && true) (Some None) None)) digit
@@ -140,7 +140,7 @@ value-both high low four = value-append 0 high low ∙ value-four (digits_value 
 
 lane-known : (high low : List ℕ) → are_known high ≡ true → are_known low ≡ true
     → digits_value 2 high < 16 → digits_value 2 low < 16 → length high ≡ 4 → length low ≡ 4
-    → lane_of (digit_glyph false (digits_value 2 high)) (digit_glyph false (digits_value 2 low))
+    → lane_of_digits (digit_glyph false (digits_value 2 high)) (digit_glyph false (digits_value 2 low))
     ≡ Some (number_of 2 8 (high ++ low))
 lane-known high low kh kl h l four-high four-low =
     let x = digits_value 2 high in
@@ -160,14 +160,14 @@ lane-unknown : (high low : List ℕ) → (are_known high && are_known low) ≡ f
 lane-unknown high low unknown = number-unknown 8 (high ++ low) (known-append high low ∙ unknown)
 
 lane-by : (high low : List ℕ) (x y : ℕ) → digit_of high ≡ x → digit_of low ≡ y → (n : Option ℕ)
-    → number_of 2 8 (high ++ low) ≡ n → lane_of x y ≡ Some n
-    → lane_of (digit_of high) (digit_of low) ≡ Some (number_of 2 8 (high ++ low))
+    → number_of 2 8 (high ++ low) ≡ n → lane_of_digits x y ≡ Some n
+    → lane_of_digits (digit_of high) (digit_of low) ≡ Some (number_of 2 8 (high ++ low))
 lane-by high low x y is-x is-y n is-n lane =
-    ap (λ (c : ℕ). lane_of c (digit_of low)) is-x ∙ ap (λ (c : ℕ). lane_of x c) is-y ∙ lane
+    ap (λ (c : ℕ). lane_of_digits c (digit_of low)) is-x ∙ ap (λ (c : ℕ). lane_of_digits x c) is-y ∙ lane
     ∙ ap (λ (m : Option ℕ). Some m) (sym is-n)
 
 lane-both : (high low : List ℕ) → length high ≡ 4 → length low ≡ 4 → IsNibble high → IsNibble low
-    → lane_of (digit_of high) (digit_of low) ≡ Some (number_of 2 8 (high ++ low))
+    → lane_of_digits (digit_of high) (digit_of low) ≡ Some (number_of 2 8 (high ++ low))
 lane-both high low fh fl (inl h) (inl l) =
     lane-by high low (digit_glyph false (digits_value 2 high)) (digit_glyph false (digits_value 2 low)) h.1 l.1
     (number_of 2 8 (high ++ low)) refl (lane-known high low h.0 l.0 h.2 l.2 fh fl)
@@ -189,7 +189,7 @@ record IsByte (bits : List ℕ) (text rest : List ℕ) : Type 0 where
   high : ℕ
   low : ℕ
   is : text ≡ high ∷ low ∷ rest
-  lane : lane_of high low ≡ Some (number_of 2 8 bits)
+  lane : lane_of_digits high low ≡ Some (number_of 2 8 bits)
 
 byte-hexes : (bits rest : List ℕ) → length bits ≡ 8 → IsByte bits (hexes (bits ++ rest)) (hexes rest)
 byte-hexes [] rest eight = absurd (omega (arith, eight))
@@ -346,11 +346,11 @@ mask-read width bus n bits is size has =
 
 -- the digits of a lane of bits, counted from the last lane
 lane-shown : (k : ℕ) (bits : List ℕ) → 8 * k + 8 ≤ length bits
-    → lane_of (get_or (hexes bits) (2 * k) 0) (get_or (hexes bits) (2 * k + 1) 0)
+    → lane_of_digits (get_or (hexes bits) (2 * k) 0) (get_or (hexes bits) (2 * k + 1) 0)
     ≡ Some (number_of 2 8 (take 8 (drop (8 * k) bits)))
 lane-shown zero bits inside =
     let byte = byte-at bits 0 (omega (arith, inside)) in
-    ap (λ (word : List ℕ). lane_of (get_or word 0 0) (get_or word 1 0)) byte.is ∙ byte.lane
+    ap (λ (word : List ℕ). lane_of_digits (get_or word 0 0) (get_or word 1 0)) byte.is ∙ byte.lane
 lane-shown (suc k) bits inside =
     let byte = byte-at bits 0 (omega (arith, inside)) in
     let more = drop 8 bits in
@@ -358,9 +358,9 @@ lane-shown (suc k) bits inside =
     let even : 2 * suc k ≡ suc (suc (2 * k)) = omega arith in
     let odd : 2 * suc k + 1 ≡ suc (suc (2 * k + 1)) = omega arith in
     let next : 8 + 8 * k ≡ 8 * suc k = omega arith in
-    ap (λ (w : List ℕ). lane_of (get_or w (2 * suc k) 0) (get_or w (2 * suc k + 1) 0)) byte.is
-    ∙ ap (λ (i : ℕ). lane_of (get_or word i 0) (get_or word (2 * suc k + 1) 0)) even
-    ∙ ap (λ (i : ℕ). lane_of (get_or (hexes more) (2 * k) 0) (get_or word i 0)) odd
+    ap (λ (w : List ℕ). lane_of_digits (get_or w (2 * suc k) 0) (get_or w (2 * suc k + 1) 0)) byte.is
+    ∙ ap (λ (i : ℕ). lane_of_digits (get_or word i 0) (get_or word (2 * suc k + 1) 0)) even
+    ∙ ap (λ (i : ℕ). lane_of_digits (get_or (hexes more) (2 * k) 0) (get_or word i 0)) odd
     ∙ lane-shown k more (omega (arith, inside, length-drop 8 bits))
     ∙ ap (λ (rest : List ℕ). Some (number_of 2 8 (take 8 rest)))
     (drop-drop (8 * k) 8 bits ∙ ap (λ (i : ℕ). drop i bits) next)

@@ -14,7 +14,7 @@ use Rattle.tl_text.specs.Number.{are_digits, below_64_bits}
 use Rattle.tl_text.specs.Number.{number_of as number_in_base}
 use Rattle.check_rows.specs.Columns.{flag_of, index_of}
 use Rattle.check_rows.specs.Number.{address_of, decimal_of, hex_of}
-use Rattle.check_rows.specs.Reading.{◌>>=◌}
+use Rattle.tl_text.specs.Reading.{◌>>=◌}
 use Rattle.check_rows.specs.declared.fault.RowFault.{RowFault}
 use Rattle.check_rows.specs.declared.fault.RowFault.TheVariants.{Number, Range, Link}
 

@@ -6,7 +6,7 @@ use Rattle.std.proofs.lemmas.List.Elements.{Contains-append_cases, Contains-appe
 use Rattle.check_vcd.specs.Body.{Happens, At, Sets, Wrong}
 use Rattle.check_samples.specs.Rows.{Probes, Rows, and_then, has_edge, no_rows, rises, rows_of}
 use Rattle.check_samples.specs.Sampling.{Sampling, at_time, is_at, is_time, rows_from, rows_now, rows_when, with_value}
-use Rattle.check_wave_laws.specs.Sampled.{AreInOrder, AreSampled, Beat, Change, IsBeatOf, NeverFalls, Precedes, Wave, changes_after, cut_after, is_before, is_until, is_whole, sampled_rows, values_after, values_before, values_until, wave_of}
+use Rattle.check_wave_laws.specs.Sampled.{AreInOrder, AreSampled, SampledBeat, ValueChange, IsSampledBeat, NeverFalls, Precedes, Wave, changes_after, cut_after, is_before, is_until, is_whole, sampled_rows, values_after, values_before, values_until, wave_of}
 use Rattle.check_wave_laws.proofs.Changes.{EachTime, IsFrom, IsLess, IsUpTo, before-past, before-until, changes-from, each-push, each-weaker, from-before, from-until, now-push, until-before, until-past, up-to-before, up-to-next, up-to-self, up-to-until, value-kept, values-none, whole-before}
 use Rattle.check_wave_laws.proofs.Edges.{beat-at, crossed-at, crossing, crossing-all, crossing-each, crossing-order, crossing-rows, Crosses, edge-at, no-beat, none-there, order-append, rows-append}
 
@@ -21,21 +21,21 @@ IsBelow None time = ⊤
 IsBelow (Some below) time = time < below
 
 -- a beat at one of the times from one on, below another
-record IsWithin (wave : Wave) (from below : Option ℕ) (beat : Beat) : Type 0 where
-  is : IsBeatOf wave beat
+record IsWithin (wave : Wave) (from below : Option ℕ) (beat : SampledBeat) : Type 0 where
+  is : IsSampledBeat wave beat
   since : IsSince from beat.time
   before : IsBelow below beat.time
 
 -- the rows are those of these beats
 record HasBeats (wave : Wave) (from below : Option ℕ) (rows : Rows) : Type 0 where
-  beats : List Beat
-  each : (beat : Beat) → Contains beats beat → IsWithin wave from below beat
-  all : (beat : Beat) → IsWithin wave from below beat → Contains beats beat
+  beats : List SampledBeat
+  each : (beat : SampledBeat) → Contains beats beat → IsWithin wave from below beat
+  all : (beat : SampledBeat) → IsWithin wave from below beat → Contains beats beat
   order : AreInOrder beats
   are : rows ≡ sampled_rows wave beats
 
 -- there is none
-no-beats : (wave : Wave) (from below : Option ℕ) → ((beat : Beat) → IsWithin wave from below beat → ⊥)
+no-beats : (wave : Wave) (from below : Option ℕ) → ((beat : SampledBeat) → IsWithin wave from below beat → ⊥)
     → HasBeats wave from below no_rows
 no-beats wave from below none = record {
   beats = [];
@@ -51,14 +51,14 @@ since-next (Some time) next beat less order = omega (arith, less, order)
 
 module _ (wave : Wave) (time : Option ℕ) (next : ℕ) (one two : Rows) (less : IsLess time next)
     (first : HasBeats wave time (Some next) one) (second : HasBeats wave (Some next) None two) where
-  join-each : (beat : Beat) → Contains first.beats beat ⊎ Contains second.beats beat → IsWithin wave time None beat
+  join-each : (beat : SampledBeat) → Contains first.beats beat ⊎ Contains second.beats beat → IsWithin wave time None beat
   join-each beat (inl near) =
       let within = first.each beat near in record { is = within.is; since = within.since; before = tt }
   join-each beat (inr far) =
       let within = second.each beat far in
       record { is = within.is; since = since-next time next beat.time less within.since; before = tt }
 
-  join-all : (beat : Beat) → IsWithin wave time None beat → (beat.time < next) ⊎ (next ≤ beat.time)
+  join-all : (beat : SampledBeat) → IsWithin wave time None beat → (beat.time < next) ⊎ (next ≤ beat.time)
       → Contains (first.beats ++ second.beats) beat
   join-all beat within (inl near) =
       Contains-append_left first.beats second.beats beat
@@ -67,7 +67,7 @@ module _ (wave : Wave) (time : Option ℕ) (next : ℕ) (one two : Rows) (less :
       Contains-append_right first.beats second.beats beat
       (second.all beat (record { is = within.is; since = far; before = tt }))
 
-  join-order : (beat later : Beat) → Contains first.beats beat → Contains second.beats later → Precedes beat later
+  join-order : (beat later : SampledBeat) → Contains first.beats beat → Contains second.beats later → Precedes beat later
   join-order beat later near far =
       inl (omega (arith, (first.each beat near).before, (second.each later far).since))
 
@@ -91,8 +91,8 @@ BeforeIs wave (Some time) values = values ≡ values_before wave time
 
 -- the changes up to the present time, and those from the next one on
 record Ends (wave : Wave) (time next : Option ℕ) : Type 0 where
-  past : List Change
-  later : List Change
+  past : List ValueChange
+  later : List ValueChange
   changes : wave.changes ≡ past ++ later
   until : EachTime (IsUpTo time) past
   gap : (early : ℕ) → IsBelow next early → EachTime (λ at. is_until early at ≡ false) later
@@ -112,7 +112,7 @@ module _ (wave : Wave) (time next : Option ℕ) (ends : Ends wave time next) whe
   until-is at up below = until-past wave ends.past ends.later at ends.changes up (ends.gap at below)
 
   -- between the present time and the next one nothing crosses
-  quiet : (beat : Beat) → IsLess time beat.time → IsBelow next beat.time → IsBeatOf wave beat → ⊥
+  quiet : (beat : SampledBeat) → IsLess time beat.time → IsBelow next beat.time → IsSampledBeat wave beat → ⊥
   quiet beat less below is =
       no-beat wave (values_after wave ends.past) beat (before-is beat.time less below)
       (until-is beat.time (each-weaker (IsUpTo time) (λ other. is_until beat.time other ≡ true) ends.past
@@ -130,7 +130,7 @@ module _ (wave : Wave) (time : ℕ) (next : Option ℕ) (ends : Ends wave (Some 
     are = crossing-rows wave time 0 wave.probes.channels;
   }
     where
-      each-one : (beat : Beat) → Crosses wave time 0 wave.probes.channels beat
+      each-one : (beat : SampledBeat) → Crosses wave time 0 wave.probes.channels beat
           → IsWithin wave (Some time) next beat
       each-one beat one =
           let place : one.index ≡ beat.place = omega (arith, one.spot) in
@@ -142,7 +142,7 @@ module _ (wave : Wave) (time : ℕ) (next : Option ℕ) (ends : Ends wave (Some 
             before = subst (λ (n : ℕ). IsBelow next n) (sym one.now) below;
           }
 
-      all-of : (beat : Beat) → IsWithin wave (Some time) next beat → (time < beat.time) ⊎ (beat.time ≤ time)
+      all-of : (beat : SampledBeat) → IsWithin wave (Some time) next beat → (time < beat.time) ⊎ (beat.time ≤ time)
           → Contains (crossing wave time 0 wave.probes.channels) beat
       all-of beat within (inl later) = absurd (quiet wave (Some time) next ends beat later within.before within.is)
       all-of beat within (inr order) =
@@ -151,7 +151,7 @@ module _ (wave : Wave) (time : ℕ) (next : Option ℕ) (ends : Ends wave (Some 
           (crossed-at wave time beat now within.is)
 
   edgeless : has_edge (values_before wave time) (values_until wave time) wave.probes ≡ false
-      → (beat : Beat) → IsWithin wave (Some time) next beat → (time < beat.time) ⊎ (beat.time ≤ time) → ⊥
+      → (beat : SampledBeat) → IsWithin wave (Some time) next beat → (time < beat.time) ⊎ (beat.time ≤ time) → ⊥
   edgeless none beat within (inl later) = quiet wave (Some time) next ends beat later within.before within.is
   edgeless none beat within (inr order) =
       let now : beat.time ≡ time = omega (arith, order, within.since) in
@@ -171,7 +171,7 @@ module _ (wave : Wave) (time : ℕ) (next : Option ℕ) (ends : Ends wave (Some 
           no-beats wave (Some time) next (λ beat within. edgeless none beat within (cases_lt time beat.time))
 
 -- a sampler at the end of the present time
-record IsSampler (wave : Wave) (time : Option ℕ) (past : List Change) (s : Sampling) : Type 0 where
+record IsSampler (wave : Wave) (time : Option ℕ) (past : List ValueChange) (s : Sampling) : Type 0 where
   present : s.time ≡ time
   probes : s.probes ≡ wave.probes
   widths : s.widths ≡ wave.widths
@@ -182,7 +182,7 @@ abbrev NowIsBelow : Option ℕ → Option ℕ → Type 0
 NowIsBelow None next = ⊤
 NowIsBelow (Some time) next = IsBelow next time
 
-rows-at : (wave : Wave) (time : ℕ) (past : List Change) (s : Sampling) → IsSampler wave (Some time) past s
+rows-at : (wave : Wave) (time : ℕ) (past : List ValueChange) (s : Sampling) → IsSampler wave (Some time) past s
     → values_until wave time ≡ values_after wave past
     → rows_when (Some time) s
     ≡ cond (has_edge (values_before wave time) (values_until wave time) wave.probes)
@@ -215,7 +215,7 @@ ended wave time next ends s is below =
 
 -- a sampler after some of what happens in a dump, before the rest
 record Runs (wave : Wave) (time : Option ℕ) (rest : List Happens) (s : Sampling) : Type 0 where
-  past : List Change
+  past : List ValueChange
   sampler : IsSampler wave time past s
   changes : wave.changes ≡ past ++ changes_after time rest
   cut : wave.cut ≡ cut_after time rest
@@ -246,7 +246,7 @@ runs-out wave time s runs =
 runs-cut : (wave : Wave) (time : Option ℕ) → wave.cut ≡ Some time → HasBeats wave time None no_rows
 runs-cut wave time cut = no-beats wave time None (λ beat within. go time cut beat within)
   where
-    go : (at : Option ℕ) → wave.cut ≡ Some at → (beat : Beat) → IsWithin wave at None beat → ⊥
+    go : (at : Option ℕ) → wave.cut ≡ Some at → (beat : SampledBeat) → IsWithin wave at None beat → ⊥
     go None is beat within =
         let whole : false ≡ true = subst (λ (c : Option (Option ℕ)). is_whole c beat.time ≡ true) is within.is.whole in
         both_ways false refl whole
@@ -314,7 +314,7 @@ value-runs : (wave : Wave) (time : Option ℕ) (slot : ℕ) (digits : List ℕ) 
     → Runs wave time (Sets slot digits ∷ happens) s → Runs wave time happens (with_value s slot digits)
 value-runs wave time slot digits happens s runs =
     let kept = value-kept s slot digits in
-    let change : Change = record { time = time; slot = slot; digits = digits } in
+    let change : ValueChange = record { time = time; slot = slot; digits = digits } in
     record {
       past = runs.past ++ (record { time = time; slot = slot; digits = digits } ∷ []);
       sampler = record {

@@ -5,19 +5,19 @@ use Rattle.std.proofs.lemmas.Bool.{le-leb, ltb-false}
 use Rattle.tl_text.specs.Number.{number_of}
 use Rattle.check_vcd.specs.Body.{At, Body, Fails, Find, Gives, Goes, Happens, Sets, Step, Wrong, begun_by, changed, changed_to, falls, followed, happenings, passed, passed_to, set, start, step_at, step_of, timed, timed_at, with_bit, with_digits}
 use Rattle.check_vcd.specs.Header.{Var}
-use Rattle.check_vcd.specs.Token.{are_bits, is_end, kind_of}
+use Rattle.check_vcd.specs.Token.{are_bits, is_end, token_kind}
 use Rattle.check_vcd.specs.Words.{Word}
-use Rattle.check_vcd.specs.declared.body.Place.{Place}
-use Rattle.check_vcd.specs.declared.body.Place.TheVariants.{Plain, InComment, BehindVector, BehindOther}
+use Rattle.check_vcd.specs.declared.body.BodyPlace.{BodyPlace}
+use Rattle.check_vcd.specs.declared.body.BodyPlace.TheVariants.{Plain, InComment, BehindVector, BehindOther}
 use Rattle.check_vcd.specs.declared.body.TheConstants.{TIME_DIGITS}
 use Rattle.check_vcd.specs.declared.codes.Coded.{Coded}
 use Rattle.check_vcd.specs.declared.fault.Mistake.TheVariants.{BadValue, TimeFalls, TooWide}
-use Rattle.check_vcd.specs.declared.token.Kind.{Kind}
-use Rattle.check_vcd.specs.declared.token.Kind.TheVariants as kind
+use Rattle.check_vcd.specs.declared.token.TokenKind.{TokenKind}
+use Rattle.check_vcd.specs.declared.token.TokenKind.TheVariants as kind
 use Rattle.check_samples.specs.Rows.{Rows}
 use Rattle.check_samples.specs.Sampling.{Sampling, rows_from}
 use Rattle.check_signals.specs.Found.{Found, digits_in, find_of, sampling_of, width_in}
-use Rattle.check_wave_laws.specs.Sampled.{AreInOrder, AreSampled, Beat, NeverFalls, Precedes, Wave, is_until, sampled_rows, wave_of}
+use Rattle.check_wave_laws.specs.Sampled.{AreInOrder, AreSampled, SampledBeat, NeverFalls, Precedes, Wave, is_until, sampled_rows, wave_of}
 use Rattle.check_wave_laws.proofs.Edges.{here, here-or-there, none-there, there}
 use Rattle.check_wave_laws.proofs.Sampled.{sampled}
 
@@ -78,7 +78,7 @@ module _ (find : Find) where
       go true = tt
       go false = refl
 
-  begun-rises : (which : Kind) (body : Body) (size first : ℕ) (rest : List ℕ)
+  begun-rises : (which : TokenKind) (body : Body) (size first : ℕ) (rest : List ℕ)
       → StepRises body.time (begun_by which find body size first rest)
   begun-rises kind.Scalar body size first rest = changed-rises (with_bit body first) rest
   begun-rises kind.Vector body size first rest = digits-rise body rest (size - 1)
@@ -88,10 +88,10 @@ module _ (find : Find) where
   begun-rises kind.Ignored body size first rest = refl
   begun-rises kind.Unknown body size first rest = tt
 
-  word-rises : (place : Place) (body : Body) (size : ℕ) (word : List ℕ)
+  word-rises : (place : BodyPlace) (body : Body) (size : ℕ) (word : List ℕ)
       → StepRises body.time (step_at place find body size word)
   word-rises Plain body size [] = tt
-  word-rises Plain body size (first ∷ rest) = begun-rises (kind_of first (first ∷ rest)) body size first rest
+  word-rises Plain body size (first ∷ rest) = begun-rises (token_kind first (first ∷ rest)) body size first rest
   word-rises InComment body size word = go (is_end word)
     where
       go : (t : Bool) → (cond t (record body { place = Plain }) body).time ≡ body.time
@@ -132,17 +132,17 @@ system-sampled vars words found = dump-sampled (find_of vars found) words (sampl
 -- ---- no other rows
 
 -- a beat does not precede itself, and of two one alone precedes the other
-apart : (beat other : Beat) → Precedes beat other → Precedes other beat → ⊥
+apart : (beat other : SampledBeat) → Precedes beat other → Precedes other beat → ⊥
 apart beat other (inl first) (inl second) = omega (arith, first, second)
 apart beat other (inl first) (inr second) = omega (arith, first, second.0)
 apart beat other (inr first) (inl second) = omega (arith, first.0, second)
 apart beat other (inr first) (inr second) = omega (arith, first.1, second.1)
 
 -- lists in order that have the same beats
-abbrev HaveSame : List Beat → List Beat → Type 0
-HaveSame beats others = (beat : Beat) → Contains beats beat → Contains others beat
+abbrev HaveSame : List SampledBeat → List SampledBeat → Type 0
+HaveSame beats others = (beat : SampledBeat) → Contains beats beat → Contains others beat
 
-same-first : (beat other : Beat) (beats others : List Beat) → AreInOrder (beat ∷ beats) → AreInOrder (other ∷ others)
+same-first : (beat other : SampledBeat) (beats others : List SampledBeat) → AreInOrder (beat ∷ beats) → AreInOrder (other ∷ others)
     → HaveSame (beat ∷ beats) (other ∷ others) → HaveSame (other ∷ others) (beat ∷ beats) → beat ≡ other
 same-first beat other beats others first second to back =
     go (here-or-there other beat others (to beat (here beat beats)))
@@ -153,33 +153,33 @@ same-first beat other beats others first second to back =
     go (inr left) (inl same) = same
     go (inr left) (inr right) = absurd (apart other beat (second.0 beat left) (first.0 other right))
 
-same-rest : (beat other : Beat) (beats others : List Beat) → AreInOrder (beat ∷ beats) → beat ≡ other
+same-rest : (beat other : SampledBeat) (beats others : List SampledBeat) → AreInOrder (beat ∷ beats) → beat ≡ other
     → HaveSame (beat ∷ beats) (other ∷ others) → HaveSame beats others
 same-rest beat other beats others first same to =
     λ one has. go one has (here-or-there other one others (to one (there beat one beats has)))
   where
-    go : (one : Beat) → Contains beats one → (other ≡ one) ⊎ Contains others one → Contains others one
+    go : (one : SampledBeat) → Contains beats one → (other ≡ one) ⊎ Contains others one → Contains others one
     go one has (inl is) =
         let after : Precedes beat one = first.0 one has in
-        let itself : Precedes one one = subst (λ (b : Beat). Precedes b one) (same ∙ is) after in
+        let itself : Precedes one one = subst (λ (b : SampledBeat). Precedes b one) (same ∙ is) after in
         absurd (apart one one itself itself)
     go one has (inr far) = far
 
-same-beats : (beats others : List Beat) → AreInOrder beats → AreInOrder others → HaveSame beats others
+same-beats : (beats others : List SampledBeat) → AreInOrder beats → AreInOrder others → HaveSame beats others
     → HaveSame others beats → beats ≡ others
 same-beats [] [] first second to back = refl
 same-beats [] (other ∷ others) first second to back = absurd (none-there other (back other (here other others)))
 same-beats (beat ∷ beats) [] first second to back = absurd (none-there beat (to beat (here beat beats)))
 same-beats (beat ∷ beats) (other ∷ others) first second to back =
     let same = same-first beat other beats others first second to back in
-    ap (λ (b : Beat). b ∷ beats) same
-    ∙ ap (λ (bs : List Beat). other ∷ bs) (same-beats beats others first.1 second.1
+    ap (λ (b : SampledBeat). b ∷ beats) same
+    ∙ ap (λ (bs : List SampledBeat). other ∷ bs) (same-beats beats others first.1 second.1
     (same-rest beat other beats others first same to) (same-rest other beat others beats second (sym same) back))
 
 pub one-sampled : (wave : Wave) (rows others : Rows) → AreSampled wave rows → AreSampled wave others → rows ≡ others
 one-sampled wave rows others first second =
     first.are
-    ∙ ap (λ (bs : List Beat). sampled_rows wave bs)
+    ∙ ap (λ (bs : List SampledBeat). sampled_rows wave bs)
     (same-beats first.beats second.beats first.order second.order
     (λ beat has. (second.each beat).1 ((first.each beat).0 has))
     (λ beat has. (first.each beat).1 ((second.each beat).0 has)))

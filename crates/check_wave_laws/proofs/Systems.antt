@@ -3,7 +3,7 @@ use Rattle.std.proofs.Common.{◌≡◌, ℕ, List, Ok, arith}
 use Rattle.std.proofs.lemmas.List.{length-map}
 use Rattle.check_vcd.specs.Body.{happenings, start}
 use Rattle.check_vcd.specs.Header.{Opened, Var, blank, opening}
-use Rattle.check_vcd.specs.Words.{Word, words_of}
+use Rattle.check_vcd.specs.Words.{Word, dump_words}
 use Rattle.check_description.specs.Port.{Port}
 use Rattle.check_description.specs.Description.{Description, Makes}
 use Rattle.check_description.specs.File.{Parts, parts_of}
@@ -11,15 +11,15 @@ use Rattle.check_description.specs.Master.{Master}
 use Rattle.check_start.specs.Start.{master_buses, port_buses}
 use Rattle.check_samples.specs.Sampling.{rows_from}
 use Rattle.check_signals.specs.Found.{Found, find_of, found_in, sampling_of}
-use Rattle.check_signals.specs.Names.{Names, names_of_file}
+use Rattle.check_signals.specs.Names.{SignalNames, names_of_file}
 use Rattle.check_wave_laws.specs.Text.{HasRows}
 use Rattle.check_wave_laws.proofs.Counts.{same-counts}
 use Rattle.check_wave_laws.proofs.Dumps.{dump-rows}
 use Rattle.check_wave_laws.proofs.Kept.{all-found}
 
-pub system-rows : (line : ℕ) (file text : List ℕ) (parts : Parts) (system : Description) (names : Names)
+pub system-rows : (line : ℕ) (file text : List ℕ) (parts : Parts) (system : Description) (names : SignalNames)
     (vars : List Var) (words : List Word) (found : Found) → parts_of file ≡ Ok parts → Makes parts system
-    → names_of_file file ≡ Ok names → opening (words_of text) blank ≡ Opened vars words
+    → names_of_file file ≡ Ok names → opening (dump_words text) blank ≡ Opened vars words
     → found_in vars (master_buses system.masters) (port_buses system.ports) names ≡ Ok found
     → HasRows (master_buses system.masters) (port_buses system.ports) found.probes.channels line
     (rows_from (happenings (find_of vars found) words start) (sampling_of found)).text

@@ -5,7 +5,7 @@ use Rattle.std.proofs.lemmas.Bool.{and_from, le-leb}
 use Rattle.std.proofs.lemmas.List.{length-replicate, map-set, set-get_or}
 use Rattle.check_vcd.specs.Body.{At, Happens, Sets, Wrong}
 use Rattle.check_beats.specs.declared.bus.Bus.{Bus}
-use Rattle.check_rows.specs.Buses.{bus_of}
+use Rattle.check_rows.specs.Buses.{bus_of_link}
 use Rattle.check_rows.specs.Row.{SeenRow}
 use Rattle.check_samples.specs.Digits.{bits_of, extended, fill_of, part_if_any, part_of, set_extended}
 use Rattle.check_samples.specs.Rows.{Probes, Rows, and_then, crosses, followed_by, has_edge, no_rows, row_alone, row_at, rows_at, rows_of}
@@ -16,8 +16,8 @@ use Rattle.check_samples.specs.declared.channel.Channel.{Channel}
 use Rattle.check_samples.specs.declared.channel.UnknownBit.{UnknownBit}
 use Rattle.check_samples.specs.declared.signal.Signal.{Signal}
 use Rattle.check_samples.specs.declared.tap.Tap.{Tap}
-use Rattle.check_wave_laws.specs.Seen.{BeatFits, row_in}
-use Rattle.check_wave_laws.specs.Text.{AreRows, BeatTakes, ChannelFits, HappensFit, HasRows, SamplingFits, Takes}
+use Rattle.check_wave_laws.specs.Seen.{BeatFits, row_of_channel}
+use Rattle.check_wave_laws.specs.Text.{AreRows, BeatTakes, ChannelFits, HappensFit, HasRows, SamplingFits, TakesBeat}
 use Rattle.check_wave_laws.proofs.Beats.{beat-row}
 use Rattle.check_wave_laws.proofs.Buses.{bus-of}
 
@@ -54,7 +54,7 @@ bits-few values tap n few = go (slice_get values tap.slot)
     go (Some digits) = part-few digits tap n few
 
 bits-all : (values : List (List ℕ)) (widths : List ℕ) (tap : Tap) (n : ℕ) → map length values ≡ widths → 0 < n
-    → Takes widths tap n → length (bits_of values tap) ≡ n
+    → TakesBeat widths tap n → length (bits_of values tap) ≡ n
 bits-all values widths tap n has some takes =
     let inside : tap.to ≤ get_or (map length values) tap.slot 0 =
     subst (λ (ws : List ℕ). tap.to ≤ get_or ws tap.slot 0) (sym has) takes.inside in
@@ -138,7 +138,7 @@ module _ (masters ports : List Bus) (channels : List Channel) (widths : List ℕ
   readable-row which text one crossed is = λ line.
       let fits = fit which one in
       record {
-        rows = row_in masters ports line time values which ∷ [];
+        rows = row_of_channel masters ports line time values which ∷ [];
         are = (
           record {
             place = refl;
@@ -149,7 +149,7 @@ module _ (masters ports : List Bus) (channels : List Channel) (widths : List ℕ
             [],
             sym (append-nil text),
             beat-row masters ports line time values which text few_masters few_ports in_time fits.link
-                (beat-fits (bus_of masters ports which.link) values widths which.beat
+                (beat-fits (bus_of_link masters ports which.link) values widths which.beat
                 (bus-of masters ports which.link fits.link).some has fits.taps) is,
             refl,
           ),

@@ -8,7 +8,7 @@ use Rattle.std.specs.Char.{digit_value}
 use Rattle.std.specs.Fmt.{decimal, digit_glyph, digits}
 use Rattle.std.specs.Str.Parse.{AllDigits}
 use Rattle.tl_text.specs.Number.{number_of}
-use Rattle.check_rows.specs.Column.{parts_of}
+use Rattle.check_rows.specs.Column.{column_parts}
 use Rattle.check_samples.specs.Row.{digit_by, digit_of, hex_text, hexes}
 use Rattle.check_wave_laws.specs.Rows.{IsPlain}
 
@@ -31,16 +31,16 @@ joined word (next ∷ words) = word ++ (44 ∷ joined next words)
 no-comma : (byte : ℕ) → 44 < byte → (byte == 44) ≡ false
 no-comma byte above = ne_eqb byte 44 (λ (is : byte ≡ 44). omega (arith, is, above))
 
-parts-at : (word rest : List ℕ) → IsWord word → parts_of (word ++ (44 ∷ rest)) ≡ word ∷ parts_of rest
+parts-at : (word rest : List ℕ) → IsWord word → column_parts (word ++ (44 ∷ rest)) ≡ word ∷ column_parts rest
 parts-at [] rest is = refl
 parts-at (byte ∷ word) rest is = rw (no-comma byte is.0, parts-at word rest is.1) refl
 
-parts-last : (word : List ℕ) → IsWord word → parts_of word ≡ word ∷ []
+parts-last : (word : List ℕ) → IsWord word → column_parts word ≡ word ∷ []
 parts-last [] is = refl
 parts-last (byte ∷ word) is = rw (no-comma byte is.0, parts-last word is.1) refl
 
 pub parts-joined : (word : List ℕ) (words : List (List ℕ)) → AreWords (word ∷ words)
-    → parts_of (joined word words) ≡ word ∷ words
+    → column_parts (joined word words) ≡ word ∷ words
 parts-joined word [] are = parts-last word are.0
 parts-joined word (next ∷ words) are =
     parts-at word (joined next words) are.0

@@ -1,7 +1,7 @@
 -- Texts that are rows of captures. It is this project's own.
 use Rattle.std.specs.Prelude.{◌≡◌, ℕ, ◌≤◌, ⊤, List, [], ◌∷◌, ◌++◌, Ok}
 use Rattle.check_beats.specs.declared.bus.Bus.{Bus}
-use Rattle.check_rows.specs.Column.{parts_of}
+use Rattle.check_rows.specs.Column.{column_parts}
 use Rattle.check_rows.specs.Row.{SeenRow, row_of}
 
 -- no byte is below a comma: none is a blank, a quote or the end of a line
@@ -15,4 +15,4 @@ pub record IsRow (masters ports : List Bus) (row : SeenRow) (text : List ℕ) : 
   pub line : List ℕ
   pub ends : text ≡ line ++ (10 ∷ [])
   pub plain : IsPlain line
-  pub reads : row_of masters ports row.line (parts_of line) ≡ Ok row
+  pub reads : row_of masters ports row.line (column_parts line) ≡ Ok row

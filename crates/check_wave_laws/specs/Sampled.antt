@@ -11,13 +11,13 @@ use Rattle.check_samples.specs.declared.channel.Channel.{Channel}
 
 -- a change: the time at which it stands, or none if it stands before the first time; which slot's value changes; and to
 -- which digits
-pub record Change : Type 0 where
+pub record ValueChange : Type 0 where
   pub time : Option ℕ
   pub slot : ℕ
   pub digits : List ℕ
 
 -- all changes of what happens, in their order, if this time began last; nothing counts after a line that is wrong
-abbrev pub changes_after : Option ℕ → List Happens → List Change
+abbrev pub changes_after : Option ℕ → List Happens → List ValueChange
 changes_after time [] = []
 changes_after time (At next ∷ happens) = changes_after (Some next) happens
 changes_after time (Sets slot digits ∷ happens) =
@@ -55,7 +55,7 @@ pub record Wave : Type 0 where
   pub probes : Probes
   pub first : List (List ℕ)
   pub widths : List ℕ
-  pub changes : List Change
+  pub changes : List ValueChange
   pub cut : Option (Option ℕ)
 
 abbrev pub wave_of : Probes → List (List ℕ) → List ℕ → List Happens → Wave
@@ -68,19 +68,19 @@ wave_of probes first widths happens = record {
 }
 
 -- the last change of a slot
-abbrev pub last_of : ℕ → List Change → Option Change
+abbrev pub last_of : ℕ → List ValueChange → Option ValueChange
 last_of slot changes = last_or None (filter (λ change. change.slot == slot) changes)
 
 -- the value that a change leaves; if there is none, the first one stays
-abbrev pub value_by : List ℕ → ℕ → Option Change → List ℕ
+abbrev pub value_by : List ℕ → ℕ → Option ValueChange → List ℕ
 value_by first width None = first
 value_by first width (Some change) = extended width change.digits
 
 -- the value of a slot if these changes alone count, and the values of all slots
-abbrev pub value_after : Wave → List Change → ℕ → List ℕ
+abbrev pub value_after : Wave → List ValueChange → ℕ → List ℕ
 value_after wave changes slot = value_by (get_or wave.first slot []) (get_or wave.widths slot 0) (last_of slot changes)
 
-abbrev pub values_after : Wave → List Change → List (List ℕ)
+abbrev pub values_after : Wave → List ValueChange → List (List ℕ)
 values_after wave changes = map (value_after wave changes) (range_with_len 0 (length wave.first))
 
 -- the values before a time: each by its last change at an earlier time
@@ -99,14 +99,14 @@ is_whole None time = true
 is_whole (Some cut) time = not (is_until time cut)
 
 -- a channel at a time, with its place among those that are looked at
-pub record Beat : Type 0 where
+pub record SampledBeat : Type 0 where
   pub time : ℕ
   pub place : ℕ
   pub channel : Channel
 
 -- it is a beat: the clock was 0 before the time and is 1 at its end, the reset was not active before it, valid and ready
 -- were 1 before it, and no line is wrong up to its end
-pub record IsBeatOf (wave : Wave) (beat : Beat) : Type 0 where
+pub record IsSampledBeat (wave : Wave) (beat : SampledBeat) : Type 0 where
   pub looked : slice_get wave.probes.channels beat.place ≡ Some beat.channel
   pub low : is_zero (bits_of (values_before wave beat.time) wave.probes.clock) ≡ true
   pub high : is_one (bits_of (values_until wave beat.time) wave.probes.clock) ≡ true
@@ -116,25 +116,25 @@ pub record IsBeatOf (wave : Wave) (beat : Beat) : Type 0 where
   pub whole : is_whole wave.cut beat.time ≡ true
 
 -- its row, with the values before the time; there is none if one of them, data aside, has an unknown bit
-abbrev pub sampled_row : Wave → Beat → Rows
+abbrev pub sampled_row : Wave → SampledBeat → Rows
 sampled_row wave beat = row_alone beat.time beat.channel (row_at beat.time (values_before wave beat.time) beat.channel)
 
 -- the rows of beats, one after the other, up to the first that has none
-abbrev pub sampled_rows : Wave → List Beat → Rows
+abbrev pub sampled_rows : Wave → List SampledBeat → Rows
 sampled_rows wave [] = no_rows
 sampled_rows wave (beat ∷ beats) = and_then (sampled_row wave beat) (sampled_rows wave beats)
 
 -- by time, and within a time in the order in which beats cross
-abbrev pub Precedes : Beat → Beat → Type 0
+abbrev pub Precedes : SampledBeat → SampledBeat → Type 0
 Precedes beat later = (beat.time < later.time) ⊎ ((beat.time ≡ later.time) × (beat.place < later.place))
 
-abbrev pub AreInOrder : List Beat → Type 0
+abbrev pub AreInOrder : List SampledBeat → Type 0
 AreInOrder [] = ⊤
-AreInOrder (beat ∷ beats) = ((later : Beat) → Contains beats later → Precedes beat later) × AreInOrder beats
+AreInOrder (beat ∷ beats) = ((later : SampledBeat) → Contains beats later → Precedes beat later) × AreInOrder beats
 
 -- the rows are those of all beats of the dump and of nothing else, each once, in order
 pub record AreSampled (wave : Wave) (rows : Rows) : Type 0 where
-  pub beats : List Beat
-  pub each : (beat : Beat) → Contains beats beat ↔ IsBeatOf wave beat
+  pub beats : List SampledBeat
+  pub each : (beat : SampledBeat) → Contains beats beat ↔ IsSampledBeat wave beat
   pub order : AreInOrder beats
   pub are : rows ≡ sampled_rows wave beats

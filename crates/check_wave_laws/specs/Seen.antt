@@ -8,8 +8,8 @@ use Rattle.check_beats.specs.declared.bus.Bus.{Bus}
 use Rattle.check_watch.specs.Plan.{seen_at}
 use Rattle.check_watch.specs.declared.beat.Beat.TheVariants as beat
 use Rattle.check_watch.specs.declared.beat.Link.{Link}
-use Rattle.check_rows.specs.Buses.{bus_of}
-use Rattle.check_rows.specs.Lanes.{Lanes, seen_of}
+use Rattle.check_rows.specs.Buses.{bus_of_link}
+use Rattle.check_rows.specs.Lanes.{SeenLanes, seen_of}
 use Rattle.check_rows.specs.Row.{SeenBeat, SeenRow}
 use Rattle.check_samples.specs.Digits.{bits_of}
 use Rattle.check_samples.specs.declared.channel.AskTaps.{AskTaps}
@@ -27,7 +27,7 @@ number_in values tap = digits_value 2 (bits_of values tap)
 abbrev pub lane_in : ℕ → List ℕ → ℕ → Option ℕ
 lane_in bus bits lane = number_of 2 8 (take 8 (drop (8 * (bus - 1 - lane)) bits))
 
-abbrev pub lanes_in : ℕ → List (List ℕ) → Tap → Lanes
+abbrev pub lanes_in : ℕ → List (List ℕ) → Tap → SeenLanes
 lanes_in bus values tap = seen_of (map (lane_in bus (bits_of values tap)) (range_with_len 0 bus))
 
 -- the beat of channel A that signals show, with its lanes
@@ -62,17 +62,17 @@ beat_in bus (A taps) values = ask_in bus values taps
 beat_in bus (D taps) values = reply_in bus values taps
 
 -- the row of a beat at a link, on this line
-abbrev pub row_at : ℕ → ℕ → Link → SeenBeat → SeenRow
-row_at line time link seen = record {
+abbrev pub row_on_line : ℕ → ℕ → Link → SeenBeat → SeenRow
+row_on_line line time link seen = record {
   line = line;
   time = time;
   sighting = seen_at link seen.beat seen.lanes.known seen.lanes.bytes;
 }
 
 -- the row of a channel's beat, where the masters' links and the ports' have these buses
-abbrev pub row_in : List Bus → List Bus → ℕ → ℕ → List (List ℕ) → Channel → SeenRow
-row_in masters ports line time values channel =
-    row_at line time channel.link (beat_in (bus_of masters ports channel.link) channel.beat values)
+abbrev pub row_of_channel : List Bus → List Bus → ℕ → ℕ → List (List ℕ) → Channel → SeenRow
+row_of_channel masters ports line time values channel =
+    row_on_line line time channel.link (beat_in (bus_of_link masters ports channel.link) channel.beat values)
 
 -- ---- what columns have room for
 

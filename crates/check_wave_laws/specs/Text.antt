@@ -3,7 +3,7 @@ use Rattle.std.specs.Prelude.{◌≡◌, ℕ, ◌+◌, ◌-◌, ◌*◌, ◌^◌
 use Rattle.check_vcd.specs.Body.{Find, Happens, At, Sets, Wrong}
 use Rattle.check_vcd.specs.declared.codes.Coded.{Coded}
 use Rattle.check_beats.specs.declared.bus.Bus.{Bus}
-use Rattle.check_rows.specs.Buses.{IsLinkOf, bus_of}
+use Rattle.check_rows.specs.Buses.{IsLinkOf, bus_of_link}
 use Rattle.check_rows.specs.Row.{SeenRow}
 use Rattle.check_samples.specs.Rows.{crosses}
 use Rattle.check_samples.specs.Sampling.{Sampling}
@@ -14,7 +14,7 @@ use Rattle.check_samples.specs.declared.channel.Channel.{Channel}
 use Rattle.check_samples.specs.declared.channel.ReplyTaps.{ReplyTaps}
 use Rattle.check_samples.specs.declared.tap.Tap.{Tap}
 use Rattle.check_wave_laws.specs.Rows.{IsRow}
-use Rattle.check_wave_laws.specs.Seen.{row_in}
+use Rattle.check_wave_laws.specs.Seen.{row_of_channel}
 
 -- ---- rows of beats
 
@@ -25,7 +25,7 @@ pub record IsBeat (masters ports : List Bus) (channels : List Channel) (row : Se
   pub which : Channel
   pub one : Contains channels which
   pub crossed : crosses values which ≡ true
-  pub is : row ≡ row_in masters ports row.line row.time values which
+  pub is : row ≡ row_of_channel masters ports row.line row.time values which
 
 -- the row is that of a beat and stands on this line
 pub record Stands (masters ports : List Bus) (channels : List Channel) (line : ℕ) (row : SeenRow) : Type 0 where
@@ -47,7 +47,7 @@ pub record HasRows (masters ports : List Bus) (channels : List Channel) (line : 
 -- ---- the bits of signals, by how many bits the kept values have
 
 -- a tap takes so many bits of a value that has them
-pub record Takes (widths : List ℕ) (tap : Tap) (count : ℕ) : Type 0 where
+pub record TakesBeat (widths : List ℕ) (tap : Tap) (count : ℕ) : Type 0 where
   pub from : tap.from ≤ tap.to
   pub inside : tap.to ≤ get_or widths tap.slot 0
   pub bits : tap.to - tap.from ≡ count
@@ -57,14 +57,14 @@ pub record AskTakes (bus : ℕ) (widths : List ℕ) (taps : AskTaps) : Type 0 wh
   pub param : taps.param.to - taps.param.from ≤ 8
   pub size : taps.size.to - taps.size.from ≤ 8
   pub source : taps.source.to - taps.source.from ≤ 16
-  pub mask : Takes widths taps.mask bus
-  pub lanes : Takes widths taps.data (8 * bus)
+  pub mask : TakesBeat widths taps.mask bus
+  pub lanes : TakesBeat widths taps.data (8 * bus)
 
 pub record ReplyTakes (bus : ℕ) (widths : List ℕ) (taps : ReplyTaps) : Type 0 where
   pub opcode : taps.opcode.to - taps.opcode.from ≤ 8
   pub size : taps.size.to - taps.size.from ≤ 8
   pub source : taps.source.to - taps.source.from ≤ 16
-  pub lanes : Takes widths taps.data (8 * bus)
+  pub lanes : TakesBeat widths taps.data (8 * bus)
   pub denied : taps.denied.to - taps.denied.from ≤ 1
   pub corrupt : taps.corrupt.to - taps.corrupt.from ≤ 1
 
@@ -75,7 +75,7 @@ BeatTakes bus widths (D taps) = ReplyTakes bus widths taps
 -- a channel of a link that the system has, whose signals have no more bits than their columns have room for
 pub record ChannelFits (masters ports : List Bus) (widths : List ℕ) (which : Channel) : Type 0 where
   pub link : IsLinkOf masters ports which.link
-  pub taps : BeatTakes (bus_of masters ports which.link) widths which.beat
+  pub taps : BeatTakes (bus_of_link masters ports which.link) widths which.beat
 
 -- the values of a sampler have their widths, its time is one that a number can be, and its channels fit
 pub record SamplingFits (masters ports : List Bus) (s : Sampling) : Type 0 where

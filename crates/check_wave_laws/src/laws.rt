@@ -2,9 +2,9 @@
 ghost use Rattle.std.specs.Prelude.{◌≡◌, ◌<◌, ◌^◌, ℕ, List, None, Ok, length, map};
 ghost use Rattle.check_vcd.specs.Body.{Find, Happens, happenings, start};
 ghost use Rattle.check_vcd.specs.Header.{Opened, Var, blank, opening};
-ghost use Rattle.check_vcd.specs.Words.{Word, words_of};
+ghost use Rattle.check_vcd.specs.Words.{Word, dump_words};
 ghost use Rattle.check_beats.specs.declared.bus.Bus.{Bus};
-ghost use Rattle.check_rows.specs.Buses.{IsLinkOf, bus_of};
+ghost use Rattle.check_rows.specs.Buses.{IsLinkOf, bus_of_link};
 ghost use Rattle.check_description.specs.Description.{Description, Makes};
 ghost use Rattle.check_description.specs.File.{Parts, parts_of};
 ghost use Rattle.check_start.specs.Start.{master_buses, port_buses};
@@ -12,10 +12,10 @@ ghost use Rattle.check_samples.specs.Rows.{Rows, row_at};
 ghost use Rattle.check_samples.specs.Sampling.{Sampling, rows_from};
 ghost use Rattle.check_samples.specs.declared.channel.Channel.{Channel};
 ghost use Rattle.check_signals.specs.Found.{Found, digits_in, find_of, found_in, sampling_of, width_in};
-ghost use Rattle.check_signals.specs.Names.{Names, names_of_file};
+ghost use Rattle.check_signals.specs.Names.{SignalNames, names_of_file};
 ghost use Rattle.check_wave_laws.specs.Rows.{IsRow};
 ghost use Rattle.check_wave_laws.specs.Sampled.{AreSampled, NeverFalls, Wave, wave_of};
-ghost use Rattle.check_wave_laws.specs.Seen.{BeatFits, row_in};
+ghost use Rattle.check_wave_laws.specs.Seen.{BeatFits, row_of_channel};
 ghost use Rattle.check_wave_laws.specs.Text.{FindFits, HasRows, SamplingFits};
 
 /// The text of a beat is a row of a capture: that of its time, its link and its channel, with the numbers that its
@@ -23,15 +23,15 @@ ghost use Rattle.check_wave_laws.specs.Text.{FindFits, HasRows, SamplingFits};
 pub fn beats_are_rows()
     ensures { (masters ports : List Bus) (line time : ℕ) (values : List (List ℕ)) (channel : Channel) (text : List ℕ)
         → length masters < 2 ^ 64 → length ports < 2 ^ 64 → time < 2 ^ 64 → IsLinkOf masters ports channel.link
-        → BeatFits (bus_of masters ports channel.link) channel.beat values → row_at time values channel ≡ Ok text
-        → IsRow masters ports (row_in masters ports line time values channel) text }
+        → BeatFits (bus_of_link masters ports channel.link) channel.beat values → row_at time values channel ≡ Ok text
+        → IsRow masters ports (row_of_channel masters ports line time values channel) text }
 {}
 
 /// The rows of a dump are rows of a capture, line by line: each of a beat that crosses at one of the channels. Here too no
 /// signal may have more bits than its column has room for, and no identifier more than the slot that it is kept in.
 pub fn rows_of_dumps_are_rows()
     ensures { (masters ports : List Bus) (line : ℕ) (text : List ℕ) (vars : List Var) (words : List Word) (find : Find)
-        (s : Sampling) → length masters < 2 ^ 64 → length ports < 2 ^ 64 → opening (words_of text) blank ≡ Opened vars words
+        (s : Sampling) → length masters < 2 ^ 64 → length ports < 2 ^ 64 → opening (dump_words text) blank ≡ Opened vars words
         → FindFits s.widths find → SamplingFits masters ports s
         → HasRows masters ports s.probes.channels line (rows_from (happenings find words start) s).text }
 {}
@@ -40,9 +40,9 @@ pub fn rows_of_dumps_are_rows()
 /// begins, whatever the two files are: the rows of what happens after the header of a dump, if the names of a system file
 /// find their signals there.
 pub fn rows_of_systems_are_rows()
-    ensures { (line : ℕ) (file text : List ℕ) (parts : Parts) (system : Description) (names : Names) (vars : List Var)
+    ensures { (line : ℕ) (file text : List ℕ) (parts : Parts) (system : Description) (names : SignalNames) (vars : List Var)
         (words : List Word) (found : Found) → parts_of file ≡ Ok parts → Makes parts system
-        → names_of_file file ≡ Ok names → opening (words_of text) blank ≡ Opened vars words
+        → names_of_file file ≡ Ok names → opening (dump_words text) blank ≡ Opened vars words
         → found_in vars (master_buses system.masters) (port_buses system.ports) names ≡ Ok found
         → HasRows (master_buses system.masters) (port_buses system.ports) found.probes.channels line
         (rows_from (happenings (find_of vars found) words start) (sampling_of found)).text }
@@ -51,7 +51,7 @@ pub fn rows_of_systems_are_rows()
 /// A system file gives names for as many masters and ports as its system has, so no names are left over: the signals of
 /// each link that has names are looked for.
 pub fn names_are_of_links()
-    ensures { (file : List ℕ) (parts : Parts) (system : Description) (names : Names) → parts_of file ≡ Ok parts
+    ensures { (file : List ℕ) (parts : Parts) (system : Description) (names : SignalNames) → parts_of file ≡ Ok parts
         → Makes parts system → names_of_file file ≡ Ok names
         → (length names.masters ≡ length system.masters) × (length names.ports ≡ length system.ports) }
 {}

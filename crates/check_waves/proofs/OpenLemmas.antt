@@ -8,7 +8,7 @@ use Rattle.check_vcd.specs.Body.{Body, Find, happenings, start}
 use Rattle.check_vcd.specs.Codes.{coded_in, find_in}
 use Rattle.check_vcd.specs.Dump.{Dumping, IsNoDump, Opens, with_slot}
 use Rattle.check_vcd.specs.Header.{Opened, Var, blank, opening}
-use Rattle.check_vcd.specs.Words.{Both, Word, words_of}
+use Rattle.check_vcd.specs.Words.{Both, Word, dump_words}
 use Rattle.check_vcd.specs.declared.codes.Coded.{Coded}
 use Rattle.check_vcd.specs.declared.fault.DumpFault.{DumpFault}
 use Rattle.check_vcd.specs.declared.fault.DumpFault.TheVariants as dump
@@ -18,12 +18,12 @@ use Rattle.check_keys.specs.declared.fault.SystemFault.TheVariants as system
 use Rattle.check_description.specs.Description.{Description}
 use Rattle.check_description.specs.declared.read.TheConstants.{MAX_SYSTEM}
 use Rattle.check_samples.specs.Digits.{unknown}
-use Rattle.check_samples.specs.Left.{Left, left_in, left_of}
+use Rattle.check_samples.specs.Left.{RowsLeft, left_in, left_of}
 use Rattle.check_samples.specs.Rows.{Probes}
 use Rattle.check_samples.specs.Sampling.{Sampling}
 use Rattle.check_signals.specs.Found.{Found, IsFound, IsResolved, code_in, digits_in, find_of, sampling_of, slot_one, slots_from, width_in}
 use Rattle.check_signals.specs.Names.{names_of_file}
-use Rattle.check_signals.specs.Source.{Fault, fault_view}
+use Rattle.check_signals.specs.Source.{SearchFault, fault_view}
 use Rattle.check_signals.specs.declared.fault.KeyFault.{KeyFault}
 use Rattle.check_signals.specs.declared.fault.KeyFault.TheVariants as key
 use Rattle.check_signals.specs.declared.resolve.Resolved.{Resolved}
@@ -33,7 +33,7 @@ use Rattle.tl_streams.specs.Streams.{ReadsUpTo}
 use Rattle.tl_streams.specs.declared.streams.ReadFault.{ReadFault}
 use Rattle.tl_streams.specs.declared.streams.ReadFault.TheVariants as read
 use Rattle.check_waves.specs.Capture.{Describes, GivesLinks, IsCapture, IsFirstSystemFault, IsNoHeader, IsOfSystem, IsOpened, IsUnopened, NotFound, found_among, rows_after, rows_found, rows_in}
-use Rattle.check_waves.specs.Links.{Links}
+use Rattle.check_waves.specs.Links.{WaveLinks}
 use Rattle.check_waves.specs.Out.{IsOut, capture_of}
 use Rattle.check_waves.specs.Fault.{of_dump, of_keys, of_read, of_signal, of_system}
 use Rattle.check_waves.specs.declared.fault.WaveFault.{WaveFault}
@@ -76,9 +76,9 @@ fresh-is s found fresh =
     (map digits_in found.kept) s.widths (map width_in found.kept) s.time None fresh.probes fresh.before fresh.now
     fresh.widths fresh.time
 
-opened : (links : Links) (text : List ℕ) (vars : List Var) (words : Option (List Word)) (find : Find) (body : Body)
+opened : (links : WaveLinks) (text : List ℕ) (vars : List Var) (words : Option (List Word)) (find : Find) (body : Body)
     (found : Found) (s : Sampling)
-    → Both (Some (words_of text)) words (λ from to. opening from blank ≡ Opened vars to)
+    → Both (Some (dump_words text)) words (λ from to. opening from blank ≡ Opened vars to)
     → body ≡ start → find ≡ find_of vars found → s ≡ sampling_of found → found_among vars links ≡ Ok found
     → IsOpened links (option_map (λ h. left_of h s false) (option_map (λ w. happenings find w body) words)) text
 unfolding rows_in
@@ -86,7 +86,7 @@ opened links text vars None find body found s both is finds fresh has = absurd b
 opened links text vars (Some w) find body found s both is finds fresh has =
     ap (rows_after links) both
     ∙ ap (rows_found vars w) has
-    ∙ ap (λ (l : Left). Ok l) (sym (ap (λ (b : Body). left_of (happenings find w b) s false) is
+    ∙ ap (λ (l : RowsLeft). Ok l) (sym (ap (λ (b : Body). left_of (happenings find w b) s false) is
     ∙ ap (λ (f : Find). left_of (happenings f w start) s false) finds
     ∙ ap (λ (t : Sampling). left_of (happenings (find_of vars found) w start) t false) fresh))
 
@@ -99,7 +99,7 @@ find-is vars first now codes found opens finds are =
     ∙ ap (λ (all : List (Option (List ℕ))). slots_from all 0 (coded_in vars) code) are)
 
 -- the rows of a dump after its header, if these identifiers are kept
-pub opened-rows : (links : Links) (text : Option (List ℕ)) (vars : List Var) (first dump : Dumping)
+pub opened-rows : (links : WaveLinks) (text : Option (List ℕ)) (vars : List Var) (first dump : Dumping)
     (codes : List (Option (List ℕ))) (found : Found) (s : Sampling)
     → Opens text vars first → dump.words ≡ first.words → dump.body ≡ first.body
     → ((code : List ℕ) → find_in dump.codes code ≡ slots_from codes 0 (find_in first.codes) code)
@@ -112,7 +112,7 @@ opened-rows links (Some text) vars first dump codes found s opens words body fin
     (fresh-is s found fresh) has
 
 -- what was found
-pub found-is : (found : Result Found Fault) (resolved : Resolved) → IsFound found resolved
+pub found-is : (found : Result Found SearchFault) (resolved : Resolved) → IsFound found resolved
     → (f : Found) × (found ≡ Ok f) × IsResolved resolved f
 found-is (Ok f) resolved is = (f, refl, is)
 found-is (Err fault) resolved is = absurd is
@@ -127,13 +127,13 @@ keeps-on first now next all here rest slot code is so_far one o =
     ∙ subst (λ (h : List (Option (List ℕ))). slots_from h slot now o ≡ slots_from all 0 first o) is (so_far o)
 
 -- no dump was opened
-wrong-header : (links : Links) (text : List ℕ) (line : ℕ) (mistake : Mistake)
+wrong-header : (links : WaveLinks) (text : List ℕ) (line : ℕ) (mistake : Mistake)
     → IsNoDump (Some text) line mistake → IsNoHeader links text line mistake
 unfolding rows_in
 wrong-header links text line mistake (inl refused) = inl (ap (rows_after links) refused)
 wrong-header links text line mistake (inr cut) = inr (ap (rows_after links) cut.0, cut.1)
 
-pub unopened-dump : (links : Links) (text : Option (List ℕ)) (fault : DumpFault)
+pub unopened-dump : (links : WaveLinks) (text : Option (List ℕ)) (fault : DumpFault)
     → ((line : ℕ) (mistake : Mistake) → fault ≡ dump.At line mistake → IsNoDump text line mistake)
     → IfSome text (IsUnopened links (of_dump fault))
 unopened-dump links None fault wrong = tt
@@ -155,14 +155,14 @@ rest-of xs i x lt is =
     rw add-one all
 
 -- the first signal that is not found after a header
-pub unopened-signal : (links : Links) (text : Option (List ℕ)) (vars : List Var) (first : Dumping) (fault : SignalFault)
+pub unopened-signal : (links : WaveLinks) (text : Option (List ℕ)) (vars : List Var) (first : Dumping) (fault : SignalFault)
     → Opens text vars first → (fault ≢ signal.Memory → found_among vars links ≡ Err (fault_view fault))
     → IfSome text (IsUnopened links (of_signal fault))
 unfolding rows_in
 unopened-signal links None vars first fault opens finds = tt
 unopened-signal links (Some text) vars first fault opens finds = by fault finds
   where
-    behind : (words : Option (List Word)) (f : Fault) → Both (Some (words_of text)) words (λ from to. opening from blank ≡ Opened vars to)
+    behind : (words : Option (List Word)) (f : SearchFault) → Both (Some (dump_words text)) words (λ from to. opening from blank ≡ Opened vars to)
         → found_among vars links ≡ Err f → rows_in links text ≡ Err (NotFound f)
     behind None f both is = absurd both
     behind (Some words) f both is = ap (rows_after links) both ∙ ap (rows_found vars words) is
@@ -215,7 +215,7 @@ refused-system (Some text) (Err e) fault read_old read_new at is why =
     })
 
 -- no dump was opened
-pub refused-dump : (text : Option (List ℕ)) (result : Result Unit WaveFault) (fault : WaveFault) (links : Links)
+pub refused-dump : (text : Option (List ℕ)) (result : Result Unit WaveFault) (fault : WaveFault) (links : WaveLinks)
     (read_old read_new at : Option (List ℕ)) → IsErrAnd result (λ e. e ≡ fault) → GivesLinks read_old read_new links
     → IfSome text (IsUnopened links fault) → IfSome text (λ t. IsCapture read_old read_new result t at at)
 refused-dump None result fault links read_old read_new at is given why = tt
@@ -231,7 +231,7 @@ refused-dump (Some text) (Err e) fault links read_old read_new at is given why =
     })
 
 -- the rows were written
-pub captured : (text : Option (List ℕ)) (rows : Option Left) (result : Result Unit WaveFault) (links : Links)
+pub captured : (text : Option (List ℕ)) (rows : Option RowsLeft) (result : Result Unit WaveFault) (links : WaveLinks)
     (read_old read_new old new : Option (List ℕ)) → GivesLinks read_old read_new links
     → IfSome text (IsOpened links rows) → IfSome rows (λ left. IsOut result (capture_of left) old new)
     → IfSome text (λ t. IsCapture read_old read_new result t old new)

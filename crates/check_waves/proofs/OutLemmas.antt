@@ -6,7 +6,7 @@ use Rattle.std.specs.Io.KnownBytes.{Appends}
 use Rattle.std.proofs.KnownBytes.{Appends-nil, Appends-trans}
 use Rattle.tl_streams.specs.Streams.{AppendsPart}
 use Rattle.check_vcd.specs.Words.{Both}
-use Rattle.check_samples.specs.Left.{GoesOn, Left, Stops}
+use Rattle.check_samples.specs.Left.{RowsGoOn, RowsLeft, Stops}
 use Rattle.check_samples.specs.declared.rows.Progress.TheVariants.{More, Over}
 use Rattle.check_samples.specs.declared.rows.RowsFault.{RowsFault}
 use Rattle.check_samples.specs.declared.rows.RowsFault.TheVariants as rows
@@ -16,19 +16,19 @@ use Rattle.check_waves.specs.declared.fault.WaveFault.{WaveFault}
 use Rattle.check_waves.specs.declared.fault.WaveFault.TheVariants as wave
 
 -- rows after a text
-abbrev pub behind : List ℕ → Left → Left
+abbrev pub behind : List ℕ → RowsLeft → RowsLeft
 behind text left = record { text = text ++ left.text; end = left.end; rises = left.rises }
 
 -- ---- rows are taken
 
 -- none was taken
-pub pushing-start : (a : Option Left) (text : List ℕ) (at : Option (List ℕ)) → Both a a (Pushing text text at at)
+pub pushing-start : (a : Option RowsLeft) (text : List ℕ) (at : Option (List ℕ)) → Both a a (Pushing text text at at)
 pushing-start None text at = tt
 pushing-start (Some x) text at = record { front = []; is = refl; end = refl; rises = refl; written = Appends-nil at }
 
 -- some more were, and a front of the text was written
-pub pushing-on : (a b c : Option Left) (text now next last : List ℕ) (old mid new : Option (List ℕ))
-    → Both a b (Pushing text now old mid) → Both b c (GoesOn More now next) → Moves mid new next last
+pub pushing-on : (a b c : Option RowsLeft) (text now next last : List ℕ) (old mid new : Option (List ℕ))
+    → Both a b (Pushing text now old mid) → Both b c (RowsGoOn More now next) → Moves mid new next last
     → Both a c (Pushing text last old new)
 pushing-on None b c text now next last old mid new so_far goes moves = tt
 pushing-on (Some x) None c text now next last old mid new so_far goes moves = absurd so_far
@@ -45,7 +45,7 @@ pushing-on (Some x) (Some y) (Some z) text now next last old mid new so_far goes
 }
 
 -- all were taken
-moved-all : (x y : Left) (text now next : List ℕ) (old mid : Option (List ℕ)) → Pushing text now old mid x y
+moved-all : (x y : RowsLeft) (text now next : List ℕ) (old mid : Option (List ℕ)) → Pushing text now old mid x y
     → next ≡ now ++ y.text → Moves old mid (text ++ x.text) next
 moved-all x y text now next old mid so_far is = record {
   front = so_far.front;
@@ -53,8 +53,8 @@ moved-all x y text now next old mid so_far is = record {
   written = so_far.written;
 }
 
-pub pushed-all : (a b c : Option Left) (text now next : List ℕ) (old mid : Option (List ℕ)) (answer : Result Unit WaveFault)
-    (risen : Bool) → Both a b (Pushing text now old mid) → Both b c (GoesOn (Over risen) now next) → IsEnded answer risen
+pub pushed-all : (a b c : Option RowsLeft) (text now next : List ℕ) (old mid : Option (List ℕ)) (answer : Result Unit WaveFault)
+    (risen : Bool) → Both a b (Pushing text now old mid) → Both b c (RowsGoOn (Over risen) now next) → IsEnded answer risen
     → IfSome a (λ left. IsPushed answer left text next old mid)
 pushed-all None b c text now next old mid answer risen so_far goes ended = tt
 pushed-all (Some x) None c text now next old mid answer risen so_far goes ended = absurd so_far
@@ -73,7 +73,7 @@ pushed-all (Some x) (Some y) (Some z) text now next old mid (Err wave.Write) ris
 pushed-all (Some x) (Some y) (Some z) text now next old mid (Err wave.Memory) risen so_far goes ended = absurd ended
 
 -- rows end before the dump does
-pub pushed-fault : (a b : Option Left) (text now next : List ℕ) (old mid : Option (List ℕ)) (fault : RowsFault)
+pub pushed-fault : (a b : Option RowsLeft) (text now next : List ℕ) (old mid : Option (List ℕ)) (fault : RowsFault)
     → Both a b (Pushing text now old mid) → IfSome b (Stops fault now next)
     → IfSome a (λ left. IsPushed (Err (of_rows fault)) left text next old mid)
 pushed-fault None b text now next old mid fault so_far stops = tt
@@ -94,8 +94,8 @@ pushed-fault (Some x) (Some y) text now next old mid rows.Memory so_far stops =
     record { front = so_far.front; rest = now ++ y.text; is = so_far.is; written = so_far.written }
 
 -- a write failed
-pub pushed-part : (a b c : Option Left) (text now next : List ℕ) (old mid new : Option (List ℕ))
-    → Both a b (Pushing text now old mid) → Both b c (GoesOn More now next) → AppendsFront mid new next
+pub pushed-part : (a b c : Option RowsLeft) (text now next : List ℕ) (old mid new : Option (List ℕ))
+    → Both a b (Pushing text now old mid) → Both b c (RowsGoOn More now next) → AppendsFront mid new next
     → (last : List ℕ) → IfSome a (λ left. IsPushed (Err wave.Write) left text last old new)
 pushed-part None b c text now next old mid new so_far goes part last = tt
 pushed-part (Some x) None c text now next old mid new so_far goes part last = absurd so_far
@@ -111,7 +111,7 @@ pushed-part (Some x) (Some y) (Some z) text now next old mid new so_far goes par
 }
 
 -- nothing was read for too long
-pub pushed-long : (a b : Option Left) (text now : List ℕ) (old mid : Option (List ℕ))
+pub pushed-long : (a b : Option RowsLeft) (text now : List ℕ) (old mid : Option (List ℕ))
     → Both a b (Pushing text now old mid) → IfSome a (λ left. IsPushed (Err wave.Read) left text now old mid)
 pushed-long None b text now old mid so_far = tt
 pushed-long (Some x) None text now old mid so_far = absurd so_far
@@ -165,7 +165,7 @@ by-finish answer result mid new rest P cut whole part (inl f) = subst P (sym f.1
 by-finish answer result mid new rest P cut whole part (inr f) =
     elim f.1 [ inl w ↦ subst P (sym w.0) (whole f.0 w.1) | inr w ↦ subst P (sym w.0) (part f.0 w.1) ]
 
-pub out-by : (answer result : Result Unit WaveFault) (left : Left) (text rest : List ℕ) (old mid new : Option (List ℕ))
+pub out-by : (answer result : Result Unit WaveFault) (left : RowsLeft) (text rest : List ℕ) (old mid new : Option (List ℕ))
     → IsPushed answer left text rest old mid → Finishes mid new rest answer result
     → IsOut result (behind text left) old new
 out-by (Ok done) result left text rest old mid new pushed fin =
@@ -212,7 +212,7 @@ out-by (Err (wave.Keys f)) result left text rest old mid new pushed fin = absurd
 out-by (Err (wave.Signal f)) result left text rest old mid new pushed fin = absurd pushed
 
 -- of rows that may be known
-pub out-some : (rows : Option Left) (answer result : Result Unit WaveFault) (text rest : List ℕ)
+pub out-some : (rows : Option RowsLeft) (answer result : Result Unit WaveFault) (text rest : List ℕ)
     (old mid new : Option (List ℕ)) → IfSome rows (λ left. IsPushed answer left text rest old mid)
     → Finishes mid new rest answer result
     → IfSome rows (λ left. IsOut result (behind text left) old new)
@@ -221,12 +221,12 @@ out-some (Some left) answer result text rest old mid new pushed fin =
     out-by answer result left text rest old mid new pushed fin
 
 -- nothing was written, since memory was refused before
-none-out : (rows : Option Left) (at : Option (List ℕ)) (text : List ℕ)
+none-out : (rows : Option RowsLeft) (at : Option (List ℕ)) (text : List ℕ)
     → IfSome rows (λ left. IsOut (Err wave.Memory) (behind text left) at at)
 none-out None at text = tt
 none-out (Some left) at text = record { front = []; rest = text ++ left.text; is = refl; written = Appends-nil at }
 
-pub out-none : (rows : Option Left) (result : Result Unit WaveFault) (at : Option (List ℕ)) (text : List ℕ)
+pub out-none : (rows : Option RowsLeft) (result : Result Unit WaveFault) (at : Option (List ℕ)) (text : List ℕ)
     → IsErrAnd result (λ e. e ≡ wave.Memory)
     → IfSome rows (λ left. IsOut result (behind text left) at at)
 out-none rows (Ok done) at text is = absurd is

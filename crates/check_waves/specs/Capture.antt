@@ -3,7 +3,7 @@ use Rattle.std.specs.Prelude.{◌≡◌, ◌⊎◌, ℕ, ◌+◌, false, List, [
 use Rattle.std.specs.Io.KnownBytes.{Appends}
 use Rattle.check_vcd.specs.Body.{happenings, start}
 use Rattle.check_vcd.specs.Header.{Cut, Opened, Opening, Refused, Var, blank, opening}
-use Rattle.check_vcd.specs.Words.{Word, words_of}
+use Rattle.check_vcd.specs.Words.{Word, dump_words}
 use Rattle.check_vcd.specs.declared.fault.Mistake.{Mistake}
 use Rattle.check_vcd.specs.declared.fault.Mistake.TheVariants.{CutInHeader}
 use Rattle.check_keys.specs.declared.fault.SystemFault.{SystemFault}
@@ -11,13 +11,13 @@ use Rattle.check_description.specs.Description.{Description, IsFirstFaultOf, Mak
 use Rattle.check_description.specs.File.{Parts, parts_of}
 use Rattle.check_description.specs.Name.{AreDistinct, IsFirstPartFault, names_of}
 use Rattle.check_description.specs.declared.read.TheConstants.{MAX_SYSTEM}
-use Rattle.check_samples.specs.Left.{Left, left_of}
+use Rattle.check_samples.specs.Left.{RowsLeft, left_of}
 use Rattle.check_signals.specs.Found.{Found, find_of, found_in, sampling_of}
-use Rattle.check_signals.specs.Names.{Names, names_of_file}
-use Rattle.check_signals.specs.Source.{Fault, fault_view}
+use Rattle.check_signals.specs.Names.{SignalNames, names_of_file}
+use Rattle.check_signals.specs.Source.{SearchFault, fault_view}
 use Rattle.check_signals.specs.declared.fault.KeyFault.{KeyFault}
 use Rattle.tl_streams.specs.Streams.{ReadsUpTo}
-use Rattle.check_waves.specs.Links.{Links, links_of}
+use Rattle.check_waves.specs.Links.{WaveLinks, links_of}
 use Rattle.check_waves.specs.Out.{IsOut, capture_of}
 use Rattle.check_waves.specs.declared.fault.WaveFault.{WaveFault}
 use Rattle.check_waves.specs.declared.fault.WaveFault.TheVariants as wave
@@ -26,28 +26,28 @@ use Rattle.check_waves.specs.declared.fault.WaveFault.TheVariants as wave
 pub data NoRows : Type 0 where
   WrongHeader : ℕ → Mistake → NoRows
   CutHeader : NoRows
-  NotFound : Fault → NoRows
+  NotFound : SearchFault → NoRows
 
 -- the rows of what happens after a header, if this is looked at
-abbrev pub rows_of : List Var → List Word → Found → Left
+abbrev pub rows_of : List Var → List Word → Found → RowsLeft
 rows_of vars words found = left_of (happenings (find_of vars found) words start) (sampling_of found) false
 
-abbrev pub rows_found : List Var → List Word → Result Found Fault → Result Left NoRows
+abbrev pub rows_found : List Var → List Word → Result Found SearchFault → Result RowsLeft NoRows
 rows_found vars words (Ok found) = Ok (rows_of vars words found)
 rows_found vars words (Err fault) = Err (NotFound fault)
 
 -- what the names of all signals find
-abbrev pub found_among : List Var → Links → Result Found Fault
+abbrev pub found_among : List Var → WaveLinks → Result Found SearchFault
 found_among vars links = found_in vars links.masters links.ports links.names
 
-abbrev pub rows_after : Links → Opening → Result Left NoRows
+abbrev pub rows_after : WaveLinks → Opening → Result RowsLeft NoRows
 rows_after links (Opened vars words) = rows_found vars words (found_among vars links)
 rows_after links (Refused line mistake) = Err (WrongHeader line mistake)
 rows_after links Cut = Err CutHeader
 
 -- the rows of a text and what they end with, if a system has these links; or why there are none
-unfoldable pub rows_in : Links → List ℕ → Result Left NoRows
-rows_in links text = rows_after links (opening (words_of text) blank)
+unfoldable pub rows_in : WaveLinks → List ℕ → Result RowsLeft NoRows
+rows_in links text = rows_after links (opening (dump_words text) blank)
 
 -- ---- the system
 
@@ -69,12 +69,12 @@ IsFirstSystemFault file fault =
 
 -- the reader gave a file that describes a system and says where its signals are: all that it had, or a byte more than a
 -- file may have. These are its links
-pub record GivesLinks (old new : Option (List ℕ)) (links : Links) : Type 0 where
+pub record GivesLinks (old new : Option (List ℕ)) (links : WaveLinks) : Type 0 where
   pub file : List ℕ
   pub read : ReadsUpTo (MAX_SYSTEM + 1) old new file
   pub system : Description
   pub described : Describes file system
-  pub names : Names
+  pub names : SignalNames
   pub named : names_of_file file ≡ Ok names
   pub are : links ≡ links_of system names
 
@@ -95,13 +95,13 @@ pub record HasKeyFault (old new : Option (List ℕ)) (fault : KeyFault) : Type 0
 -- ---- the dump
 
 -- the header is wrong so, or it is cut
-abbrev pub IsNoHeader : Links → List ℕ → ℕ → Mistake → Type 0
+abbrev pub IsNoHeader : WaveLinks → List ℕ → ℕ → Mistake → Type 0
 IsNoHeader links text line mistake =
     (rows_in links text ≡ Err (WrongHeader line mistake))
     ⊎ ((rows_in links text ≡ Err CutHeader) × (mistake ≡ CutInHeader))
 
 -- why there are no rows: the header is wrong; the first signal that is not found; or it is nothing of the dump's text
-abbrev pub IsUnopened : Links → WaveFault → List ℕ → Type 0
+abbrev pub IsUnopened : WaveLinks → WaveFault → List ℕ → Type 0
 IsUnopened links (wave.System fault) text = ⊥
 IsUnopened links (wave.Keys fault) text = ⊥
 IsUnopened links (wave.Signal fault) text = rows_in links text ≡ Err (NotFound (fault_view fault))
@@ -126,14 +126,14 @@ IsOfSystem old new wave.Memory = ⊤
 
 -- the system has these links, and there are no rows of the dump by them
 pub record IsOfDump (old new : Option (List ℕ)) (fault : WaveFault) (text : List ℕ) : Type 0 where
-  pub links : Links
+  pub links : WaveLinks
   pub given : GivesLinks old new links
   pub why : IsUnopened links fault text
 
 -- ---- what is promised, of a system as it is read and of the text of a dump
 
 -- nothing was written: the system is wrong, or else the dump is
-pub record IsRefused (read_old read_new : Option (List ℕ)) (fault : WaveFault) (text : List ℕ)
+pub record IsWaveRefused (read_old read_new : Option (List ℕ)) (fault : WaveFault) (text : List ℕ)
     (old new : Option (List ℕ)) : Type 0 where
   pub why : IsOfSystem read_old read_new fault ⊎ IsOfDump read_old read_new fault text
   pub written : Appends old new []
@@ -141,9 +141,9 @@ pub record IsRefused (read_old read_new : Option (List ℕ)) (fault : WaveFault)
 -- the system has these links, and the capture of the text was written, as far as is answered
 pub record IsWritten (read_old read_new : Option (List ℕ)) (result : Result Unit WaveFault) (text : List ℕ)
     (old new : Option (List ℕ)) : Type 0 where
-  pub links : Links
+  pub links : WaveLinks
   pub given : GivesLinks read_old read_new links
-  pub left : Left
+  pub left : RowsLeft
   pub has : rows_in links text ≡ Ok left
   pub out : IsOut result (capture_of left) old new
 
@@ -151,11 +151,11 @@ abbrev pub IsCapture : Option (List ℕ) → Option (List ℕ) → Result Unit W
     → Option (List ℕ) → Type 0
 IsCapture read_old read_new (Ok done) text old new = IsWritten read_old read_new (Ok done) text old new
 IsCapture read_old read_new (Err fault) text old new =
-    IsRefused read_old read_new fault text old new ⊎ IsWritten read_old read_new (Err fault) text old new
+    IsWaveRefused read_old read_new fault text old new ⊎ IsWritten read_old read_new (Err fault) text old new
 
 -- ---- for the proofs
 
 -- a dump was opened, and these rows are to come
-abbrev pub IsOpened : Links → Option Left → List ℕ → Type 0
+abbrev pub IsOpened : WaveLinks → Option RowsLeft → List ℕ → Type 0
 IsOpened links None text = ⊥
 IsOpened links (Some left) text = rows_in links text ≡ Ok left

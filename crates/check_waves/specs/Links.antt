@@ -4,14 +4,14 @@ use Rattle.check_beats.specs.declared.bus.Bus.{Bus}
 use Rattle.check_description.specs.Port.{Port}
 use Rattle.check_description.specs.Description.{Description}
 use Rattle.check_description.specs.Master.{Master}
-use Rattle.check_signals.specs.Names.{Names, names_view}
-use Rattle.check_waves.specs.declared.system.Links as code_links
+use Rattle.check_signals.specs.Names.{SignalNames, names_view}
+use Rattle.check_waves.specs.declared.system.WaveLinks as code_links
 
 -- the buses of the masters' links and of the ports', and the names of all signals
-pub record Links : Type 0 where
+pub record WaveLinks : Type 0 where
   pub masters : List Bus
   pub ports : List Bus
-  pub names : Names
+  pub names : SignalNames
 
 abbrev pub master_buses : List Master → List Bus
 master_buses masters = map (λ (master : Master). master.bus) masters
@@ -20,12 +20,12 @@ abbrev pub port_buses : List Port → List Bus
 port_buses ports = map (λ (port : Port). port.bus) ports
 
 -- the links of a system whose signals have these names
-abbrev pub links_of : Description → Names → Links
+abbrev pub links_of : Description → SignalNames → WaveLinks
 links_of system names =
     record { masters = master_buses system.masters; ports = port_buses system.ports; names = names }
 
 -- what contracts see
-abbrev pub links_view : code_links.Links → Links
+abbrev pub links_view : code_links.WaveLinks → WaveLinks
 links_view links = record {
   masters = links.master_buses.items;
   ports = links.port_buses.items;

@@ -2,8 +2,8 @@
 use Rattle.std.specs.Prelude.{◌≡◌, ◌⊎◌, ℕ, Bool, true, false, List, ◌++◌, Option, Result, Ok, Err}
 use Rattle.std.specs.Io.KnownBytes.{Appends}
 use Rattle.tl_streams.specs.Streams.{AppendsPart}
-use Rattle.check_samples.specs.Left.{BeforeBeat, BeforeLine, Left, Whole}
-use Rattle.check_waves.specs.declared.engine.TheConstants.{HEADER}
+use Rattle.check_rows.specs.Column.{header_line}
+use Rattle.check_samples.specs.Left.{BeforeBeat, BeforeLine, RowsLeft, Whole}
 use Rattle.check_waves.specs.declared.fault.WaveFault.{WaveFault}
 use Rattle.check_waves.specs.declared.fault.WaveFault.TheVariants as wave
 
@@ -15,12 +15,12 @@ pub record AppendsFront (old new : Option (List ℕ)) (bytes : List ℕ) : Type 
   pub written : Appends old new front
 
 -- a capture: the header, and the rows that are to come
-abbrev pub capture_of : Left → Left
-capture_of left = record { text = HEADER.now ++ left.text; end = left.end; rises = left.rises }
+abbrev pub capture_of : RowsLeft → RowsLeft
+capture_of left = record { text = header_line ++ left.text; end = left.end; rises = left.rises }
 
 -- what is written of rows that were to come, if this is answered: all of them, and they end so; or a front of them.
 -- Where they end with the dump, its clock rises at some time, or else it is answered that it never does
-abbrev pub IsOut : Result Unit WaveFault → Left → Option (List ℕ) → Option (List ℕ) → Type 0
+abbrev pub IsOut : Result Unit WaveFault → RowsLeft → Option (List ℕ) → Option (List ℕ) → Type 0
 IsOut (Ok done) left old new = Appends old new left.text × (left.end ≡ Whole) × (left.rises ≡ true)
 IsOut (Err (wave.Unknown unknown)) left old new = Appends old new left.text × (left.end ≡ BeforeBeat unknown)
 IsOut (Err (wave.Dump line mistake)) left old new = Appends old new left.text × (left.end ≡ BeforeLine line mistake)
@@ -46,7 +46,7 @@ pub record MovesOn (old new : Option (List ℕ)) (text left : List ℕ) : Type 0
   pub moves : Moves old new text (left ++ more)
 
 -- the rows after a text were written, but for what is left of that, if this is answered
-abbrev pub IsPushed : Result Unit WaveFault → Left → List ℕ → List ℕ → Option (List ℕ) → Option (List ℕ) → Type 0
+abbrev pub IsPushed : Result Unit WaveFault → RowsLeft → List ℕ → List ℕ → Option (List ℕ) → Option (List ℕ) → Type 0
 IsPushed (Ok done) left text rest old new =
     Moves old new (text ++ left.text) rest × (left.end ≡ Whole) × (left.rises ≡ true)
 IsPushed (Err (wave.Unknown unknown)) left text rest old new =
@@ -76,7 +76,7 @@ IsEnded (Err wave.Write) risen = ⊥
 IsEnded (Err wave.Memory) risen = ⊥
 
 -- the rows after a text, after some were taken: those are written but for this text, and these are left
-pub record Pushing (text now : List ℕ) (old new : Option (List ℕ)) (from to : Left) : Type 0 where
+pub record Pushing (text now : List ℕ) (old new : Option (List ℕ)) (from to : RowsLeft) : Type 0 where
   pub front : List ℕ
   pub is : text ++ from.text ≡ front ++ (now ++ to.text)
   pub end : to.end ≡ from.end

@@ -10,7 +10,7 @@ ghost use Rattle.check_waves.specs.Links.{links_view};
 ghost use Rattle.check_waves.specs.Out.{AppendsFront, Finishes, IsEnded, IsOut, IsPushed, Moves, capture_of, is_cut};
 
 use crate::fault::WaveFault;
-use crate::system::{Links, read_links};
+use crate::system::{WaveLinks, read_links};
 use check_rows::Buses;
 use check_samples::{Progress, Rows, Sampler};
 use check_signals::find_signals;
@@ -66,7 +66,7 @@ fn sampler_of<D: Read + Drop>(
     alloc: Global,
     dump: &mut Dump<D>,
     vars: &[Var],
-    links: &Links,
+    links: &WaveLinks,
 ) -> Result<Sampler, WaveFault>
     ensures ok { (text : Option (List ℕ)) → Opens text (map var_view vars.now) dump.old
         → IfOk result (λ sampler. IfSome text
@@ -84,7 +84,7 @@ fn sampler_of<D: Read + Drop>(
 }
 
 /// Opens a dump; answers the rows that are to come of it.
-fn open<D: Read + Drop>(alloc: Global, reader: D, links: &Links) -> Result<Rows<D>, WaveFault>
+fn open<D: Read + Drop>(alloc: Global, reader: D, links: &WaveLinks) -> Result<Rows<D>, WaveFault>
     ensures ok { IfOk result (λ rows. IfSome (D.remaining reader) (IsOpened (links_view links.now) rows)) }
     ensures fault { IfErr result (λ fault. IfSome (D.remaining reader)
         (IsUnopened (links_view links.now) fault)) }
@@ -245,7 +245,7 @@ fn write_within<S: Read, D: Read + Drop, W: Write>(
 fn write_linked<D: Read + Drop, W: Write>(
     alloc: Global,
     dump: D,
-    links: &Links,
+    links: &WaveLinks,
     writer: &mut LimitedWriter<'_, W>,
 ) -> Result<(), WaveFault>
     ensures same_writer { writer.new.writer.ghost_name ≡ writer.old.writer.ghost_name }

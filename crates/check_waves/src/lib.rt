@@ -3,7 +3,7 @@
 //! SYSTEM is a system file that says where the signals of each link are (`check_signals`); DUMP is a dump (`check_vcd`).
 //! [`write_capture`] carries the theorem: the capture is the header, and a row for each beat that crosses a link at a rising
 //! edge of the clock (`check_samples`), as the definitions say over the bytes of both files. A fault is one line, and the
-//! rows before it are written. [`read_options`] reads the command line, and [`ended`] says with which status the program
+//! rows before it are written. [`read_wave_options`] reads the command line, and [`end_waves`] says with which status the program
 //! ends. Read on in `docs/CAPTURE.md`, "Your own design".
 //!
 //! It is a library, so that its tests stand in a crate above it (`check_program_tests`): a crate with tests is proved
@@ -18,5 +18,5 @@ mod system;
 
 pub use engine::write_capture;
 pub use fault::WaveFault;
-pub use options::{Options, read_options};
-pub use program::ended;
+pub use options::{WaveOptions, read_wave_options};
+pub use program::end_waves;

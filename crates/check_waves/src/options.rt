@@ -12,7 +12,7 @@ not be opened, read or written.";
 
 /// What the command line asks for.
 #[derive(Clone, Copy, Debug, PartialEq, Eq)]
-pub struct Options<'a> {
+pub struct WaveOptions<'a> {
     /// The file with the system.
     pub system: &'a str,
     /// The file with the dump; if there is none it comes on standard input.
@@ -55,13 +55,16 @@ fn command<'a>(alloc: Global) -> Result<Command<'a>, AllocError> {
 ///
 /// Errors: help or the version that was asked for, an unknown option, no SYSTEM, or a stray word; each is clap's own
 /// text.
-pub fn read_options<'a>(alloc: Global, words: &'a [&'a str]) -> Result<Options<'a>, Error> {
+pub fn read_wave_options<'a>(
+    alloc: Global,
+    words: &'a [&'a str],
+) -> Result<WaveOptions<'a>, Error> {
     let matches = command(alloc)?.try_get_matches_from(words)?;
     let dump = match matches.get_str("dump") {
         Some("-") => None,
         name => name,
     };
-    Ok(Options {
+    Ok(WaveOptions {
         system: matches.get_str("system").unwrap_or(""),
         dump,
     })

@@ -9,7 +9,7 @@ use std::process::ExitCode;
 use tl_streams::fail;
 
 /// Ends the program after all rows were written, or with the line and the status of a fault.
-pub fn ended<R: Eprint>(rt: &R, outcome: Result<(), WaveFault>) -> ExitCode
+pub fn end_waves<R: Eprint>(rt: &R, outcome: Result<(), WaveFault>) -> ExitCode
     ensures done { OnOk outcome (exit_status result ≡ 0) }
     ensures fault { IfErr outcome (λ fault. exit_status result ≡ status_of fault) }
 {

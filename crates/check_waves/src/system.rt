@@ -11,17 +11,17 @@ ghost use Rattle.check_waves.specs.Links.{links_of as links_of_system, links_vie
 use crate::fault::WaveFault;
 use check_beats::Bus;
 use check_description::{Description, MAX_SYSTEM, Master, Port, describe, read_parts};
-use check_signals::{Names, read_names};
+use check_signals::{SignalNames, read_names};
 use std::alloc::{AllocError, Global};
 use std::io::Read;
 use tl_streams::{LimitedReader, read_up_to};
 
 /// The buses of a system's links, and the names of its signals.
 #[derive(Drop)]
-pub struct Links {
+pub struct WaveLinks {
     pub master_buses: Vec<Bus>,
     pub port_buses: Vec<Bus>,
-    pub names: Names,
+    pub names: SignalNames,
 }
 
 /// The buses of the masters' links.
@@ -47,10 +47,14 @@ fn port_buses(alloc: Global, ports: &[Port]) -> Result<Vec<Bus>, AllocError>
 }
 
 /// The links of a system whose signals have these names.
-fn links_of(alloc: Global, system: &Description, names: Names) -> Result<Links, AllocError>
+fn links_of(
+    alloc: Global,
+    system: &Description,
+    names: SignalNames,
+) -> Result<WaveLinks, AllocError>
     ensures { IfOk result (λ links. links_view links ≡ links_of_system system.now (names_view names)) }
 {
-    Ok(Links {
+    Ok(WaveLinks {
         master_buses: master_buses(alloc, system.masters())?,
         port_buses: port_buses(alloc, system.ports())?,
         names,
@@ -58,7 +62,7 @@ fn links_of(alloc: Global, system: &Description, names: Names) -> Result<Links, 
 }
 
 /// The links of the system that a file describes, with the names that it gives.
-fn named_links(alloc: Global, system: &Description, bytes: &[u8]) -> Result<Links, WaveFault>
+fn named_links(alloc: Global, system: &Description, bytes: &[u8]) -> Result<WaveLinks, WaveFault>
     ensures ok { (old new : Option (List ℕ)) → ReadsUpTo (MAX_SYSTEM + 1) old new bytes.now
         → Describes bytes.now system.now → IfOk result (λ links. GivesLinks old new (links_view links)) }
     ensures fault { (old new : Option (List ℕ)) → ReadsUpTo (MAX_SYSTEM + 1) old new bytes.now
@@ -69,7 +73,7 @@ fn named_links(alloc: Global, system: &Description, bytes: &[u8]) -> Result<Link
 }
 
 /// What the bytes of a system file say of its links.
-fn links_in(alloc: Global, bytes: &[u8]) -> Result<Links, WaveFault>
+fn links_in(alloc: Global, bytes: &[u8]) -> Result<WaveLinks, WaveFault>
     ensures ok { (old new : Option (List ℕ)) → ReadsUpTo (MAX_SYSTEM + 1) old new bytes.now
         → IfOk result (λ links. GivesLinks old new (links_view links)) }
     ensures fault { (old new : Option (List ℕ)) → ReadsUpTo (MAX_SYSTEM + 1) old new bytes.now
@@ -85,7 +89,7 @@ fn links_in(alloc: Global, bytes: &[u8]) -> Result<Links, WaveFault>
 pub fn read_links<S: Read>(
     alloc: Global,
     reader: &mut LimitedReader<'_, S>,
-) -> Result<Links, WaveFault>
+) -> Result<WaveLinks, WaveFault>
     ensures same { reader.new.reader.ghost_name ≡ reader.old.reader.ghost_name }
     ensures ok { IfOk result (λ links. GivesLinks (S.remaining reader.old.reader.now)
         (S.remaining reader.new.reader.now) (links_view links)) }

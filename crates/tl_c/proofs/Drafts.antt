@@ -4,7 +4,7 @@ use Rattle.std.specs.declared.alloc.Global.{Global}
 use Rattle.std.proofs.lemmas.Bool.Decides.{nat_tests}
 use Rattle.std.proofs.lemmas.List.{length-replicate, length-set, map-set, replicate-append-replicate}
 use Rattle.check_flight.specs.declared.order.Order.{Order}
-use Rattle.check_keys.specs.Reading.{◌>>=◌}
+use Rattle.tl_text.specs.Reading.{◌>>=◌}
 use Rattle.check_keys.specs.declared.fault.SystemFault.{SystemFault}
 use Rattle.check_description.specs.Port.{Port}
 use Rattle.check_description.specs.Ranges.{first_length}
@@ -12,9 +12,9 @@ use Rattle.check_description.specs.Slave.{error_slave}
 use Rattle.check_start.specs.Slaves.{image_at, slaves_at_reset, slaves_from}
 use Rattle.check_description.specs.File.{Parts}
 use Rattle.tl_c.specs.Calls.{HoldsDraft}
-use Rattle.tl_c.specs.Draft.{DraftView, IsDraft, bytes_in, fault_at, image_fault, slots_of, with_image}
-use Rattle.tl_c.specs.declared.held.Held.{Held}
-use Rattle.tl_c.specs.declared.held.Held.TheVariants as held
+use Rattle.tl_c.specs.Draft.{DraftView, IsDraft, image_bytes, fault_at, image_fault, slots_of, with_image}
+use Rattle.tl_c.specs.declared.held.HandleContent.{HandleContent}
+use Rattle.tl_c.specs.declared.held.HandleContent.TheVariants as held
 
 -- ---- before any image is handed in
 
@@ -22,7 +22,7 @@ pub replicate_more : {A : Type 0} (n : ℕ) (x : A) → replicate n x ++ x ∷ [
 replicate_more n x = replicate-append-replicate n 1 x
 
 -- no bytes are given of any port
-pub none_at : (n port : ℕ) → image_at (bytes_in (replicate n None)) port ≡ []
+pub none_at : (n port : ℕ) → image_at (image_bytes (replicate n None)) port ≡ []
 none_at zero port = refl
 none_at (suc n) zero = refl
 none_at (suc n) (suc port) = none_at n port
@@ -48,7 +48,7 @@ slots_set images port bytes =
 
 -- the bytes of images, one of them set
 pub bytes_set : (images : List (Option (List ℕ))) (port : ℕ) (bytes : List ℕ)
-    → bytes_in (slice_set images port (Some bytes)) ≡ slice_set (bytes_in images) port bytes
+    → image_bytes (slice_set images port (Some bytes)) ≡ slice_set (image_bytes images) port bytes
 bytes_set images port bytes = map-set (λ (image : Option (List ℕ)). unwrap_or image []) images port (Some bytes)
 
 pub set_fits : (images : List (List ℕ)) (ports : List Port) (port : ℕ) (bytes : List ℕ)
@@ -71,7 +71,7 @@ put_is_draft draft port bytes is none = record {
   fits = λ other said here.
       let P : List (List ℕ) → Type 0 = λ l. length (image_at l other) ≤ first_length said.ranges in
       subst P (sym (bytes_set draft.images port bytes))
-      (set_fits (bytes_in draft.images) draft.parts.ports port bytes is.fits
+      (set_fits (image_bytes draft.images) draft.parts.ports port bytes is.fits
       (λ at there. taken_fits port (length bytes) at (subst (λ p. fault_at port (length bytes) p ≡ None) there none)) other said
       here);
 }
@@ -111,7 +111,7 @@ slaves_are order images ports fit fault is =
 -- ---- what a handle holds
 
 -- what is so of a draft, by what else is so of it
-pub holds_draft : (P Q : DraftView → Type 0) (value : Option Held) → ((draft : DraftView) → P draft → Q draft)
+pub holds_draft : (P Q : DraftView → Type 0) (value : Option HandleContent) → ((draft : DraftView) → P draft → Q draft)
     → HoldsDraft P value → HoldsDraft Q value
 holds_draft P Q (Some (held.System s)) more is = is
 holds_draft P Q (Some (held.Draft d)) more is = more d is

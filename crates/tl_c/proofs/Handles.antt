@@ -25,8 +25,8 @@ use Rattle.std.specs.contracts.alloc.Global as heap
 use Rattle.std.proofs.alloc.Global.TheLaws as heap_laws
 use Rattle.std.specs.contracts.impls.GlobalAllocator.TheImpl.{ghosts}
 use Rattle.std_alloc.proofs.ResultValues.{and_tt}
-use Rattle.tl_c.specs.Handle.{holds}
-use Rattle.tl_c.specs.contracts.held.Held as held
+use Rattle.tl_c.specs.Handle.{handle_holds}
+use Rattle.tl_c.specs.contracts.held.HandleContent as held
 use Rattle.tl_c.specs.contracts.handle.Handle as handle
 use Rattle.tl_c.proofs.Values.{Loose}
 
@@ -55,7 +55,7 @@ shut_good null_ptr y h fits = (and_tt (has_ty (layout Z) h) fits.0, ((Ptr-Good n
 module _ {M : Type 1} {𝓤 : Ura M} {𝓛 : Logic 𝓤} {K : Type 0} {Γ : List (Item 𝓤)} {G : Goal 𝓤 𝓛.H} where
   pub shut_out : K → (d : Shut.Denot) (vs : List Val)
       → ((h : Val) → vs ≡ three (ptr_val d.at) (vbool d.live) h ∷ [] → Good (layout Z) h
-      → Seq K 𝓛 (‵ (holds R d.alloc d.at d.live d.value) ∷ ‵ (Z.own_val d.alloc (h ∷ [])) ∷ Γ) G)
+      → Seq K 𝓛 (‵ (handle_holds R d.alloc d.at d.live d.value) ∷ ‵ (Z.own_val d.alloc (h ∷ [])) ∷ Γ) G)
       → Seq K 𝓛 (‵ (Shut.own_val d vs) ∷ Γ) G
   shut_out t d vs k =
       fsplit t $ fpick t (λ vss. fsplit t $ feq_l t
@@ -68,7 +68,7 @@ module _ {M : Type 1} {𝓤 : Ura M} {𝓛 : Logic 𝓤} {K : Type 0} {Γ : List
 
   pub shut_in : K → (p : Ptr) (y : Bool) (h : Val) (a : Z.Denot) (x : Option R.Denot)
       → Step K 𝓛 (‵ (Shut.own_val (record { at = p; live = y; alloc = a; value = x })
-      (three (ptr_val p) (vbool y) h ∷ [])) ∷ Γ) G (‵ (holds R a p y x) ∷ ‵ (Z.own_val a (h ∷ [])) ∷ Γ) G
+      (three (ptr_val p) (vbool y) h ∷ [])) ∷ Γ) G (‵ (handle_holds R a p y x) ∷ ‵ (Z.own_val a (h ∷ [])) ∷ Γ) G
   shut_in t p y h a x = step (λ s. let v : Val = three (ptr_val p) (vbool y) h in
       nothing t $ move t (2 ∷ 0 ∷ []) $ fjoin t $ feq_i t (List Val) (vbool y ∷ [])
       (vbool y ∷ []) refl $ fjoin t $ feq_i t (List Val) (ptr_val p ∷ []) (ptr_val p ∷ []) refl $ fjoin t $ feq_i t
@@ -82,7 +82,7 @@ module _ {M : Type 1} {𝓤 : Ura M} {𝓛 : Logic 𝓤} {K : Type 0} {Γ : List
       → (x ≡ None → y ≡ false → Seq K 𝓛 Γ G)
       → ((b o : ℕ) (e : R.Denot) → x ≡ Some e → y ≡ true → p ≡ block_ptr b o
       → Seq K 𝓛 (‵ (box_owns (ghosts.dealloc_token a) R (block_ptr b o) e) ∷ Γ) G)
-      → Seq K 𝓛 (‵ (holds R a p y x) ∷ Γ) G
+      → Seq K 𝓛 (‵ (handle_holds R a p y x) ∷ Γ) G
   opened t a p y None none some = feq_l t (λ e. none refl e)
   opened t a p y (Some x) none some = fsplit t $ feq_l t (λ e.
       in_a_block t p (λ at. box_owns (ghosts.dealloc_token a) R at x)

@@ -10,7 +10,7 @@ use Rattle.tl_types.specs.Bytes.{given_byte, given_in}
 use Rattle.tl_types.specs.Operation.{byte_count, may_leave_unset}
 use Rattle.tl_types.specs.Wire.{IsCodeOf}
 use Rattle.tl_types.specs.declared.operation.AskOp.{AskOp}
-use Rattle.tl_c.specs.Wire.{IsAskOf, byte_at}
+use Rattle.tl_c.specs.Wire.{IsWireAsk, byte_at}
 use Rattle.tl_c.specs.declared.wire.WireAsk.{WireAsk}
 
 -- ---- where some may be left unset
@@ -71,7 +71,7 @@ all_given bytes = All-map (λ b. IsSome b) (λ byte. Some byte) bytes (λ k d wi
 
 pub is_flagged : (wire : WireAsk) (op : AskOp) (n : ℕ) → IsCodeOf op wire.opcode wire.param
     → n ≡ byte_count op wire.size → n ≤ length wire.bytes → true ≡ may_leave_unset op
-    → IsAskOf wire (record {
+    → IsWireAsk wire (record {
       op = op;
       size = wire.size;
       source = wire.source;
@@ -89,7 +89,7 @@ is_flagged wire op n code count within unset = record {
 
 pub is_plain : (wire : WireAsk) (op : AskOp) (n : ℕ) → IsCodeOf op wire.opcode wire.param → n ≡ byte_count op wire.size
     → n ≤ length wire.bytes → false ≡ may_leave_unset op
-    → IsAskOf wire (record {
+    → IsWireAsk wire (record {
       op = op;
       size = wire.size;
       source = wire.source;

@@ -1,7 +1,7 @@
 -- What each call makes of what a handle holds. This project's own.
 use Rattle.std.specs.Prelude.{◌≡◌, ◌≢◌, ◌<◌, ◌⊎◌, ⊤, ℕ, List, Option, Some, None}
 use Rattle.tl_model.specs.Crossbar.{CrossbarState, Accepts, IsFirstServeFault, IsServed}
-use Rattle.tl_model.specs.declared.crossbar.Answer.{Answer}
+use Rattle.tl_model.specs.declared.crossbar.ModelAnswer.{ModelAnswer}
 use Rattle.tl_model.specs.declared.fault.ServeFault.{ServeFault}
 use Rattle.tl_script.specs.Script.{IsFirstScriptFault}
 use Rattle.tl_script.specs.System.{System}
@@ -11,39 +11,39 @@ use Rattle.check_description.specs.Name.{IsFirstPartFault}
 use Rattle.check_keys.specs.declared.fault.SystemFault.{SystemFault}
 use Rattle.tl_c.specs.Draft.{DraftView, IsDraftFault, IsFirstFileFault}
 use Rattle.tl_c.specs.Numbers.{file_number, image_number, script_number, serve_number}
-use Rattle.tl_c.specs.Wire.{IsAnswerOf, IsAskOf}
+use Rattle.tl_c.specs.Wire.{IsWireAnswer, IsWireAsk}
 use Rattle.tl_c.specs.declared.draft.ImageFault.{ImageFault}
 use Rattle.tl_c.specs.declared.fault.TheConstants.{MEMORY, OK, OTHER_VERSION}
-use Rattle.tl_c.specs.declared.held.Held.{Held}
-use Rattle.tl_c.specs.declared.held.Held.TheVariants as held
-use Rattle.tl_c.specs.declared.held.Judge.{Judge}
+use Rattle.tl_c.specs.declared.held.HandleContent.{HandleContent}
+use Rattle.tl_c.specs.declared.held.HandleContent.TheVariants as held
+use Rattle.tl_c.specs.declared.held.HeldJudge.{HeldJudge}
 use Rattle.tl_c.specs.declared.wire.WireAnswer.{WireAnswer}
 use Rattle.tl_c.specs.declared.wire.WireAsk.{WireAsk}
 
 -- ---- what a handle holds, of each kind
 
-abbrev pub HoldsSystem : (System → Type 0) → Option Held → Type 0
+abbrev pub HoldsSystem : (System → Type 0) → Option HandleContent → Type 0
 HoldsSystem Is (Some (held.System s)) = Is s
 HoldsSystem Is (Some (held.Draft d)) = ⊥
 HoldsSystem Is (Some (held.Model c)) = ⊥
 HoldsSystem Is (Some (held.Judge j)) = ⊥
 HoldsSystem Is None = ⊥
 
-abbrev pub HoldsDraft : (DraftView → Type 0) → Option Held → Type 0
+abbrev pub HoldsDraft : (DraftView → Type 0) → Option HandleContent → Type 0
 HoldsDraft Is (Some (held.System s)) = ⊥
 HoldsDraft Is (Some (held.Draft d)) = Is d
 HoldsDraft Is (Some (held.Model c)) = ⊥
 HoldsDraft Is (Some (held.Judge j)) = ⊥
 HoldsDraft Is None = ⊥
 
-abbrev pub HoldsModel : (CrossbarState → Type 0) → Option Held → Type 0
+abbrev pub HoldsModel : (CrossbarState → Type 0) → Option HandleContent → Type 0
 HoldsModel Is (Some (held.System s)) = ⊥
 HoldsModel Is (Some (held.Draft d)) = ⊥
 HoldsModel Is (Some (held.Model c)) = Is c
 HoldsModel Is (Some (held.Judge j)) = ⊥
 HoldsModel Is None = ⊥
 
-abbrev pub HoldsJudge : (Judge → Type 0) → Option Held → Type 0
+abbrev pub HoldsJudge : (HeldJudge → Type 0) → Option HandleContent → Type 0
 HoldsJudge Is (Some (held.System s)) = ⊥
 HoldsJudge Is (Some (held.Draft d)) = ⊥
 HoldsJudge Is (Some (held.Model c)) = ⊥
@@ -51,16 +51,16 @@ HoldsJudge Is (Some (held.Judge j)) = Is j
 HoldsJudge Is None = ⊥
 
 -- it holds one of that kind at all
-abbrev pub IsSystem : Option Held → Type 0
+abbrev pub IsSystem : Option HandleContent → Type 0
 IsSystem = HoldsSystem (λ _. ⊤)
 
-abbrev pub HasDraft : Option Held → Type 0
+abbrev pub HasDraft : Option HandleContent → Type 0
 HasDraft = HoldsDraft (λ _. ⊤)
 
-abbrev pub IsModel : Option Held → Type 0
+abbrev pub IsModel : Option HandleContent → Type 0
 IsModel = HoldsModel (λ _. ⊤)
 
-abbrev pub IsJudge : Option Held → Type 0
+abbrev pub IsJudge : Option HandleContent → Type 0
 IsJudge = HoldsJudge (λ _. ⊤)
 
 -- ---- scripts
@@ -78,16 +78,16 @@ IsScriptAnswer script number =
 pub record IsServedBy (old : CrossbarState) (master : ℕ) (wire : WireAsk) (answer : WireAnswer)
     (new : CrossbarState) : Type 0 where
   pub ask : Request
-  pub spelled : IsAskOf wire ask
+  pub spelled : IsWireAsk wire ask
   pub accepted : Accepts old master ask
-  pub given : Answer
+  pub given : ModelAnswer
   pub served : IsServed old ask given new
-  pub told : IsAnswerOf answer given.port given.place given.reply
+  pub told : IsWireAnswer answer given.port given.place given.reply
 
 -- the number is that of the request's first fault
 pub record IsRefusedBy (old : CrossbarState) (master : ℕ) (wire : WireAsk) (number : ℕ) : Type 0 where
   pub ask : Request
-  pub spelled : IsAskOf wire ask
+  pub spelled : IsWireAsk wire ask
   pub fault : ServeFault
   pub number_is : number ≡ serve_number fault
   pub first : IsFirstServeFault old master ask fault

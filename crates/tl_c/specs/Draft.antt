@@ -22,14 +22,14 @@ abbrev pub slots_of : List (Option (Vec ℕ Global)) → List (Option (List ℕ)
 slots_of images = map (λ (image : Option (Vec ℕ Global)). option_map (λ bytes. bytes.items) image) images
 
 -- the bytes of each port's image, none of one that has none
-abbrev pub bytes_in : List (Option (List ℕ)) → List (List ℕ)
-bytes_in images = map (λ (image : Option (List ℕ)). unwrap_or image []) images
+abbrev pub image_bytes : List (Option (List ℕ)) → List (List ℕ)
+image_bytes images = map (λ (image : Option (List ℕ)). unwrap_or image []) images
 
 -- there is a place for each port's image, and none is longer than the port's first range
 pub record IsDraft (draft : DraftView) : Type 0 where
   pub sized : length draft.images ≡ length draft.parts.ports
   pub fits : (port : ℕ) (said : Port) → slice_get draft.parts.ports port ≡ Some said
-      → length (image_at (bytes_in draft.images) port) ≤ first_length said.ranges
+      → length (image_at (image_bytes draft.images) port) ≤ first_length said.ranges
 
 -- what a file names, no two of the same name, before any image is handed in
 pub record IsDraftOf (file : List ℕ) (draft : DraftView) : Type 0 where

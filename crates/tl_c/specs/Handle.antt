@@ -9,9 +9,9 @@ use Rattle.std.specs.declared.alloc.Global.{Global}
 use Rattle.std.specs.Box.Ownership.{box_owns}
 
 -- nothing if it is empty; else the value at its pointer, and the right to free its block
-abbrev pub holds : (R : RattleType) → Global → Ptr → Bool → Option R.Denot → Fml
-holds R alloc p live None = feq Bool live false
-holds R alloc p live (Some x) = fsep (feq Bool live true) (box_owns (ghosts.dealloc_token alloc) R p x)
+abbrev pub handle_holds : (R : RattleType) → Global → Ptr → Bool → Option R.Denot → Fml
+handle_holds R alloc p live None = feq Bool live false
+handle_holds R alloc p live (Some x) = fsep (feq Bool live true) (box_owns (ghosts.dealloc_token alloc) R p x)
 
 -- the value of a box, if there is one
 abbrev pub unboxed : {A R : Type 0} → Option (Box R A) → Option R

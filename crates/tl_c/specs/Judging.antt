@@ -16,14 +16,15 @@ use Rattle.check_unanswered.specs.View.{Holds}
 use Rattle.check_unanswered.specs.declared.request.Left.{Left}
 use Rattle.check_lines.specs.Names.{NamesView}
 use Rattle.check_lines.specs.Verdict.{incomplete_line, unlawful_line}
-use Rattle.check_review.specs.Count.{is_counted, is_whole_ask, is_whole_reply, one_more}
+use Rattle.check_coverage.specs.Flights.{is_counted}
+use Rattle.check_review.specs.Count.{is_whole_ask, is_whole_reply, one_more}
 use Rattle.check_description.specs.Description.{Description, Makes}
-use Rattle.check_start.specs.Start.{ByThePlan, layout_of, names_of}
+use Rattle.check_start.specs.Start.{ByThePlan, layout_of, system_names}
 use Rattle.check_start.specs.declared.start.Terms.{Terms}
-use Rattle.tl_c.specs.Draft.{DraftView, IsDraftOf, LacksNone, bytes_in}
+use Rattle.tl_c.specs.Draft.{DraftView, IsDraftOf, LacksNone, image_bytes}
 use Rattle.tl_c.specs.Numbers.{beat_number}
 use Rattle.tl_c.specs.declared.fault.TheConstants.{MEMORY, OK}
-use Rattle.tl_c.specs.declared.held.Judge.{Judge}
+use Rattle.tl_c.specs.declared.held.HeldJudge.{HeldJudge}
 use Rattle.tl_c.specs.declared.making.TheConstants.{LINE_ROOM}
 
 -- ---- beats
@@ -34,8 +35,8 @@ on_bus layout x =
     seen_at x.link x.beat (x.known % 2 ^ bus_of layout x.link) (take (bus_of layout x.link) x.lanes)
 
 -- the judge was shown this, after these beats by this plan, and has answered this number
-pub record IsStep (plan : Plan) (past : List Sighting) (shown : Sighting) (old : Judge) (number : ℕ)
-    (new : Judge) : Type 0 where
+pub record IsStep (plan : Plan) (past : List Sighting) (shown : Sighting) (old : HeldJudge) (number : ℕ)
+    (new : HeldJudge) : Type 0 where
   pub lawful : number ≢ MEMORY → number ≡ OK ↔ IsLawful plan (shown ∷ past)
   pub memory : number ≡ MEMORY → IsLawful plan (shown ∷ past)
   pub needed : number ≡ MEMORY → MayNeedMemory plan past shown
@@ -53,22 +54,22 @@ IsLineOf names row fault room text =
     (text ≡ unlawful_line names row fault) ⊎ ((text ≡ []) × (room < length (unlawful_line names row fault)))
 
 -- what was shown with this line and this time
-abbrev pub row_at : ℕ → ℕ → Sighting → SeenRow
-row_at line time shown = record { line = line; time = time; sighting = shown }
+abbrev pub shown_row : ℕ → ℕ → Sighting → SeenRow
+shown_row line time shown = record { line = line; time = time; sighting = shown }
 
 -- the number is that of the first fault of the beat that is shown, and the text is the line of this fault, with the
 -- line and the time that the beat was shown with
-pub record IsFaultOfBeat (plan : Plan) (past : List Sighting) (shown : Sighting) (line time : ℕ) (old : Judge)
-    (number : ℕ) (new : Judge) : Type 0 where
+pub record IsFaultOfBeat (plan : Plan) (past : List Sighting) (shown : Sighting) (line time : ℕ) (old : HeldJudge)
+    (number : ℕ) (new : HeldJudge) : Type 0 where
   pub row : Row
-  pub shows : row_with row shown.lanes ≡ row_at line time shown
+  pub shows : row_with row shown.lanes ≡ shown_row line time shown
   pub fault : Fault
   pub number_is : number ≡ beat_number fault
   pub first : IsFirstFault plan past shown fault
   pub text : IsLineOf old.names row fault (vec_capacity old.text) new.text.items
 
 -- after a fault, or if requests are left, the judge is as it was, but for its text, whose room is no less
-pub record KeepsAllButText (old new : Judge) : Type 0 where
+pub record KeepsAllButText (old new : HeldJudge) : Type 0 where
   pub watch : new.watch ≡ old.watch
   pub names : new.names ≡ old.names
   pub requests : new.requests ≡ old.requests
@@ -81,7 +82,7 @@ abbrev pub IsLineOfLeft : Left → ℕ → List ℕ → Type 0
 IsLineOfLeft left room text = (text ≡ incomplete_line left) ⊎ ((text ≡ []) × (room < length (incomplete_line left)))
 
 -- requests are left after these rows, and the text is their line
-pub record IsEndOf (plan : Plan) (rows : List SeenRow) (old new : Judge) : Type 0 where
+pub record IsEndOf (plan : Plan) (rows : List SeenRow) (old new : HeldJudge) : Type 0 where
   pub left : Left
   pub is_left : IsLeft plan rows left
   pub text : IsLineOfLeft left (vec_capacity old.text) new.text.items
@@ -90,25 +91,25 @@ pub record IsEndOf (plan : Plan) (rows : List SeenRow) (old new : Judge) : Type 
 
 -- a judge of this system with these bytes of its images, before any beat: it keeps no beat by each plan of the system, of
 -- which there is one, has counted none, and no request is in flight; its text is empty, with room for a line
-pub record BeginsBy (terms : Terms) (system : Description) (images : List (List ℕ)) (judge : Judge) : Type 0 where
+pub record BeginsBy (terms : Terms) (system : Description) (images : List (List ℕ)) (judge : HeldJudge) : Type 0 where
   pub layout : judge.watch.layout ≡ layout_of terms system
   pub keeps : ByThePlan terms system images (λ plan. Keeps plan [] judge.watch)
   pub pending : ByThePlan terms system images (λ plan. Holds plan [] judge.pending)
-  pub names : judge.names ≡ names_of system
+  pub names : judge.names ≡ system_names system
   pub requests : judge.requests ≡ 0
   pub answered : judge.answered ≡ 0
   pub text : judge.text.items ≡ []
   pub room : LINE_ROOM ≤ vec_capacity judge.text
 
 -- the same, of the system that the parts of a draft make, with the images that were handed in, of which none lacks
-pub record IsJudgeOf (terms : Terms) (draft : DraftView) (judge : Judge) : Type 0 where
+pub record IsJudgeOf (terms : Terms) (draft : DraftView) (judge : HeldJudge) : Type 0 where
   pub whole : LacksNone draft
   pub system : Description
   pub made : Makes draft.parts system
-  pub begins : BeginsBy terms system (bytes_in draft.images) judge
+  pub begins : BeginsBy terms system (image_bytes draft.images) judge
 
 -- and of what a file names, which has no images
-pub record IsJudgeOfFile (terms : Terms) (file : List ℕ) (judge : Judge) : Type 0 where
+pub record IsJudgeOfFile (terms : Terms) (file : List ℕ) (judge : HeldJudge) : Type 0 where
   pub draft : DraftView
   pub named : IsDraftOf file draft
   pub is : IsJudgeOf terms draft judge

@@ -22,7 +22,7 @@ byte_at wire partial place =
     if partial && (get_or wire.set place 0 == 0) then None else Some (get_or wire.bytes place 0)
 
 -- the struct is one of this request
-pub record IsAskOf (wire : WireAsk) (ask : Request) : Type 0 where
+pub record IsWireAsk (wire : WireAsk) (ask : Request) : Type 0 where
   pub code : IsCodeOf ask.op wire.opcode wire.param
   pub size : ask.size ≡ wire.size
   pub source : ask.source ≡ wire.source
@@ -40,18 +40,18 @@ pub record IsTooLarge (wire : WireAsk) : Type 0 where
   pub over : MAX_SIZE < wire.size
 
 -- a flag as a number
-abbrev pub number_of : Bool → ℕ
-number_of true = 1
-number_of false = 0
+abbrev pub flag_number : Bool → ℕ
+flag_number true = 1
+flag_number false = 0
 
 -- the struct is one of this reply, with its port and place
-pub record IsAnswerOf (wire : WireAnswer) (port place : ℕ) (reply : Response) : Type 0 where
+pub record IsWireAnswer (wire : WireAnswer) (port place : ℕ) (reply : Response) : Type 0 where
   pub port_is : wire.port ≡ port
   pub place_is : wire.place ≡ place
   pub code : wire.opcode ≡ reply_opcode_of reply.op
   pub size : wire.size ≡ reply.size
   pub source : wire.source ≡ reply.source
-  pub denied : wire.denied ≡ number_of reply.denied
+  pub denied : wire.denied ≡ flag_number reply.denied
   pub count : wire.count ≡ length reply.bytes
   pub bytes : take wire.count wire.bytes ≡ reply.bytes
 
@@ -97,5 +97,5 @@ seen_with w (Some link) None = None
 seen_with w None beat = None
 
 -- what was seen by a struct, if its numbers have a meaning
-abbrev pub shown_by : WireBeat → Option Sighting
-shown_by w = seen_with w (link_of w.side w.number) (beat_of w)
+abbrev pub shown_by_struct : WireBeat → Option Sighting
+shown_by_struct w = seen_with w (link_of w.side w.number) (beat_of w)

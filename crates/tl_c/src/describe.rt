@@ -4,12 +4,12 @@ ghost use Rattle.tl_c.specs.Calls.{HasDraft, HoldsDraft, IsImageAnswer, IsPartsA
 ghost use Rattle.tl_c.specs.Draft.{DraftView, IsDraftOf, IsFirstLacking, LacksNone, image_fault, image_file, with_image};
 ghost use Rattle.tl_c.specs.Numbers.{file_number};
 ghost use Rattle.tl_c.specs.Text.{IsTextOf, IsWritten};
-ghost use Rattle.tl_c.specs.declared.held.Held.TheVariants as held;
+ghost use Rattle.tl_c.specs.declared.held.HandleContent.TheVariants as held;
 
 use crate::draft::Draft;
 use crate::fault::{EMPTY, FULL, OK, OTHER_VERSION, file_number, image_number};
 use crate::handle::Handle;
-use crate::held::Held;
+use crate::held::HandleContent;
 use crate::system::{hold, is_full, put_fault, take};
 use crate::text::put_text;
 use crate::version::VERSION;
@@ -24,13 +24,14 @@ pub(crate) fn take_draft(alloc: Global, handle: &mut Handle) -> Option<Draft>
     ensures kept { IfNone result (handle.new.value ≡ handle.old.value) }
 {
     let held = take(alloc, handle)?;
-    if !matches!(&*held, Held::Draft(_)) {
+    if !matches!(&*held, HandleContent::Draft(_)) {
         *handle = Handle::of(held);
         return None;
     }
     match Box::into_inner(held) {
-        Held::Draft(draft) => Some(draft),
-        Held::System(_) | Held::Model(_) | Held::Judge(_) => unreachable!(),
+        HandleContent::Draft(draft) => Some(draft),
+        HandleContent::System(_) | HandleContent::Model(_) | HandleContent::Judge(_) =>
+            unreachable!(),
     }
 }
 
@@ -42,8 +43,8 @@ pub(crate) fn lacking_in(alloc: Global, handle: &mut Handle) -> Option<usize>
 {
     let held = take(alloc, handle)?;
     let lacking = match &*held {
-        Held::Draft(draft) => draft.lacking(),
-        Held::System(_) | Held::Model(_) | Held::Judge(_) => None,
+        HandleContent::Draft(draft) => draft.lacking(),
+        HandleContent::System(_) | HandleContent::Model(_) | HandleContent::Judge(_) => None,
     };
     *handle = Handle::of(held);
     lacking
@@ -85,7 +86,7 @@ pub extern "C" fn tlx_system_describe_at(
         return FULL;
     }
     match Draft::read(alloc, file) {
-        Ok(draft) => hold(alloc, system, Held::Draft(draft)),
+        Ok(draft) => hold(alloc, system, HandleContent::Draft(draft)),
         Err(fault) => refuse(alloc, room, written, fault),
     }
 }
@@ -137,8 +138,8 @@ pub extern "C" fn tlx_system_image_at(
         return EMPTY;
     };
     let number = match &mut *held {
-        Held::Draft(draft) => put_image(alloc, draft, port, bytes, room, written),
-        Held::System(_) | Held::Model(_) | Held::Judge(_) => EMPTY,
+        HandleContent::Draft(draft) => put_image(alloc, draft, port, bytes, room, written),
+        HandleContent::System(_) | HandleContent::Model(_) | HandleContent::Judge(_) => EMPTY,
     };
     *system = Handle::of(held);
     number
@@ -173,8 +174,10 @@ pub extern "C" fn tlx_system_image_name_at(
         return put_text(room, b"");
     };
     let count = match &*held {
-        Held::Draft(draft) => put_file(draft, port, room),
-        Held::System(_) | Held::Model(_) | Held::Judge(_) => put_text(room, b""),
+        HandleContent::Draft(draft) => put_file(draft, port, room),
+        HandleContent::System(_) | HandleContent::Model(_) | HandleContent::Judge(_) => put_text(
+            room, b"",
+        ),
     };
     *system = Handle::of(held);
     count
@@ -192,8 +195,8 @@ pub extern "C" fn tlx_system_ports_at(alloc: Global, system: &mut Handle) -> usi
         return 0;
     };
     let count = match &*held {
-        Held::Draft(draft) => draft.ports(),
-        Held::System(_) | Held::Model(_) | Held::Judge(_) => 0,
+        HandleContent::Draft(draft) => draft.ports(),
+        HandleContent::System(_) | HandleContent::Model(_) | HandleContent::Judge(_) => 0,
     };
     *system = Handle::of(held);
     count

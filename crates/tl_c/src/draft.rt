@@ -3,7 +3,7 @@ ghost use Rattle.std.specs.Prelude.{◌≡◌, ◌≢◌, ◌⊎◌, IfErr, IfNo
 ghost use Rattle.check_keys.specs.declared.fault.SystemFault.TheVariants.{Memory};
 ghost use Rattle.check_description.specs.File.{parts_view};
 ghost use Rattle.check_description.specs.Name.{IsFirstPartFault};
-ghost use Rattle.tl_c.specs.Draft.{IsDraft, IsDraftOf, IsFirstLacking, LacksNone, bytes_in, fault_at, image_fault, image_file, is_given, lacks, slots_of, with_image};
+ghost use Rattle.tl_c.specs.Draft.{IsDraft, IsDraftOf, IsFirstLacking, LacksNone, image_bytes, fault_at, image_fault, image_file, is_given, lacks, slots_of, with_image};
 ghost use Rattle.tl_c.specs.declared.draft.ImageFault.TheVariants.{System};
 
 use check_description::{Parts, first_length, read_parts};
@@ -54,9 +54,9 @@ fn no_images(alloc: Global, ports: usize) -> Result<Vec<Option<Vec<u8>>>, AllocE
 }
 
 /// The bytes of each port's image, none of one that has none.
-fn bytes_in(alloc: Global, images: Vec<Option<Vec<u8>>>) -> Result<Vec<Vec<u8>>, AllocError>
+fn image_bytes(alloc: Global, images: Vec<Option<Vec<u8>>>) -> Result<Vec<Vec<u8>>, AllocError>
     ensures { IfOk result (λ made. map (λ image. image.items) made.items
-        ≡ bytes_in (slots_of images.items)) }
+        ≡ image_bytes (slots_of images.items)) }
 {
     let mut made = Vec::with_capacity(alloc, images.len())?;
     for image in images {
@@ -165,10 +165,10 @@ impl Draft {
     /// The parts, and for each port the bytes of its image, none of one that has none.
     pub(crate) fn into_parts(self, alloc: Global) -> Result<(Parts, Vec<Vec<u8>>), AllocError>
         ensures parts { IfOk result (λ made. parts_view made.0 ≡ self.parts) }
-        ensures images { IfOk result (λ made. map (λ image. image.items) made.1.items ≡ bytes_in self.images) }
+        ensures images { IfOk result (λ made. map (λ image. image.items) made.1.items ≡ image_bytes self.images) }
         ensures lawful { IsDraft self }
     {
-        let images = bytes_in(alloc, self.images)?;
+        let images = image_bytes(alloc, self.images)?;
         Ok((self.parts, images))
     }
 }

@@ -1,9 +1,9 @@
 //! What a caller in C holds.
 ghost use Rattle.std.specs.Prelude.{◌≡◌, Option, None, Some};
-ghost use Rattle.tl_c.specs.declared.held.Held.{Held};
+ghost use Rattle.tl_c.specs.declared.held.HandleContent.{HandleContent};
 ghost use Rattle.tl_c.specs.Handle.{unboxed, loosened};
 
-use crate::held::Held;
+use crate::held::HandleContent;
 use crate::loose::Loose;
 use std::alloc::Global;
 use std::marker::Model;
@@ -14,14 +14,14 @@ pub struct Handle {
     pub(crate) at: *mut u8,
     pub(crate) live: bool,
     pub(crate) alloc: Global,
-    pub(crate) ghost value: { Option Held },
+    pub(crate) ghost value: { Option HandleContent },
 }
 
 impl Model for Handle {
-    ghost use Rattle.tl_c.specs.Handle.{holds};
-    ghost use Rattle.tl_c.specs.contracts.held.Held.{the_row};
+    ghost use Rattle.tl_c.specs.Handle.{handle_holds};
+    ghost use Rattle.tl_c.specs.contracts.held.HandleContent.{the_row};
 
-    ghost also_owns = { λ h. holds the_row h.alloc h.at h.live h.value };
+    ghost also_owns = { λ h. handle_holds the_row h.alloc h.at h.live h.value };
 }
 
 impl Handle {
@@ -36,7 +36,7 @@ impl Handle {
         }
     }
 
-    fn keep(loose: Loose<Held, Global>) -> Handle
+    fn keep(loose: Loose<HandleContent, Global>) -> Handle
         ensures { result.value ≡ Some loose.value }
     {
         let Loose { at, alloc } = loose;
@@ -47,13 +47,13 @@ impl Handle {
         }
     }
 
-    fn loose(self) -> Option<Loose<Held, Global>>
+    fn loose(self) -> Option<Loose<HandleContent, Global>>
         ensures { self.value ≡ loosened result }
     {
         let Handle { at, live, alloc } = self;
         if live {
             Some(Loose {
-                at: at as *mut Held,
+                at: at as *mut HandleContent,
                 alloc,
             })
         } else {
@@ -62,14 +62,14 @@ impl Handle {
     }
 
     /// A handle that holds this.
-    pub(crate) fn of(held: Box<Held>) -> Handle
+    pub(crate) fn of(held: Box<HandleContent>) -> Handle
         ensures { result.value ≡ Some held.value }
     {
         Handle::keep(Loose::of(held))
     }
 
     /// What a handle holds.
-    pub(crate) fn take(self) -> Option<Box<Held>>
+    pub(crate) fn take(self) -> Option<Box<HandleContent>>
         ensures { self.value ≡ unboxed result }
     {
         match self.loose() {

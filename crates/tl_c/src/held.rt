@@ -28,7 +28,7 @@ impl Model for Server {
 /// A judge of beats, with the names of links, the requests in flight, how many whole requests and replies it has seen,
 /// and the line of the last fault.
 #[derive(Drop)]
-pub struct Judge {
+pub struct HeldJudge {
     pub watch: Watch,
     pub names: Names,
     pub pending: Pending,
@@ -39,11 +39,11 @@ pub struct Judge {
 
 /// What a handle holds.
 #[derive(Drop)]
-pub enum Held {
+pub enum HandleContent {
     /// The system of a script, for a model.
     System(System),
     /// What a system file names, for a judge.
     Draft(Draft),
     Model(Server),
-    Judge(Judge),
+    Judge(HeldJudge),
 }

@@ -1,11 +1,11 @@
 //! Judges of beats.
 ghost use Rattle.std.specs.Prelude.{◌≡◌, ◌≢◌, ◌%◌, ◌^◌, ◌<◌, ◌≤◌, ◌↔◌, ◌&&◌, ◌⊎◌, ℕ, List, ◌∷◌, IsSome, None, Some, length, vec_capacity};
 ghost use Rattle.tl_c.specs.Calls.{HoldsJudge, IsJudge};
-ghost use Rattle.tl_c.specs.Judging.{IsEndOf, IsFaultOfBeat, IsLineOf, IsLineOfLeft, IsStep, KeepsAllButText, on_bus, row_at};
+ghost use Rattle.tl_c.specs.Judging.{IsEndOf, IsFaultOfBeat, IsLineOf, IsLineOfLeft, IsStep, KeepsAllButText, on_bus, shown_row};
 ghost use Rattle.tl_c.specs.Text.{IsTextOf, IsWritten};
-ghost use Rattle.tl_c.specs.Wire.{shown_by};
-ghost use Rattle.tl_c.specs.declared.held.Judge.{Judge};
-ghost use Rattle.tl_c.specs.declared.held.Held.TheVariants as held;
+ghost use Rattle.tl_c.specs.Wire.{shown_by_struct};
+ghost use Rattle.tl_c.specs.declared.held.HeldJudge.{HeldJudge};
+ghost use Rattle.tl_c.specs.declared.held.HandleContent.TheVariants as held;
 ghost use Rattle.check_beats.specs.Bus.{bus_bytes};
 ghost use Rattle.check_watch.specs.Plan.{Sighting, seen_at};
 ghost use Rattle.check_sides.specs.Pending.{IsChange};
@@ -14,11 +14,12 @@ ghost use Rattle.check_sides.specs.View.{Keeps};
 ghost use Rattle.check_rows.specs.Row.{SeenRow};
 ghost use Rattle.check_unanswered.specs.Began.{IsComplete, beats_of, row_with};
 ghost use Rattle.check_unanswered.specs.View.{Holds};
-ghost use Rattle.check_review.specs.Count.{ends_a_reply, ends_an_ask, is_counted, one_more};
+ghost use Rattle.check_coverage.specs.Flights.{ends_a_reply, ends_an_ask, is_counted};
+ghost use Rattle.check_review.specs.Count.{one_more};
 
 use crate::fault::{BAD_ARGUMENT, EMPTY, INCOMPLETE, MEMORY, NO_LINK, OK, beat_number};
 use crate::handle::Handle;
-use crate::held::{Held, Judge};
+use crate::held::{HandleContent, HeldJudge};
 use crate::system::take;
 use crate::text::put_text;
 use crate::wire::{WireBeat, seen_in};
@@ -31,7 +32,7 @@ use check_unanswered::Left;
 use std::alloc::Global;
 
 /// Counts what a beat ends at a link.
-fn count(judge: &mut Judge, link: Link, end: Ended)
+fn count(judge: &mut HeldJudge, link: Link, end: Ended)
     ensures watch { judge.new.watch ≡ judge.old.watch }
     ensures text { judge.new.text ≡ judge.old.text }
     ensures names { judge.new.names ≡ judge.old.names }
@@ -57,7 +58,7 @@ fn keep_line(text: &mut Vec<u8>, names: &Names, row: &Row, fault: &Fault)
 }
 
 /// Judges the beat of a row, whose link is watched, for its fault.
-fn judge_fault(alloc: Global, judge: &mut Judge, row: &Row, lanes: &[u8]) -> u32
+fn judge_fault(alloc: Global, judge: &mut HeldJudge, row: &Row, lanes: &[u8]) -> u32
     requires known { HasLink judge.old.watch.layout row.now.link }
     requires watched { IsWatched judge.old.watch.layout.links row.now.link }
     requires lanes { bus_of judge.old.watch.layout row.now.link ≤ length lanes.now }
@@ -87,7 +88,7 @@ fn judge_fault(alloc: Global, judge: &mut Judge, row: &Row, lanes: &[u8]) -> u32
 }
 
 /// Judges the beat of a row, whose link is watched. Most are lawful, and no more is asked of them than what they end.
-fn judge_beat(alloc: Global, judge: &mut Judge, row: &Row, lanes: &[u8]) -> u32
+fn judge_beat(alloc: Global, judge: &mut HeldJudge, row: &Row, lanes: &[u8]) -> u32
     requires known { HasLink judge.old.watch.layout row.now.link }
     requires watched { IsWatched judge.old.watch.layout.links row.now.link }
     requires lanes { bus_of judge.old.watch.layout row.now.link ≤ length lanes.now }
@@ -114,7 +115,7 @@ fn judge_beat(alloc: Global, judge: &mut Judge, row: &Row, lanes: &[u8]) -> u32
 }
 
 /// Notes what the beat of a row that was judged did to the requests in flight.
-fn note(judge: &mut Judge, change: Change, row: &Row)
+fn note(judge: &mut HeldJudge, change: Change, row: &Row)
     ensures watch { judge.new.watch ≡ judge.old.watch }
     ensures names { judge.new.names ≡ judge.old.names }
     ensures requests { judge.new.requests ≡ judge.old.requests }
@@ -128,7 +129,7 @@ fn note(judge: &mut Judge, change: Change, row: &Row)
 }
 
 /// Judges the beat of a row, whose link is watched, and notes what it does to the requests in flight.
-fn judge_row(alloc: Global, judge: &mut Judge, row: &Row, lanes: &[u8]) -> u32
+fn judge_row(alloc: Global, judge: &mut HeldJudge, row: &Row, lanes: &[u8]) -> u32
     requires known { HasLink judge.old.watch.layout row.now.link }
     requires watched { IsWatched judge.old.watch.layout.links row.now.link }
     requires lanes { bus_of judge.old.watch.layout row.now.link ≤ length lanes.now }
@@ -159,7 +160,7 @@ fn known_on(bus: Bus, known: u64) -> u64
 }
 
 /// Judges one beat more, with as many lanes of its struct as the bus of its link has.
-fn step(alloc: Global, judge: &mut Judge, link: Link, beat: Beat, wire: &WireBeat) -> u32
+fn step(alloc: Global, judge: &mut HeldJudge, link: Link, beat: Beat, wire: &WireBeat) -> u32
     ensures step { (plan : Plan) (past : List Sighting) → Keeps plan past judge.old.watch → result ≢ NO_LINK
         → IsStep plan past (on_bus judge.old.watch.layout (seen_at link beat wire.now.known wire.now.lanes))
         judge.old result judge.new }
@@ -168,7 +169,7 @@ fn step(alloc: Global, judge: &mut Judge, link: Link, beat: Beat, wire: &WireBea
         wire.now.line wire.now.time judge.old result judge.new }
     ensures pending { (plan : Plan) (rows : List SeenRow) → Keeps plan (beats_of rows) judge.old.watch
         → Holds plan rows judge.old.pending → result ≡ OK
-        → Holds plan (row_at wire.now.line wire.now.time
+        → Holds plan (shown_row wire.now.line wire.now.time
         (on_bus judge.old.watch.layout (seen_at link beat wire.now.known wire.now.lanes)) ∷ rows) judge.new.pending }
     ensures link { result ≡ NO_LINK ↔ ((HasLink judge.old.watch.layout link
         × IsWatched judge.old.watch.layout.links link) → ⊥) }
@@ -194,21 +195,21 @@ fn step(alloc: Global, judge: &mut Judge, link: Link, beat: Beat, wire: &WireBea
 /// `tlx_judge_step_at` of the header: judges one beat more.
 #[unsafe(no_mangle)]
 pub extern "C" fn tlx_judge_step_at(alloc: Global, judge: &mut Handle, beat: &WireBeat) -> u32
-    ensures bad_argument { result ≡ BAD_ARGUMENT ↔ (shown_by beat.now ≡ None) }
-    ensures empty { result ≡ EMPTY ↔ (IsSome (shown_by beat.now) × (IsJudge judge.old.value → ⊥)) }
-    ensures link { (j : Judge) (shown : Sighting) → judge.old.value ≡ Some (held.Judge j) → shown_by beat.now ≡ Some shown
+    ensures bad_argument { result ≡ BAD_ARGUMENT ↔ (shown_by_struct beat.now ≡ None) }
+    ensures empty { result ≡ EMPTY ↔ (IsSome (shown_by_struct beat.now) × (IsJudge judge.old.value → ⊥)) }
+    ensures link { (j : HeldJudge) (shown : Sighting) → judge.old.value ≡ Some (held.Judge j) → shown_by_struct beat.now ≡ Some shown
         → (result ≡ NO_LINK ↔ ((HasLink j.watch.layout shown.link × IsWatched j.watch.layout.links shown.link) → ⊥)) }
-    ensures step { (plan : Plan) (past : List Sighting) (j : Judge) (shown : Sighting) → judge.old.value ≡ Some (held.Judge j) → shown_by beat.now ≡ Some shown
+    ensures step { (plan : Plan) (past : List Sighting) (j : HeldJudge) (shown : Sighting) → judge.old.value ≡ Some (held.Judge j) → shown_by_struct beat.now ≡ Some shown
         → Keeps plan past j.watch → result ≢ NO_LINK
         → HoldsJudge (IsStep plan past (on_bus j.watch.layout shown) j result) judge.new.value }
-    ensures fault { (plan : Plan) (past : List Sighting) (j : Judge) (shown : Sighting) → judge.old.value ≡ Some (held.Judge j) → shown_by beat.now ≡ Some shown
+    ensures fault { (plan : Plan) (past : List Sighting) (j : HeldJudge) (shown : Sighting) → judge.old.value ≡ Some (held.Judge j) → shown_by_struct beat.now ≡ Some shown
         → Keeps plan past j.watch → NO_LINK < result
         → HoldsJudge (IsFaultOfBeat plan past (on_bus j.watch.layout shown) beat.now.line beat.now.time j result)
         judge.new.value }
-    ensures pending { (plan : Plan) (rows : List SeenRow) (j : Judge) (shown : Sighting)
-        → judge.old.value ≡ Some (held.Judge j) → shown_by beat.now ≡ Some shown → Keeps plan (beats_of rows) j.watch
+    ensures pending { (plan : Plan) (rows : List SeenRow) (j : HeldJudge) (shown : Sighting)
+        → judge.old.value ≡ Some (held.Judge j) → shown_by_struct beat.now ≡ Some shown → Keeps plan (beats_of rows) j.watch
         → Holds plan rows j.pending → result ≡ OK
-        → HoldsJudge (λ new. Holds plan (row_at beat.now.line beat.now.time (on_bus j.watch.layout shown) ∷ rows)
+        → HoldsJudge (λ new. Holds plan (shown_row beat.now.line beat.now.time (on_bus j.watch.layout shown) ∷ rows)
         new.pending) judge.new.value }
     ensures first { result ≢ OK → result ≢ EMPTY → result ≢ BAD_ARGUMENT → result ≢ MEMORY → NO_LINK ≤ result }
     ensures err { result ≢ OK
@@ -223,8 +224,8 @@ pub extern "C" fn tlx_judge_step_at(alloc: Global, judge: &mut Handle, beat: &Wi
         return EMPTY;
     };
     let number = match &mut *held {
-        Held::Judge(held) => step(alloc, held, link, seen, beat),
-        Held::System(_) | Held::Draft(_) | Held::Model(_) => EMPTY,
+        HandleContent::Judge(held) => step(alloc, held, link, seen, beat),
+        HandleContent::System(_) | HandleContent::Draft(_) | HandleContent::Model(_) => EMPTY,
     };
     *judge = Handle::of(held);
     number
@@ -242,7 +243,7 @@ fn keep_left(text: &mut Vec<u8>, left: &Left)
 }
 
 /// Says whether requests are left, and keeps the line of those that are.
-fn end(judge: &mut Judge) -> u32
+fn end(judge: &mut HeldJudge) -> u32
     ensures complete { (plan : Plan) (rows : List SeenRow) → Holds plan rows judge.old.pending
         → result ≡ OK → IsComplete plan rows }
     ensures incomplete { (plan : Plan) (rows : List SeenRow) → Holds plan rows judge.old.pending
@@ -263,9 +264,9 @@ fn end(judge: &mut Judge) -> u32
 /// `tlx_judge_end_at` of the header: whether requests are left when no more beats come.
 #[unsafe(no_mangle)]
 pub extern "C" fn tlx_judge_end_at(alloc: Global, judge: &mut Handle) -> u32
-    ensures complete { (plan : Plan) (rows : List SeenRow) (j : Judge) → judge.old.value ≡ Some (held.Judge j)
+    ensures complete { (plan : Plan) (rows : List SeenRow) (j : HeldJudge) → judge.old.value ≡ Some (held.Judge j)
         → Holds plan rows j.pending → result ≡ OK → IsComplete plan rows }
-    ensures incomplete { (plan : Plan) (rows : List SeenRow) (j : Judge) → judge.old.value ≡ Some (held.Judge j)
+    ensures incomplete { (plan : Plan) (rows : List SeenRow) (j : HeldJudge) → judge.old.value ≡ Some (held.Judge j)
         → Holds plan rows j.pending → result ≡ INCOMPLETE
         → HoldsJudge (IsEndOf plan rows j) judge.new.value }
     ensures empty { result ≡ EMPTY ↔ (IsJudge judge.old.value → ⊥) }
@@ -278,8 +279,8 @@ pub extern "C" fn tlx_judge_end_at(alloc: Global, judge: &mut Handle) -> u32
         return EMPTY;
     };
     let number = match &mut *held {
-        Held::Judge(held) => end(held),
-        Held::System(_) | Held::Draft(_) | Held::Model(_) => EMPTY,
+        HandleContent::Judge(held) => end(held),
+        HandleContent::System(_) | HandleContent::Draft(_) | HandleContent::Model(_) => EMPTY,
     };
     *judge = Handle::of(held);
     number
@@ -288,7 +289,7 @@ pub extern "C" fn tlx_judge_end_at(alloc: Global, judge: &mut Handle) -> u32
 /// `tlx_judge_text_at` of the header: the line of the last fault, or of the requests that are left.
 #[unsafe(no_mangle)]
 pub extern "C" fn tlx_judge_text_at(alloc: Global, judge: &mut Handle, room: &mut [u8]) -> usize
-    ensures text { (j : Judge) → judge.old.value ≡ Some (held.Judge j)
+    ensures text { (j : HeldJudge) → judge.old.value ≡ Some (held.Judge j)
         → IsTextOf j.text.items room.old room.new result }
     ensures written { IsWritten room.old room.new result }
     ensures empty { (IsJudge judge.old.value → ⊥) → result ≡ 0 }
@@ -298,8 +299,10 @@ pub extern "C" fn tlx_judge_text_at(alloc: Global, judge: &mut Handle, room: &mu
         return put_text(room, b"");
     };
     let count = match &*held {
-        Held::Judge(held) => put_text(room, &held.text),
-        Held::System(_) | Held::Draft(_) | Held::Model(_) => put_text(room, b""),
+        HandleContent::Judge(held) => put_text(room, &held.text),
+        HandleContent::System(_) | HandleContent::Draft(_) | HandleContent::Model(_) => put_text(
+            room, b"",
+        ),
     };
     *judge = Handle::of(held);
     count
@@ -308,7 +311,7 @@ pub extern "C" fn tlx_judge_text_at(alloc: Global, judge: &mut Handle, room: &mu
 /// `tlx_judge_requests_at` of the header: how many whole requests were seen.
 #[unsafe(no_mangle)]
 pub extern "C" fn tlx_judge_requests_at(alloc: Global, judge: &mut Handle) -> u64
-    ensures count { (j : Judge) → judge.old.value ≡ Some (held.Judge j) → result ≡ j.requests }
+    ensures count { (j : HeldJudge) → judge.old.value ≡ Some (held.Judge j) → result ≡ j.requests }
     ensures empty { (IsJudge judge.old.value → ⊥) → result ≡ 0 }
     ensures same { judge.new.value ≡ judge.old.value }
 {
@@ -316,8 +319,8 @@ pub extern "C" fn tlx_judge_requests_at(alloc: Global, judge: &mut Handle) -> u6
         return 0;
     };
     let count = match &*held {
-        Held::Judge(held) => held.requests,
-        Held::System(_) | Held::Draft(_) | Held::Model(_) => 0,
+        HandleContent::Judge(held) => held.requests,
+        HandleContent::System(_) | HandleContent::Draft(_) | HandleContent::Model(_) => 0,
     };
     *judge = Handle::of(held);
     count
@@ -326,7 +329,7 @@ pub extern "C" fn tlx_judge_requests_at(alloc: Global, judge: &mut Handle) -> u6
 /// `tlx_judge_answered_at` of the header: how many whole replies were seen.
 #[unsafe(no_mangle)]
 pub extern "C" fn tlx_judge_answered_at(alloc: Global, judge: &mut Handle) -> u64
-    ensures count { (j : Judge) → judge.old.value ≡ Some (held.Judge j) → result ≡ j.answered }
+    ensures count { (j : HeldJudge) → judge.old.value ≡ Some (held.Judge j) → result ≡ j.answered }
     ensures empty { (IsJudge judge.old.value → ⊥) → result ≡ 0 }
     ensures same { judge.new.value ≡ judge.old.value }
 {
@@ -334,8 +337,8 @@ pub extern "C" fn tlx_judge_answered_at(alloc: Global, judge: &mut Handle) -> u6
         return 0;
     };
     let count = match &*held {
-        Held::Judge(held) => held.answered,
-        Held::System(_) | Held::Draft(_) | Held::Model(_) => 0,
+        HandleContent::Judge(held) => held.answered,
+        HandleContent::System(_) | HandleContent::Draft(_) | HandleContent::Model(_) => 0,
     };
     *judge = Handle::of(held);
     count

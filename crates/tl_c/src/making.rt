@@ -11,7 +11,7 @@ use crate::describe::{lacking_in, refuse, take_draft};
 use crate::draft::Draft;
 use crate::fault::{BAD_ARGUMENT, EMPTY, FULL, IMAGE_UNREADABLE, MEMORY, OK, OTHER_VERSION};
 use crate::handle::Handle;
-use crate::held::{Held, Judge};
+use crate::held::{HandleContent, HeldJudge};
 use crate::system::{hold, is_full, put_fault};
 use crate::text::put_text;
 use crate::version::VERSION;
@@ -68,7 +68,11 @@ fn terms_of(links: u8, order: u8) -> Option<Terms>
 }
 
 /// The judge of a draft of which no image lacks, before any beat; or the first fault of its parts.
-pub(crate) fn make_judge(alloc: Global, draft: Draft, terms: Terms) -> Result<Judge, SystemFault>
+pub(crate) fn make_judge(
+    alloc: Global,
+    draft: Draft,
+    terms: Terms,
+) -> Result<HeldJudge, SystemFault>
     requires { LacksNone draft }
     ensures ok { IfOk result (IsJudgeOf terms draft) }
     ensures fault { IfErr result (λ fault. fault ≢ Memory → IsFirstFaultOf draft.parts fault) }
@@ -78,7 +82,7 @@ pub(crate) fn make_judge(alloc: Global, draft: Draft, terms: Terms) -> Result<Ju
     let begun = begin(alloc, system, &images, terms)?;
     let pending = pending_of(alloc, &begun.watch)?;
     let text = Vec::with_capacity(alloc, LINE_ROOM)?;
-    Ok(Judge {
+    Ok(HeldJudge {
         watch: begun.watch,
         names: begun.names,
         pending,
@@ -89,7 +93,7 @@ pub(crate) fn make_judge(alloc: Global, draft: Draft, terms: Terms) -> Result<Ju
 }
 
 /// The judge of the system that a file describes which names no image; or the first fault of the file.
-pub(crate) fn read_judge(alloc: Global, file: &[u8], terms: Terms) -> Result<Judge, SystemFault>
+pub(crate) fn read_judge(alloc: Global, file: &[u8], terms: Terms) -> Result<HeldJudge, SystemFault>
     ensures ok { IfOk result (IsJudgeOfFile terms file.now) }
     ensures fault { IfErr result (λ fault. fault ≢ Memory → IsFirstFileFault file.now fault) }
 {
@@ -144,7 +148,7 @@ pub extern "C" fn tlx_judge_make_at(
         return EMPTY;
     };
     match make_judge(alloc, draft, terms) {
-        Ok(made) => hold(alloc, judge, Held::Judge(made)),
+        Ok(made) => hold(alloc, judge, HandleContent::Judge(made)),
         Err(fault) => refuse(alloc, room, written, fault),
     }
 }
@@ -183,7 +187,7 @@ pub extern "C" fn tlx_judge_read_at(
         return FULL;
     }
     match read_judge(alloc, file, terms) {
-        Ok(made) => hold(alloc, judge, Held::Judge(made)),
+        Ok(made) => hold(alloc, judge, HandleContent::Judge(made)),
         Err(fault) => refuse(alloc, room, written, fault),
     }
 }

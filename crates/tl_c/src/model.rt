@@ -2,13 +2,13 @@
 ghost use Rattle.std.specs.Prelude.{◌≡◌, ◌≢◌, ◌<◌, ◌≤◌, ◌↔◌, ◌⊎◌, ℕ, IsSomeAnd, None, Some, drop, length, slice_get};
 ghost use Rattle.tl_c.specs.Calls.{HoldsModel, HoldsSystem, IsModel, IsSystem, IsRefusedBy, IsServedBy};
 ghost use Rattle.tl_c.specs.Wire.{IsTooLarge, NamesNone};
-ghost use Rattle.tl_c.specs.declared.held.Held.TheVariants.{Model};
+ghost use Rattle.tl_c.specs.declared.held.HandleContent.TheVariants.{Model};
 ghost use Rattle.tl_map.specs.Map.{RoutesBytes};
 ghost use Rattle.tl_model.specs.Crossbar.{CrossbarState, at_reset, byte_in};
 
 use crate::fault::{EMPTY, FULL, MEMORY, NO_BYTE, NO_OPERATION, OK, SIZE, serve_number};
 use crate::handle::Handle;
-use crate::held::{Held, Server};
+use crate::held::{HandleContent, Server};
 use crate::system::{hold, is_full, take, take_system};
 use crate::wire::{WireAnswer, WireAsk, put_answer, read_ask};
 use std::alloc::Global;
@@ -41,7 +41,7 @@ pub extern "C" fn tlx_model_make_at(alloc: Global, model: &mut Handle, system: &
                 ask,
                 reply,
             };
-            hold(alloc, model, Held::Model(server))
+            hold(alloc, model, HandleContent::Model(server))
         }
         Err(_) => MEMORY,
     }
@@ -96,8 +96,8 @@ pub extern "C" fn tlx_model_serve_at(
         return EMPTY;
     };
     let number = match &mut *held {
-        Held::Model(server) => serve(server, master, ask, answer),
-        Held::System(_) | Held::Draft(_) | Held::Judge(_) => EMPTY,
+        HandleContent::Model(server) => serve(server, master, ask, answer),
+        HandleContent::System(_) | HandleContent::Draft(_) | HandleContent::Judge(_) => EMPTY,
     };
     *model = Handle::of(held);
     number
@@ -132,14 +132,14 @@ pub extern "C" fn tlx_model_byte_at(
         return EMPTY;
     };
     let number = match &*held {
-        Held::Model(server) => match byte_of(server, address) {
+        HandleContent::Model(server) => match byte_of(server, address) {
             Some(found) => {
                 *byte = found;
                 OK
             }
             None => NO_BYTE,
         },
-        Held::System(_) | Held::Draft(_) | Held::Judge(_) => EMPTY,
+        HandleContent::System(_) | HandleContent::Draft(_) | HandleContent::Judge(_) => EMPTY,
     };
     *model = Handle::of(held);
     number
@@ -156,8 +156,8 @@ pub extern "C" fn tlx_model_masters_at(alloc: Global, model: &mut Handle) -> usi
         return 0;
     };
     let count = match &*held {
-        Held::Model(server) => server.crossbar.masters(),
-        Held::System(_) | Held::Draft(_) | Held::Judge(_) => 0,
+        HandleContent::Model(server) => server.crossbar.masters(),
+        HandleContent::System(_) | HandleContent::Draft(_) | HandleContent::Judge(_) => 0,
     };
     *model = Handle::of(held);
     count
@@ -174,8 +174,8 @@ pub extern "C" fn tlx_model_ports_at(alloc: Global, model: &mut Handle) -> usize
         return 0;
     };
     let count = match &*held {
-        Held::Model(server) => server.crossbar.ports(),
-        Held::System(_) | Held::Draft(_) | Held::Judge(_) => 0,
+        HandleContent::Model(server) => server.crossbar.ports(),
+        HandleContent::System(_) | HandleContent::Draft(_) | HandleContent::Judge(_) => 0,
     };
     *model = Handle::of(held);
     count

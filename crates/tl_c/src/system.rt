@@ -3,12 +3,12 @@ ghost use Rattle.std.specs.Prelude.{◌≡◌, ◌≢◌, ◌≤◌, ◌↔◌, 
 ghost use Rattle.tl_c.specs.Calls.{HoldsSystem, IsScriptAnswer, IsSystem};
 ghost use Rattle.tl_c.specs.Handle.{unboxed};
 ghost use Rattle.tl_c.specs.Text.{IsWritten};
-ghost use Rattle.tl_c.specs.declared.held.Held.TheVariants as held;
+ghost use Rattle.tl_c.specs.declared.held.HandleContent.TheVariants as held;
 ghost use Rattle.tl_script.specs.Script.{Spells};
 
 use crate::fault::{FULL, MEMORY, OK, OTHER_VERSION, script_number};
 use crate::handle::Handle;
-use crate::held::Held;
+use crate::held::HandleContent;
 use crate::text::put_text;
 use crate::version::VERSION;
 use std::alloc::Global;
@@ -16,7 +16,7 @@ use std::fmt::Display;
 use tl_script::{System, read_system};
 
 /// What a handle holds, which is empty from then on.
-pub(crate) fn take(alloc: Global, handle: &mut Handle) -> Option<Box<Held>>
+pub(crate) fn take(alloc: Global, handle: &mut Handle) -> Option<Box<HandleContent>>
     ensures empty { handle.new.value ≡ None }
     ensures taken { handle.old.value ≡ unboxed result }
 {
@@ -45,18 +45,19 @@ pub(crate) fn take_system(alloc: Global, handle: &mut Handle) -> Option<System>
     ensures kept { IfNone result (handle.new.value ≡ handle.old.value) }
 {
     let held = take(alloc, handle)?;
-    if !matches!(&*held, Held::System(_)) {
+    if !matches!(&*held, HandleContent::System(_)) {
         *handle = Handle::of(held);
         return None;
     }
     match Box::into_inner(held) {
-        Held::System(made) => Some(made),
-        Held::Draft(_) | Held::Model(_) | Held::Judge(_) => unreachable!(),
+        HandleContent::System(made) => Some(made),
+        HandleContent::Draft(_) | HandleContent::Model(_) | HandleContent::Judge(_) =>
+            unreachable!(),
     }
 }
 
 /// Has an empty handle hold this, if memory allows.
-pub(crate) fn hold(alloc: Global, handle: &mut Handle, held: Held) -> u32
+pub(crate) fn hold(alloc: Global, handle: &mut Handle, held: HandleContent) -> u32
     ensures ok { result ≡ OK → handle.new.value ≡ Some held }
     ensures err { result ≢ OK → handle.new.value ≡ handle.old.value }
     ensures number { result ≢ OK → result ≡ MEMORY }
@@ -107,7 +108,7 @@ pub extern "C" fn tlx_system_read_at(
         return FULL;
     }
     match read_system(alloc, script) {
-        Ok(made) => hold(alloc, system, Held::System(made)),
+        Ok(made) => hold(alloc, system, HandleContent::System(made)),
         Err(fault) => {
             *written = put_fault(alloc, room, &fault);
             script_number(fault)

@@ -2,7 +2,7 @@
 ghost use Rattle.std.specs.Prelude.{◌≡◌, ◌≢◌, ◌≤◌, ◌↔◌, drop, option_map};
 ghost use Rattle.check_watch.specs.Plan.{seen_at};
 ghost use Rattle.tl_types.specs.Wire.{IsCodeOf};
-ghost use Rattle.tl_c.specs.Wire.{IsAnswerOf, IsAskOf, IsTooLarge, NamesNone, beat_of, flag_of, link_of, reply_beat, shown_by};
+ghost use Rattle.tl_c.specs.Wire.{IsWireAnswer, IsWireAsk, IsTooLarge, NamesNone, beat_of, flag_of, link_of, reply_beat, shown_by_struct};
 
 use crate::fault::{NO_OPERATION, OK, SIZE};
 use check_beats::{AskHead, MAX_LANES, ReplyHead};
@@ -62,7 +62,7 @@ pub struct WireBeat {
 
 /// Reads the request of a struct into the place of another, and answers `OK` or the number of its fault.
 pub(crate) fn read_ask(wire: &WireAsk, ask: &mut Ask) -> u32
-    ensures ask { result ≡ OK → IsAskOf wire.now ask.new }
+    ensures ask { result ≡ OK → IsWireAsk wire.now ask.new }
     ensures no_operation { result ≡ NO_OPERATION ↔ NamesNone wire.now }
     ensures size { result ≡ SIZE ↔ IsTooLarge wire.now }
     ensures first { result ≢ OK → NO_OPERATION ≤ result }
@@ -82,7 +82,7 @@ pub(crate) fn read_ask(wire: &WireAsk, ask: &mut Ask) -> u32
 fn fill_ask(wire: &WireAsk, op: AskOp, ask: &mut Ask)
     requires code { IsCodeOf op wire.now.opcode wire.now.param }
     requires in_limit { wire.now.size ≤ MAX_SIZE }
-    ensures { IsAskOf wire.now ask.new }
+    ensures { IsWireAsk wire.now ask.new }
 {
     let bytes = &wire.bytes[..op.byte_count(wire.size)];
     if op.may_leave_unset() {
@@ -95,7 +95,7 @@ fn fill_ask(wire: &WireAsk, op: AskOp, ask: &mut Ask)
 /// Puts a reply with its port and place into a struct. Behind its bytes the struct stays as it was: a short reply pays
 /// for no long one.
 pub(crate) fn put_answer(wire: &mut WireAnswer, port: usize, place: usize, reply: &Reply)
-    ensures answer { IsAnswerOf wire.new port place reply.now }
+    ensures answer { IsWireAnswer wire.new port place reply.now }
     ensures behind { drop wire.new.count wire.new.bytes ≡ drop wire.new.count wire.old.bytes }
 {
     let bytes = reply.bytes();
@@ -173,7 +173,7 @@ fn beat_of(wire: &WireBeat) -> Option<Beat>
 
 /// The link and the beat of a struct, if its numbers have a meaning.
 pub(crate) fn seen_in(wire: &WireBeat) -> Option<(Link, Beat)>
-    ensures { option_map (λ seen. seen_at seen.0 seen.1 wire.now.known wire.now.lanes) result ≡ shown_by wire.now }
+    ensures { option_map (λ seen. seen_at seen.0 seen.1 wire.now.known wire.now.lanes) result ≡ shown_by_struct wire.now }
 {
     let link = link_of(wire.side, wire.number)?;
     let beat = beat_of(wire)?;

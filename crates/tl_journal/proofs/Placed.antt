@@ -3,7 +3,7 @@ use Rattle.std.proofs.Common.{◌≡◌, ℕ, zero, suc, List, [], ◌∷◌, �
 use Rattle.tl_types.specs.Request.{Request}
 use Rattle.tl_types.specs.Response.{Response}
 use Rattle.tl_types.specs.declared.trace.Entry.{Entry}
-use Rattle.tl_journal.specs.Trace.{entries_of, entry_of, place_of}
+use Rattle.tl_journal.specs.Trace.{entries_of, served_entry, place_of}
 use Rattle.tl_journal.specs.declared.trace.Place.{Place}
 
 pub length-entries_of : (pairs : List (Request × Response)) (places : List Place) → length places ≡ length pairs
@@ -16,17 +16,17 @@ length-entries_of (pair ∷ pairs) (place ∷ places) counted =
 pub entries_of-push : (pairs : List (Request × Response)) (places : List Place) (pair : Request × Response)
     (place : Place) → length places ≡ length pairs
     → entries_of (pairs ++ pair ∷ []) (places ++ place ∷ []) ≡ entries_of pairs places
-    ++ entry_of pair.0 pair.1 place ∷ []
+    ++ served_entry pair.0 pair.1 place ∷ []
 entries_of-push [] [] pair place counted = refl
 entries_of-push [] (other ∷ places) pair place counted = absurd (omega (arith, counted))
 entries_of-push (other ∷ pairs) [] pair place counted = absurd (omega (arith, counted))
 entries_of-push (first ∷ pairs) (other ∷ places) pair place counted =
-    ap (λ (rest : List Entry). entry_of first.0 first.1 other ∷ rest)
+    ap (λ (rest : List Entry). served_entry first.0 first.1 other ∷ rest)
     (entries_of-push pairs places pair place (omega (arith, counted)))
 
 pub slice_get-entries_of : (pairs : List (Request × Response)) (places : List Place) (k : ℕ) (pair : Request × Response)
     (place : Place) → slice_get pairs k ≡ Some pair → slice_get places k ≡ Some place
-    → slice_get (entries_of pairs places) k ≡ Some (entry_of pair.0 pair.1 place)
+    → slice_get (entries_of pairs places) k ≡ Some (served_entry pair.0 pair.1 place)
 slice_get-entries_of [] places k pair place here there = absurd (cc)
 slice_get-entries_of (first ∷ pairs) [] k pair place here there = absurd (cc)
 slice_get-entries_of (first ∷ pairs) (other ∷ places) zero pair place here there =

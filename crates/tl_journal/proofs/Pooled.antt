@@ -9,7 +9,7 @@ use Rattle.tl_types.specs.Operation.{byte_count, may_leave_unset, reply_byte_cou
 use Rattle.tl_types.specs.Request.{Request, IsLawfulRequest}
 use Rattle.tl_types.specs.Response.{Response, IsLawfulResponse}
 use Rattle.tl_types.specs.declared.operation.AskOp.{AskOp}
-use Rattle.tl_journal.specs.Pools.{PoolsView, AreIn, HasSameBytes, IsKept, IsPlainKept, bytes_in, plain_in, pool_len}
+use Rattle.tl_journal.specs.Pools.{PoolsView, AreIn, HasSameBytes, IsKeptInPool, IsPlainKept, bytes_in_pool, plain_in, pool_len}
 use Rattle.tl_journal.specs.Headers.{IsEntryIn, ask_in, entry_in, reply_in}
 use Rattle.tl_journal.specs.declared.journal.Header.{Header}
 
@@ -48,7 +48,7 @@ grow_plain bytes old new start kept = record {
 }
 
 pub grow_kept : (partial : Bool) (bytes : List (Option ℕ)) (old new : PoolsView) (start : ℕ)
-    → IsKept partial bytes old new start → Grow old new
+    → IsKeptInPool partial bytes old new start → Grow old new
 grow_kept true bytes old new start kept = record {
   whole_more = [];
   partial_more = bytes;
@@ -74,7 +74,7 @@ pub plain_in-grow : (start count : ℕ) (old new : PoolsView) → start + count 
 plain_in-grow start count old new within grow = rw grow.whole (part-append start count old.whole grow.whole_more within)
 
 pub bytes_in-grow : (partial : Bool) (start count : ℕ) (old new : PoolsView) → start + count ≤ pool_len old partial
-    → Grow old new → bytes_in new partial start count ≡ bytes_in old partial start count
+    → Grow old new → bytes_in_pool new partial start count ≡ bytes_in_pool old partial start count
 bytes_in-grow true start count old new within grow =
     rw grow.partial (part-append start count old.partial grow.partial_more within)
 bytes_in-grow false start count old new within grow =
@@ -112,8 +112,8 @@ plain_within bytes old new start count counted kept =
     omega (arith, counted, kept.2, ap length kept.0, length-append old.whole bytes)
 
 kept_bytes : (partial : Bool) (bytes : List (Option ℕ)) (old new : PoolsView) (start count : ℕ) → length bytes ≡ count
-    → (partial ≡ false → All (λ byte. IsSome byte) bytes) → IsKept partial bytes old new start
-    → bytes_in new partial start count ≡ bytes
+    → (partial ≡ false → All (λ byte. IsSome byte) bytes) → IsKeptInPool partial bytes old new start
+    → bytes_in_pool new partial start count ≡ bytes
 kept_bytes true bytes old new start count counted whole kept =
     rw (kept.1, kept.2, ← counted) (part_behind old.partial bytes)
 kept_bytes false bytes old new start count counted whole kept =
@@ -122,7 +122,7 @@ kept_bytes false bytes old new start count counted whole kept =
     ∙ some_plain bytes (whole refl)
 
 kept_within : (partial : Bool) (bytes : List (Option ℕ)) (old new : PoolsView) (start count : ℕ) → length bytes ≡ count
-    → IsKept partial bytes old new start → start + count ≤ pool_len new partial
+    → IsKeptInPool partial bytes old new start → start + count ≤ pool_len new partial
 kept_within true bytes old new start count counted kept =
     omega (arith, counted, kept.2, ap length kept.1, length-append old.partial bytes)
 kept_within false bytes old new start count counted kept =
@@ -130,8 +130,8 @@ kept_within false bytes old new start count counted kept =
 
 -- a request's header, once its bytes are kept
 pub sent_in : (ask : Request) (old new : PoolsView) (start : ℕ) → IsLawfulRequest ask.op ask.size ask.bytes
-    → IsKept (may_leave_unset ask.op) ask.bytes old new start
-    → AreIn new ask.op ask.size start × (bytes_in new (may_leave_unset ask.op) start
+    → IsKeptInPool (may_leave_unset ask.op) ask.bytes old new start
+    → AreIn new ask.op ask.size start × (bytes_in_pool new (may_leave_unset ask.op) start
     (byte_count ask.op ask.size) ≡ ask.bytes)
 sent_in ask old new start lawful kept =
     let is = kept_bytes (may_leave_unset ask.op) ask.bytes old new start
@@ -187,7 +187,7 @@ pub record Takes (old new : PoolsView) (header : Header) (entry : Request × Res
 -- the request's bytes and then the reply's were kept
 pub takes_entry : (source : ℕ) (ask : Request) (reply : Response) (old middle new : PoolsView) (start answer_start : ℕ)
     → IsLawfulRequest ask.op ask.size ask.bytes → IsLawfulResponse reply.op reply.size reply.denied reply.bytes
-    → IsKept (may_leave_unset ask.op) ask.bytes old middle start → IsPlainKept reply.bytes middle new answer_start
+    → IsKeptInPool (may_leave_unset ask.op) ask.bytes old middle start → IsPlainKept reply.bytes middle new answer_start
     → Takes old new (record {
       op = ask.op;
       size = ask.size;

@@ -7,7 +7,7 @@ use Rattle.tl_types.specs.Operation.{carries_bytes, reply_carries_bytes}
 use Rattle.tl_types.specs.Request.{Request, IsLawfulRequest}
 use Rattle.tl_types.specs.Response.{Response, IsLawfulResponse}
 use Rattle.tl_types.specs.declared.limits.TheConstants.{MAX_SIZE, MAX_BYTES}
-use Rattle.tl_journal.specs.Pools.{PoolsView, IsKept, IsPlainKept, KeepsRoom, pool_len, pool_room}
+use Rattle.tl_journal.specs.Pools.{PoolsView, IsKeptInPool, IsPlainKept, KeepsRoom, pool_len, pool_room}
 use Rattle.tl_journal.specs.Headers.{HasRoom}
 
 few_bytes : (carries : Bool) (size : ℕ) → size ≤ MAX_SIZE → (if carries then 2 ^ size else 0) ≤ MAX_BYTES
@@ -34,7 +34,7 @@ ask_fits false pools left count has few = omega (arith, has.whole, few)
 -- and then for its reply
 pub reply_fits : (partial : Bool) (bytes : List (Option ℕ)) (old new : PoolsView) (start left count : ℕ)
     → HasRoom old (suc left) → length bytes ≤ MAX_BYTES → count ≤ MAX_BYTES
-    → IsKept partial bytes old new start → KeepsRoom old new → length new.whole + count ≤ new.whole_room
+    → IsKeptInPool partial bytes old new start → KeepsRoom old new → length new.whole + count ≤ new.whole_room
 reply_fits true bytes old new start left count has few told kept room =
     omega (arith, has.whole, few, told, ap length kept.0, room.0)
 reply_fits false bytes old new start left count has few told kept room =
@@ -53,7 +53,7 @@ reply_fits false bytes old new start left count has few told kept room =
 pub left_fits : (partial : Bool) (bytes : List (Option ℕ)) (told : List ℕ) (old middle new : PoolsView)
     (start answer_start left : ℕ) → HasRoom old (suc left)
     → length bytes ≤ MAX_BYTES → length told ≤ MAX_BYTES
-    → IsKept partial bytes old middle start → KeepsRoom old middle → IsPlainKept told middle new answer_start
+    → IsKeptInPool partial bytes old middle start → KeepsRoom old middle → IsPlainKept told middle new answer_start
     → KeepsRoom middle new → HasRoom new left
 left_fits true bytes told old middle new start answer_start left has few few' kept room kept' room' = record {
   whole = omega (

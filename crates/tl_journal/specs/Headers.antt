@@ -4,7 +4,7 @@ use Rattle.tl_types.specs.Operation.{byte_count, may_leave_unset, reply_byte_cou
 use Rattle.tl_types.specs.Request.{Request}
 use Rattle.tl_types.specs.Response.{Response, IsLawfulResponse}
 use Rattle.tl_types.specs.declared.limits.TheConstants.{MAX_BYTES}
-use Rattle.tl_journal.specs.Pools.{PoolsView, AreIn, bytes_in, plain_in}
+use Rattle.tl_journal.specs.Pools.{PoolsView, AreIn, bytes_in_pool, plain_in}
 use Rattle.tl_journal.specs.declared.journal.Header.{Header}
 use Rattle.tl_journal.specs.declared.journal.TheConstants.{MAX_WHOLE}
 
@@ -15,7 +15,7 @@ ask_in pools header = record {
   size = header.size;
   source = header.source;
   address = header.address;
-  bytes = bytes_in pools (may_leave_unset header.op) header.start (byte_count header.op header.size);
+  bytes = bytes_in_pool pools (may_leave_unset header.op) header.start (byte_count header.op header.size);
 }
 
 -- the reply that it stands for

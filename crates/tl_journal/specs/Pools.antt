@@ -19,9 +19,9 @@ abbrev pub plain_in : PoolsView → ℕ → ℕ → List ℕ
 plain_in pools start count = take count (drop start pools.whole)
 
 -- so many bytes from a place on of the pool of partial puts, or of the pool of all others
-abbrev pub bytes_in : PoolsView → Bool → ℕ → ℕ → List (Option ℕ)
-bytes_in pools true start count = take count (drop start pools.partial)
-bytes_in pools false start count = map (λ byte. Some byte) (plain_in pools start count)
+abbrev pub bytes_in_pool : PoolsView → Bool → ℕ → ℕ → List (Option ℕ)
+bytes_in_pool pools true start count = take count (drop start pools.partial)
+bytes_in_pool pools false start count = map (λ byte. Some byte) (plain_in pools start count)
 
 -- how many bytes are in that pool
 abbrev pub pool_len : PoolsView → Bool → ℕ
@@ -36,7 +36,7 @@ pool_room pools false = pools.whole_room
 -- a request's bytes are in its pool, as many as it carries and unset only if they may be
 pub record AreIn (pools : PoolsView) (op : AskOp) (size start : ℕ) : Type 0 where
   pub within : start + byte_count op size ≤ pool_len pools (may_leave_unset op)
-  pub lawful : IsLawfulRequest op size (bytes_in pools (may_leave_unset op) start (byte_count op size))
+  pub lawful : IsLawfulRequest op size (bytes_in_pool pools (may_leave_unset op) start (byte_count op size))
 
 -- bytes that are all given were appended to their pool, if they begin at this place
 abbrev pub IsPlainKept : List ℕ → PoolsView → PoolsView → ℕ → Type 0
@@ -44,10 +44,10 @@ IsPlainKept bytes old new start =
     (new.whole ≡ old.whole ++ bytes) × (new.partial ≡ old.partial) × (start ≡ length old.whole)
 
 -- bytes were appended to their pool, if they begin at this place
-abbrev pub IsKept : Bool → List (Option ℕ) → PoolsView → PoolsView → ℕ → Type 0
-IsKept true bytes old new start =
+abbrev pub IsKeptInPool : Bool → List (Option ℕ) → PoolsView → PoolsView → ℕ → Type 0
+IsKeptInPool true bytes old new start =
     (new.whole ≡ old.whole) × (new.partial ≡ old.partial ++ bytes) × (start ≡ length old.partial)
-IsKept false bytes old new start = IsPlainKept (plain_of bytes) old new start
+IsKeptInPool false bytes old new start = IsPlainKept (plain_of bytes) old new start
 
 -- the bytes are as they were
 abbrev pub HasSameBytes : PoolsView → PoolsView → Type 0

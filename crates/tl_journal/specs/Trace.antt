@@ -17,8 +17,8 @@ abbrev pub entries_in : List TraceView → List (List Entry)
 entries_in traces = map (λ (trace : TraceView). trace.items) traces
 
 -- the entry of a request and its reply that were served there
-abbrev pub entry_of : Request → Response → Place → Entry
-entry_of ask reply place = record { ask = ask; reply = reply; port = place.port; index = place.index }
+abbrev pub served_entry : Request → Response → Place → Entry
+served_entry ask reply place = record { ask = ask; reply = reply; port = place.port; index = place.index }
 
 -- where an entry was served
 abbrev pub place_of : Entry → Place
@@ -26,7 +26,7 @@ place_of entry = record { port = entry.port; index = entry.index }
 
 -- the entries of requests and replies, each with its place
 abbrev pub entries_of : List (Request × Response) → List Place → List Entry
-entries_of (pair ∷ pairs) (place ∷ places) = entry_of pair.0 pair.1 place ∷ entries_of pairs places
+entries_of (pair ∷ pairs) (place ∷ places) = served_entry pair.0 pair.1 place ∷ entries_of pairs places
 entries_of (pair ∷ pairs) [] = []
 entries_of [] places = []
 

@@ -1,7 +1,7 @@
 //! The bytes of messages, those of one after those of the other.
 ghost use Rattle.std.specs.Prelude.{◌≡◌, ◌+◌, ◌≤◌, ◌++◌, [], length, vec_len, vec_capacity, IfOk, OnErr, OnOk};
 ghost use Rattle.tl_types.specs.Operation.{byte_count, may_leave_unset};
-ghost use Rattle.tl_journal.specs.Pools.{AreIn, HasSameBytes, IsKept, IsPlainKept, KeepsRoom, bytes_in, plain_in, pool_len, pool_room};
+ghost use Rattle.tl_journal.specs.Pools.{AreIn, HasSameBytes, IsKeptInPool, IsPlainKept, KeepsRoom, bytes_in_pool, plain_in, pool_len, pool_room};
 
 use std::alloc::{AllocError, Global};
 use std::marker::Model;
@@ -66,7 +66,7 @@ impl Pools {
 
     /// Appends the bytes of a request to their pool, and makes room for them first. The answer is where they begin.
     pub fn keep(&mut self, op: AskOp, bytes: &Bytes) -> Result<usize, AllocError>
-        ensures ok { IfOk result (IsKept (may_leave_unset op) bytes.now self.old self.new) }
+        ensures ok { IfOk result (IsKeptInPool (may_leave_unset op) bytes.now self.old self.new) }
         ensures err { OnErr result (HasSameBytes self.old self.new) }
         ensures room { KeepsRoom self.old self.new }
     {
@@ -82,7 +82,7 @@ impl Pools {
     pub fn keep_reserved(&mut self, op: AskOp, bytes: &Bytes) -> usize
         requires { pool_len self.old (may_leave_unset op) + length bytes.now
             ≤ pool_room self.old (may_leave_unset op) }
-        ensures kept { IsKept (may_leave_unset op) bytes.now self.old self.new result }
+        ensures kept { IsKeptInPool (may_leave_unset op) bytes.now self.old self.new result }
         ensures room { KeepsRoom self.old self.new }
     {
         if op.may_leave_unset() {
@@ -113,7 +113,7 @@ impl Pools {
           size = size;
           source = source;
           address = address;
-          bytes = bytes_in self.now (may_leave_unset op) start (byte_count op size);
+          bytes = bytes_in_pool self.now (may_leave_unset op) start (byte_count op size);
         } }
     {
         let count = op.byte_count(size);

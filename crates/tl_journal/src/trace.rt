@@ -2,7 +2,7 @@
 ghost use Rattle.std.specs.Prelude.{◌≡◌, ◌<◌, ◌≤◌, ◌==◌, ◌++◌, ◌∷◌, [], length, slice_get, IfOk, IsSomeAnd, Some, false};
 ghost use Rattle.tl_types.specs.declared.operation.AskOp.TheVariants.{Get};
 ghost use Rattle.tl_types.specs.declared.operation.ReplyOp.TheVariants.{AccessAck};
-ghost use Rattle.tl_journal.specs.Trace.{entry_of, place_of};
+ghost use Rattle.tl_journal.specs.Trace.{served_entry, place_of};
 
 use crate::journal::Journal;
 use std::alloc::{AllocError, Global};
@@ -65,7 +65,7 @@ impl Trace {
     pub fn push_reserved(&mut self, source: u16, ask: &Ask, reply: &Reply, place: Place)
         requires { length self.old.items < self.old.room }
         ensures items { self.new.items ≡ self.old.items
-            ++ entry_of (record ask.now { source = source }) (record reply.now { source = source }) place ∷ [] }
+            ++ served_entry (record ask.now { source = source }) (record reply.now { source = source }) place ∷ [] }
         ensures room { self.new.room ≡ self.old.room }
     {
         self.journal.push_reserved(source, ask, reply);

@@ -4,12 +4,12 @@ use Rattle.tl_types.specs.Request.{Request}
 use Rattle.tl_ops.specs.Store.{reply}
 use Rattle.tl_ops.specs.History.{replay}
 use Rattle.tl_model.specs.Crossbar.{CrossbarState, IsServed, PortState}
-use Rattle.tl_model.specs.declared.crossbar.Answer.{Answer}
+use Rattle.tl_model.specs.declared.crossbar.ModelAnswer.{ModelAnswer}
 
 -- a request that was served, and what it was answered
 pub record Call : Type 0 where
   pub ask : Request
-  pub answer : Answer
+  pub answer : ModelAnswer
 
 -- the calls took the crossbar from the one state to the other, each served after those before it
 abbrev pub AreServed : CrossbarState → List Call → CrossbarState → Type 0

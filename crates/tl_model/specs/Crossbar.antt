@@ -8,7 +8,7 @@ use Rattle.tl_ops.specs.Store.{Store, after, reply}
 use Rattle.tl_map.specs.declared.map.Range.{Range}
 use Rattle.tl_map.specs.Map.{Routes}
 use Rattle.tl_script.specs.System.{System, resets}
-use Rattle.tl_model.specs.declared.crossbar.Answer.{Answer}
+use Rattle.tl_model.specs.declared.crossbar.ModelAnswer.{ModelAnswer}
 use Rattle.tl_model.specs.declared.port.TheConstants.{MAX_SERVED}
 use Rattle.tl_model.specs.declared.fault.ServeFault.{ServeFault}
 use Rattle.tl_model.specs.declared.fault.ServeFault.TheVariants.{NoSuchMaster, NoSuchSource, Uncountable}
@@ -77,7 +77,7 @@ served_more port ask = record { store = after port.store ask; served = port.serv
 -- a crossbar that is the one before a request, what the request is answered, and the crossbar after it: its port's
 -- memory gives the reply and is the memory after it, the place is how many that port had served, and no other port
 -- changes
-pub record IsServed (old : CrossbarState) (ask : Request) (answer : Answer) (new : CrossbarState) : Type 0 where
+pub record IsServed (old : CrossbarState) (ask : Request) (answer : ModelAnswer) (new : CrossbarState) : Type 0 where
   pub port : PortState
   pub routed : Routes old.ranges ask answer.port
   pub at : slice_get old.ports answer.port ≡ Some port

@@ -14,7 +14,7 @@ use tl_types::{Ask, Memory, Reply};
 
 /// What a request is answered: the reply, the port that served it, and how many requests that port had served before.
 #[derive(Debug, Drop)]
-pub struct Answer {
+pub struct ModelAnswer {
     pub reply: Reply,
     pub port: usize,
     pub place: usize,
@@ -55,7 +55,7 @@ impl Crossbar {
     }
 
     /// Serves a master's request, whose source is the master's own.
-    pub fn serve(&mut self, master: usize, ask: &Ask) -> Result<Answer, ServeFault>
+    pub fn serve(&mut self, master: usize, ask: &Ask) -> Result<ModelAnswer, ServeFault>
         ensures ok { IsOk result ↔ Accepts self.old master ask.now }
         ensures served { IfOk result (λ answer. IsServed self.old ask.now answer self.new) }
         ensures fault { IfErr result (IsFirstServeFault self.old master ask.now) }
@@ -65,7 +65,7 @@ impl Crossbar {
         let place = self.served(port);
         let mut reply = Reply::blank();
         self.serve_at(port, ask, &mut reply);
-        Ok(Answer { reply, port, place })
+        Ok(ModelAnswer { reply, port, place })
     }
 
     /// The port that may serve a master's request, whose source is the master's own. `serve` in parts, for callers that

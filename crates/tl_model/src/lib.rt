@@ -16,5 +16,5 @@ mod fault;
 pub mod laws;
 mod port;
 
-pub use crossbar::{Answer, Crossbar};
+pub use crossbar::{Crossbar, ModelAnswer};
 pub use fault::ServeFault;

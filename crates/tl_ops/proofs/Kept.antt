@@ -13,7 +13,7 @@ use Rattle.tl_types.specs.Request.{Request}
 use Rattle.tl_types.specs.Response.{Response}
 use Rattle.tl_ops.specs.declared.kind.Kind.{Kind}
 use Rattle.tl_ops.specs.declared.kind.Kind.TheVariants.{Ram, Rom, Regs, ClearRegs, NoDevice}
-use Rattle.tl_ops.specs.Support.{supports, ram_supports, rom_supports, regs_supports}
+use Rattle.tl_ops.specs.Support.{supports}
 use Rattle.tl_ops.specs.Bank.{IsKept, bytes_in, lanes_with}
 use Rattle.tl_ops.specs.Cell.{FitsWords, spare_after}
 use Rattle.tl_ops.specs.Store.{Store, legal, window, with_window, after, shown, reply}
@@ -35,7 +35,7 @@ pub StandsIn-from_legal : (store : Store) (ask : Request) → legal store ask �
 StandsIn-from_legal store ask is = record { aligned = search rules; from = search rules; inside = search rules }
 
 -- what a kind supports is of a lawful size
-ram_small : (op : AskOp) (size : ℕ) → ram_supports op size ≡ true → size ≤ 8
+ram_small : (op : AskOp) (size : ℕ) → supports Ram op size ≡ true → size ≤ 8
 ram_small PutFull size is = search rules
 ram_small PutPartial size is = search rules
 ram_small (Arithmetic _) size is = search rules
@@ -43,7 +43,7 @@ ram_small (Logical _) size is = search rules
 ram_small Get size is = search rules
 ram_small (Intent _) size is = search rules
 
-rom_small : (op : AskOp) (size : ℕ) → rom_supports op size ≡ true → size ≤ 8
+rom_small : (op : AskOp) (size : ℕ) → supports Rom op size ≡ true → size ≤ 8
 rom_small PutFull size is = cc
 rom_small PutPartial size is = cc
 rom_small (Arithmetic _) size is = cc
@@ -51,7 +51,7 @@ rom_small (Logical _) size is = cc
 rom_small Get size is = search rules
 rom_small (Intent _) size is = search rules
 
-regs_small : (op : AskOp) (size : ℕ) → regs_supports op size ≡ true → size ≤ 8
+regs_small : (op : AskOp) (size : ℕ) → supports Regs op size ≡ true → size ≤ 8
 regs_small PutFull size is = search rules
 regs_small PutPartial size is = cc
 regs_small (Arithmetic _) size is = cc
@@ -59,12 +59,20 @@ regs_small (Logical _) size is = cc
 regs_small Get size is = search rules
 regs_small (Intent _) size is = cc
 
+none_small : (op : AskOp) (size : ℕ) → supports NoDevice op size ≡ true → size ≤ 8
+none_small PutFull size is = cc
+none_small PutPartial size is = cc
+none_small (Arithmetic _) size is = cc
+none_small (Logical _) size is = cc
+none_small Get size is = cc
+none_small (Intent _) size is = cc
+
 small_from_supports : (kind : Kind) (op : AskOp) (size : ℕ) → supports kind op size ≡ true → size ≤ 8
 small_from_supports Ram op size is = ram_small op size is
 small_from_supports Rom op size is = rom_small op size is
 small_from_supports Regs op size is = regs_small op size is
 small_from_supports ClearRegs op size is = regs_small op size is
-small_from_supports NoDevice op size is = cc
+small_from_supports NoDevice op size is = none_small op size is
 
 pub small_from_legal : (store : Store) (ask : Request) → legal store ask ≡ true → ask.size ≤ 8
 small_from_legal store ask is =
@@ -72,7 +80,7 @@ small_from_legal store ask is =
     small_from_supports store.kind ask.op ask.size supported
 
 -- where writing a one clears, a legal window is of one word
-regs_words : (op : AskOp) (size : ℕ) → regs_supports op size ≡ true → size ≤ 3
+regs_words : (op : AskOp) (size : ℕ) → supports Regs op size ≡ true → size ≤ 3
 regs_words PutFull size is = search rules
 regs_words PutPartial size is = cc
 regs_words (Arithmetic _) size is = cc

@@ -7,7 +7,7 @@ use Rattle.std.proofs.lemmas.Option.{unwrap_or-slice_get}
 use Rattle.tl_types.specs.Bytes.{mask_bit, plain_of, IsMaskOf}
 use Rattle.tl_ops.specs.Number.{low_bytes}
 use Rattle.tl_ops.specs.Window.{operand_of}
-use Rattle.tl_ops.specs.Cell.{keep_bit, keep_byte, keep_of, word_of}
+use Rattle.tl_ops.specs.Cell.{keep_bit, keep_byte, keep_of, bytes_of_word}
 use Rattle.tl_ops.proofs.Bytes.{length-low_bytes, low_bytes-add}
 
 take_short : {X : Type 0} (n : ℕ) (xs : List X) → take (min (length xs) n) xs ≡ take n xs
@@ -21,18 +21,18 @@ take_short {X} (suc n) (x ∷ xs) = let e : min (suc (length xs)) (suc n) ≡ su
 
 -- what a word has is as many bytes as are left, eight at most
 pub word_of-taken : (given : List (Option ℕ)) (word count : ℕ) → count ≡ min (length given - 8 * word) 8
-    → word_of given word ≡ take count (drop (8 * word) given)
+    → bytes_of_word given word ≡ take count (drop (8 * word) given)
 word_of-taken given word count is =
     sym (take_short 8 (drop (8 * word) given))
     ∙ ap (λ n. take n (drop (8 * word) given)) (omega (arith, is, length-drop (8 * word) given))
 
 pub length-word_of : (given : List (Option ℕ)) (word count : ℕ) → count ≡ min (length given - 8 * word) 8
-    → length (word_of given word) ≡ count
+    → length (bytes_of_word given word) ≡ count
 length-word_of given word count is =
     omega (arith, is, length-take 8 (drop (8 * word) given), length-drop (8 * word) given)
 
 -- the only word of a request is all of it
-pub word_of-only : (given : List (Option ℕ)) → length given ≤ 8 → word_of given 0 ≡ given
+pub word_of-only : (given : List (Option ℕ)) → length given ≤ 8 → bytes_of_word given 0 ≡ given
 word_of-only given short = take_all 8 given short
 
 -- a part of the plain bytes is the operand of the part
@@ -54,23 +54,23 @@ plain_part given from count = ap (take count) (drop-map given from) ∙ take-map
 pub spelled_word : (given : List (Option ℕ)) (plain : List ℕ) (word n m number : ℕ) → plain ≡ plain_of given
     → n ≡ min (length given - 8 * word) 8 → m ≡ n
     → low_bytes (length (take m (drop (8 * word) plain))) number ≡ take m (drop (8 * word) plain)
-    → low_bytes (length (word_of given word)) number ≡ operand_of (word_of given word)
+    → low_bytes (length (bytes_of_word given word)) number ≡ operand_of (bytes_of_word given word)
 spelled_word given plain word n m number plain_is n_is m_is spells =
     let part = take m (drop (8 * word) plain) in
-    let part_is : part ≡ operand_of (word_of given word) =
+    let part_is : part ≡ operand_of (bytes_of_word given word) =
     ap (λ k. take k (drop (8 * word) plain)) m_is ∙ ap (λ bs. take n (drop (8 * word) bs)) plain_is
     ∙ plain_part given (8 * word) n ∙ ap operand_of (sym (word_of-taken given word n n_is)) in
-    let long : length part ≡ length (word_of given word) =
-    ap length part_is ∙ length-map (word_of given word) (λ byte. unwrap_or byte 0) in
+    let long : length part ≡ length (bytes_of_word given word) =
+    ap length part_is ∙ length-map (bytes_of_word given word) (λ byte. unwrap_or byte 0) in
     ap (λ k. low_bytes k number) (sym long) ∙ spells ∙ part_is
 
 pub length-plain_word : (given : List (Option ℕ)) (plain : List ℕ) (word n m : ℕ) → plain ≡ plain_of given
     → n ≡ min (length given - 8 * word) 8 → m ≡ n
-    → length (take m (drop (8 * word) plain)) ≡ length (word_of given word)
+    → length (take m (drop (8 * word) plain)) ≡ length (bytes_of_word given word)
 length-plain_word given plain word n m plain_is n_is m_is =
     ap (λ k. length (take k (drop (8 * word) plain))) m_is ∙ ap (λ bs. length (take n (drop (8 * word) bs))) plain_is
     ∙ ap length (plain_part given (8 * word) n ∙ ap operand_of (sym (word_of-taken given word n n_is)))
-    ∙ length-map (word_of given word) (λ byte. unwrap_or byte 0)
+    ∙ length-map (bytes_of_word given word) (λ byte. unwrap_or byte 0)
 
 -- a bit of a word's mask tells whether the byte is given, and so what its lane keeps
 pub bit_of_part : (given : List (Option ℕ)) (word count k mask : ℕ) → k < count → k < 8 → IsMaskOf given word mask
@@ -86,13 +86,13 @@ keep_bit-mask_bit (Some byte) = refl
 -- the lanes of a word that keep their byte, by the mask of those that are given
 pub kept_word : (given : List (Option ℕ)) (word mask keep : ℕ) → IsMaskOf given word mask
     → ((lane : ℕ) → lane < 8 → slice_index (low_bytes 8 keep) lane ≡ keep_bit (bit_at mask lane))
-    → low_bytes (length (word_of given word)) keep ≡ keep_of (word_of given word)
+    → low_bytes (length (bytes_of_word given word)) keep ≡ keep_of (bytes_of_word given word)
 kept_word given word mask keep is lanes =
     same_number_lists (low_bytes n keep) (keep_of part) (length-low_bytes n keep ∙ sym (length-map part keep_byte))
     (λ k h. lane k (omega (arith, h, length-low_bytes n keep)))
   where
     part : List (Option ℕ)
-    part = word_of given word
+    part = bytes_of_word given word
 
     n : ℕ
     n = length part

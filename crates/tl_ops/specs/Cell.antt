@@ -23,8 +23,8 @@ with_cell word lane width cell =
     (word / 2 ^ (8 * lane) / 2 ^ (8 * width) * 2 ^ (8 * width) + cell) * 2 ^ (8 * lane) + word % 2 ^ (8 * lane)
 
 -- the part of a request's bytes that one word has
-abbrev pub word_of : List (Option ℕ) → ℕ → List (Option ℕ)
-word_of given word = take WORD_BYTES (drop (WORD_BYTES * word) given)
+abbrev pub bytes_of_word : List (Option ℕ) → ℕ → List (Option ℕ)
+bytes_of_word given word = take WORD_BYTES (drop (WORD_BYTES * word) given)
 
 -- a byte of a mask: all bits where the old byte is kept, since none is given
 abbrev pub keep_byte : Option ℕ → ℕ

@@ -1,50 +1,87 @@
--- What each kind of slave supports: this project's own table.
-use Rattle.std.specs.Prelude.{ℕ, Bool, false, ◌&&◌, nat_le}
+-- Which operations a slave supports, and at which sizes: the standard's transfer sizes, for each operation the least and
+-- the greatest. The rows of the kinds are this project's own.
+use Rattle.std.specs.Prelude.{ℕ, Bool, false, ◌&&◌, nat_le, Option, None, Some}
 use Rattle.tl_types.specs.declared.operation.AskOp.{AskOp}
 use Rattle.tl_types.specs.declared.operation.AskOp.TheVariants.{PutFull, PutPartial, Arithmetic, Logical, Get, Intent}
 use Rattle.tl_types.specs.declared.limits.TheConstants.{MAX_SIZE}
 use Rattle.tl_ops.specs.declared.kind.Kind.{Kind}
 use Rattle.tl_ops.specs.declared.kind.Kind.TheVariants.{Ram, Rom, Regs, ClearRegs, NoDevice}
+use Rattle.tl_ops.specs.declared.sizes.SizeSpan.{SizeSpan}
+use Rattle.tl_ops.specs.declared.sizes.SizeTable.{SizeTable}
 
--- four bytes or eight: the sizes of atomics and of registers
-abbrev pub is_word_size : ℕ → Bool
-is_word_size size = nat_le 2 size && nat_le size 3
+-- ---- what a table supports
 
--- the sizes of any message
-abbrev pub is_any_size : ℕ → Bool
-is_any_size size = nat_le size MAX_SIZE
+-- whether a size is in a span; no size is in none
+abbrev pub spans : Option SizeSpan → ℕ → Bool
+spans None size = false
+spans (Some span) size = nat_le span.least size && nat_le size span.greatest
 
--- a Ram: every operation, and the atomics at the size of a word
-abbrev pub ram_supports : AskOp → ℕ → Bool
-ram_supports PutFull size = is_any_size size
-ram_supports PutPartial size = is_any_size size
-ram_supports (Arithmetic _) size = is_word_size size
-ram_supports (Logical _) size = is_word_size size
-ram_supports Get size = is_any_size size
-ram_supports (Intent _) size = is_any_size size
+-- the span of an operation
+abbrev pub span_of : SizeTable → AskOp → Option SizeSpan
+span_of table PutFull = table.put_full
+span_of table PutPartial = table.put_partial
+span_of table (Arithmetic _) = table.arithmetic
+span_of table (Logical _) = table.logical
+span_of table Get = table.get
+span_of table (Intent _) = table.intent
 
--- a Rom: what reads
-abbrev pub rom_supports : AskOp → ℕ → Bool
-rom_supports PutFull size = false
-rom_supports PutPartial size = false
-rom_supports (Arithmetic _) size = false
-rom_supports (Logical _) size = false
-rom_supports Get size = is_any_size size
-rom_supports (Intent _) size = is_any_size size
+-- whether a table supports an operation at a size
+abbrev pub allows : SizeTable → AskOp → ℕ → Bool
+allows table op size = spans (span_of table op) size
 
--- registers, also those where writing a one clears: whole words, read and written
-abbrev pub regs_supports : AskOp → ℕ → Bool
-regs_supports PutFull size = is_word_size size
-regs_supports PutPartial size = false
-regs_supports (Arithmetic _) size = false
-regs_supports (Logical _) size = false
-regs_supports Get size = is_word_size size
-regs_supports (Intent _) size = false
+-- ---- the rows of the kinds
+
+-- any size of a message
+abbrev pub any_size : Option SizeSpan
+any_size = Some (record { least = 0; greatest = MAX_SIZE })
+
+-- four bytes and eight
+abbrev pub word_size : Option SizeSpan
+word_size = Some (record { least = 2; greatest = 3 })
+
+-- the row of a kind: what a port of this kind supports if no table is given
+abbrev pub row_of_kind : Kind → SizeTable
+row_of_kind Ram = record {
+  get = any_size;
+  put_full = any_size;
+  put_partial = any_size;
+  arithmetic = word_size;
+  logical = word_size;
+  intent = any_size;
+}
+row_of_kind Rom = record {
+  get = any_size;
+  put_full = None;
+  put_partial = None;
+  arithmetic = None;
+  logical = None;
+  intent = any_size;
+}
+row_of_kind Regs = record {
+  get = word_size;
+  put_full = word_size;
+  put_partial = None;
+  arithmetic = None;
+  logical = None;
+  intent = None;
+}
+row_of_kind ClearRegs = record {
+  get = word_size;
+  put_full = word_size;
+  put_partial = None;
+  arithmetic = None;
+  logical = None;
+  intent = None;
+}
+row_of_kind NoDevice = record {
+  get = None;
+  put_full = None;
+  put_partial = None;
+  arithmetic = None;
+  logical = None;
+  intent = None;
+}
 
 -- whether a slave of this kind supports an operation at a size
 abbrev pub supports : Kind → AskOp → ℕ → Bool
-supports Ram op size = ram_supports op size
-supports Rom op size = rom_supports op size
-supports Regs op size = regs_supports op size
-supports ClearRegs op size = regs_supports op size
-supports NoDevice op size = false
+supports kind op size = allows (row_of_kind kind) op size

@@ -3,7 +3,7 @@ ghost use Rattle.std.specs.Prelude.{◌≡◌, ℕ, ◌+◌, ◌*◌, ◌-◌, �
 ghost use Rattle.std.specs.Int.{bit_at};
 ghost use Rattle.tl_ops.specs.Number.{signed, low_bytes};
 ghost use Rattle.tl_ops.specs.Window.{operand_of, combine_arith, combine_logic, new_window, cleared};
-ghost use Rattle.tl_ops.specs.Cell.{cell_of, with_cell, keep_bit, keep_of, word_of};
+ghost use Rattle.tl_ops.specs.Cell.{cell_of, with_cell, keep_bit, keep_of, bytes_of_word};
 ghost use Rattle.tl_ops.specs.declared.kind.Kind.TheVariants.{Ram};
 
 use tl_types::{Arith, AskOp, Bytes, Logic, WORD_BYTES};
@@ -95,10 +95,10 @@ fn spelled(bytes: &[u8]) -> u64
 /// What a word of a request's bytes gives.
 fn given_word(bytes: &Bytes, word: usize) -> Given
     requires { WORD_BYTES * word < length bytes.now }
-    ensures fits { result.bytes < 2 ^ (8 * length (word_of bytes.now word)) }
-    ensures bytes { let given = word_of bytes.now word in
+    ensures fits { result.bytes < 2 ^ (8 * length (bytes_of_word bytes.now word)) }
+    ensures bytes { let given = bytes_of_word bytes.now word in
         low_bytes (length given) result.bytes ≡ operand_of given }
-    ensures keep { let given = word_of bytes.now word in
+    ensures keep { let given = bytes_of_word bytes.now word in
         low_bytes (length given) result.keep ≡ keep_of given }
 {
     let len = bytes.len();
@@ -177,9 +177,9 @@ pub fn cleared_cell(old: u64, given: &Bytes) -> u64
 /// The cell after a legal request, of whose bytes it takes a word, where a put leaves what it gives.
 pub fn new_cell(op: AskOp, old: u64, bytes: &Bytes, word: usize) -> u64
     requires some { WORD_BYTES * word < length bytes.now }
-    requires old { old < 2 ^ (8 * length (word_of bytes.now word)) }
-    ensures fits { result < 2 ^ (8 * length (word_of bytes.now word)) }
-    ensures bytes { let given = word_of bytes.now word in
+    requires old { old < 2 ^ (8 * length (bytes_of_word bytes.now word)) }
+    ensures fits { result < 2 ^ (8 * length (bytes_of_word bytes.now word)) }
+    ensures bytes { let given = bytes_of_word bytes.now word in
         low_bytes (length given) result ≡ new_window Ram op (low_bytes (length given) old) given }
 {
     let len = bytes.len();

@@ -4,7 +4,7 @@ ghost use Rattle.tl_types.specs.Bytes.{bytes_of_words};
 ghost use Rattle.tl_ops.specs.Number.{low_bytes};
 ghost use Rattle.tl_ops.specs.Store.{with_window};
 ghost use Rattle.tl_ops.specs.Window.{merged, new_window, cleared, operand_of};
-ghost use Rattle.tl_ops.specs.Cell.{FitsWords, spare_after, word_of};
+ghost use Rattle.tl_ops.specs.Cell.{FitsWords, spare_after, bytes_of_word};
 ghost use Rattle.tl_ops.specs.declared.kind.Kind.TheVariants.{Ram};
 
 use crate::cell::{cell_of, cleared_cell, new_cell, with_cell};
@@ -131,7 +131,7 @@ impl Lanes {
         requires width { WORD_BYTES * k + WORD_BYTES ≤ length given.now }
         requires inside { WORD_BYTES * i + WORD_BYTES ≤ length self.old }
         ensures after { let old = take WORD_BYTES (drop (WORD_BYTES * i) self.old) in
-            self.new ≡ with_window self.old (WORD_BYTES * i) (merged old (word_of given.now k)) }
+            self.new ≡ with_window self.old (WORD_BYTES * i) (merged old (bytes_of_word given.now k)) }
         ensures len { length self.new ≡ length self.old }
     {
         let word = self.words[i];

@@ -47,7 +47,7 @@ abbrev pub HasNoFault : System → AuditFault → Type 0
 HasNoFault system fault = ⊥
 
 -- what was written is such a text of the system that all of what was read spells
-pub record Answers (IsText : System → List ℕ → Type 0)
+pub record WritesAnswer (IsText : System → List ℕ → Type 0)
     (read_old read_new written_old written_new : Option (List ℕ)) : Type 0 where
   pub system : System
   pub text : List ℕ
@@ -76,7 +76,7 @@ pub record FailsAudit (HasFault : System → AuditFault → Type 0) (read_old re
 pub record IsAnswered (IsText : System → List ℕ → Type 0) (HasFault : System → AuditFault → Type 0)
     (read_old read_new written_old written_new : Option (List ℕ)) (result : Result Unit RunFault) : Type 0 where
   -- what is written is such a text of the system that all that the reader had spells
-  pub ok : OnOk result (Answers IsText read_old read_new written_old written_new)
+  pub ok : OnOk result (WritesAnswer IsText read_old read_new written_old written_new)
   -- a fault of the script is the first of what was read
   pub script : (fault : ScriptFault) → result ≡ Err (run.Script fault) → HasScriptFault read_old read_new fault
   -- a fault of an audit is one of a run

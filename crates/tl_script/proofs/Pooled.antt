@@ -6,7 +6,7 @@ use Rattle.std.proofs.lemmas.List.Elements.{All-head, All-push, All-tail}
 use Rattle.tl_types.specs.Operation.{byte_count, may_leave_unset}
 use Rattle.tl_types.specs.Request.{IsLawfulRequest}
 use Rattle.tl_types.specs.declared.operation.AskOp.{AskOp}
-use Rattle.tl_journal.specs.Pools.{PoolsView, IsKept}
+use Rattle.tl_journal.specs.Pools.{PoolsView, IsKeptInPool}
 use Rattle.tl_journal.proofs.Pooled.{AreIn-grow, Grow, bytes_in-grow, grow_kept, grow_none, sent_in}
 use Rattle.tl_script.specs.Operations.{IsIn, job_in}
 use Rattle.tl_script.specs.System.{sends}
@@ -49,7 +49,7 @@ pub takes_wait : (pools : PoolsView) → Takes pools pools Wait WaitJob
 takes_wait pools = record { grow = grow_none pools pools (refl, refl); stands = tt; is = refl }
 
 pub takes_send : (op : AskOp) (size source address : ℕ) (bytes : List (Option ℕ)) (old new : PoolsView) (start : ℕ)
-    → IsLawfulRequest op size bytes → IsKept (may_leave_unset op) bytes old new start
+    → IsLawfulRequest op size bytes → IsKeptInPool (may_leave_unset op) bytes old new start
     → Takes old new (Send op size source start address)
     (SendJob (record { op = op; size = size; source = source; address = address; bytes = bytes }))
 takes_send op size source address bytes old new start lawful kept =

@@ -4,7 +4,7 @@ use Rattle.std.proofs.lemmas.List.{take_all}
 use Rattle.std.proofs.lemmas.Grind.{common_steps}
 use Rattle.tl_text.specs.Number.{pair_of}
 use Rattle.tl_script.specs.Port.{pairs_of, filled}
-use Rattle.tl_script.specs.declared.fault.Key.TheVariants.{Reset}
+use Rattle.tl_script.specs.declared.fault.ScriptKey.TheVariants.{Reset}
 use Rattle.tl_script.specs.declared.fault.ScriptFault.{ScriptFault}
 use Rattle.tl_script.specs.declared.fault.ScriptFault.TheVariants.{OutOfRange}
 

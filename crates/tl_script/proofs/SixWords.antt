@@ -1,6 +1,6 @@
 -- No operation has more than five words, so six of them tell it.
 use Rattle.std.proofs.Common.{◌≡◌, ℕ, List, [], ◌∷◌, take, refl}
-use Rattle.tl_script.specs.Operation.{bytes_of, is_wait, operation_in, request_of}
+use Rattle.tl_script.specs.Operation.{operand_bytes, is_wait, operation_in, request_of}
 
 is_wait-six : (words : List (List ℕ)) → is_wait (take 6 words) ≡ is_wait words
 is_wait-six [] = refl
@@ -8,7 +8,7 @@ is_wait-six (a ∷ []) = refl
 is_wait-six (a ∷ b ∷ words) = refl
 
 request_of-six : (sources : ℕ) (words : List (List ℕ)) → request_of sources (take 6 words) ≡ request_of sources words
-unfolding request_of bytes_of
+unfolding request_of operand_bytes
 request_of-six sources [] = refl
 request_of-six sources (a ∷ []) = refl
 request_of-six sources (a ∷ b ∷ []) = refl

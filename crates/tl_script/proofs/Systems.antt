@@ -7,22 +7,22 @@ use Rattle.tl_map.specs.declared.sources.SourceFault.{SourceFault}
 use Rattle.tl_map.specs.declared.sources.SourceFault.TheVariants.{TooMany, NoSource, Memory as SourceMemory}
 use Rattle.tl_script.specs.Master.{IsOfJobs, jobs_from}
 use Rattle.tl_script.specs.Reading.{source_fault}
-use Rattle.tl_script.specs.Script.{Parts, IsFirstFaultOf, counts_of, ranges_of, system_of}
+use Rattle.tl_script.specs.Script.{ScriptParts, IsFirstFaultOfScriptParts, counts_of, script_ranges, system_of}
 use Rattle.tl_script.specs.System.{System}
 use Rattle.tl_script.specs.declared.fault.ScriptFault.{ScriptFault}
 use Rattle.tl_script.specs.declared.fault.ScriptFault.TheVariants.{NotToml, Missing, WrongType, OutOfRange, BadOp, Map, Sources, TooLong, Memory}
 use Rattle.tl_script.specs.declared.operation.Job.{Job}
 
-pub sources_refused : (parts : Parts) (fault : SourceFault) → IsLawfulMap (ranges_of parts)
+pub sources_refused : (parts : ScriptParts) (fault : SourceFault) → IsLawfulMap (script_ranges parts)
     → IsFirstSourceFault (counts_of parts) fault
-    → source_fault fault ≢ Memory → IsFirstFaultOf parts (source_fault fault)
+    → source_fault fault ≢ Memory → IsFirstFaultOfScriptParts parts (source_fault fault)
 sources_refused parts TooMany lawful first other = (lawful, (λ e. absurd cc), first)
 sources_refused parts (NoSource m) lawful first other = (lawful, (λ e. absurd cc), first)
 sources_refused parts SourceMemory lawful first other = absurd (other refl)
 
-pub jobs_refused : (parts : Parts) (fault : ScriptFault) → IsLawfulMap (ranges_of parts)
+pub jobs_refused : (parts : ScriptParts) (fault : ScriptFault) → IsLawfulMap (script_ranges parts)
     → AreLawfulCounts (counts_of parts) → IsOfJobs fault
-    → (fault ≢ Memory → jobs_from 0 parts.masters ≡ Err fault) → fault ≢ Memory → IsFirstFaultOf parts fault
+    → (fault ≢ Memory → jobs_from 0 parts.masters ≡ Err fault) → fault ≢ Memory → IsFirstFaultOfScriptParts parts fault
 jobs_refused parts (BadOp m n) ranges counts of_jobs read other = (ranges, counts, rw (read other) refl)
 jobs_refused parts Memory ranges counts of_jobs read other = absurd (other refl)
 jobs_refused parts NotToml ranges counts of_jobs read other = absurd of_jobs
@@ -33,8 +33,8 @@ jobs_refused parts (Map fault) ranges counts of_jobs read other = absurd of_jobs
 jobs_refused parts (Sources fault) ranges counts of_jobs read other = absurd of_jobs
 jobs_refused parts TooLong ranges counts of_jobs read other = absurd of_jobs
 
-pub system_of-made : (parts : Parts) (counts : List ℕ) (ranges : List Range) (jobs : List (List Job)) (system : System)
-    → counts ≡ counts_of parts → ranges ≡ ranges_of parts → jobs_from 0 parts.masters ≡ Ok jobs
+pub system_of-made : (parts : ScriptParts) (counts : List ℕ) (ranges : List Range) (jobs : List (List Job)) (system : System)
+    → counts ≡ counts_of parts → ranges ≡ script_ranges parts → jobs_from 0 parts.masters ≡ Ok jobs
     → system ≡ record { slots = parts.slots; stores = parts.stores; counts = counts; ranges = ranges; jobs = jobs }
     → system_of parts ≡ Ok system
 system_of-made parts counts ranges jobs system same_counts same_ranges read made =

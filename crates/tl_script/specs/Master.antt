@@ -2,40 +2,40 @@
 use Rattle.std.specs.Prelude.{◌≡◌, ℕ, ◌+◌, ⊤, List, [], ◌∷◌, length, map, slice_get, Some, Result, Ok, ok_or}
 use Rattle.toml.specs.Data.{Members}
 use Rattle.tl_script.specs.Operation.{operation_of}
-use Rattle.tl_script.specs.Reading.{◌>>=◌, each}
+use Rattle.tl_text.specs.Reading.{◌>>=◌, each}
 use Rattle.tl_script.specs.System.{AreLawfulJobs}
-use Rattle.tl_script.specs.Value.{value_at, number_at, list_at, text_of, tables_of, up_to, some_of}
-use Rattle.tl_script.specs.declared.fault.Key.TheVariants.{Master as MasterKey, Sources, Ops}
+use Rattle.tl_script.specs.Value.{script_value_at, script_number_at, list_at, script_text_of, script_tables_of, up_to_in_script, some_of}
+use Rattle.tl_script.specs.declared.fault.ScriptKey.TheVariants.{Master as MasterKey, Sources, Ops}
 use Rattle.tl_script.specs.declared.fault.ScriptFault.{ScriptFault}
 use Rattle.tl_script.specs.declared.fault.ScriptFault.TheVariants.{BadOp, Memory}
-use Rattle.tl_script.specs.declared.parts.Master as code_master
+use Rattle.tl_script.specs.declared.parts.ScriptMaster as code_master
 use Rattle.tl_script.specs.declared.operation.Job.{Job}
 use Rattle.tl_script.specs.declared.system.TheConstants.{MAX_JOBS}
 
 -- how many sources a master says to have, and its operations as the script writes them
-pub record Master : Type 0 where
+pub record ScriptMaster : Type 0 where
   pub sources : ℕ
   pub lines : List (List ℕ)
 
 -- the lines of a master's operations
 unfoldable pub lines_at : Members → Result (List (List ℕ)) ScriptFault
 lines_at members = do
-  value ← value_at Ops members
+  value ← script_value_at Ops members
   items ← list_at Ops value
-  lines ← each (text_of Ops) items
-  up_to Ops MAX_JOBS lines
+  lines ← each (script_text_of Ops) items
+  up_to_in_script Ops MAX_JOBS lines
 
-unfoldable pub master_of : Members → Result Master ScriptFault
+unfoldable pub master_of : Members → Result ScriptMaster ScriptFault
 master_of members = do
-  sources ← number_at Sources 0 65535 members
+  sources ← script_number_at Sources 0 65535 members
   lines ← lines_at members
   Ok (record { sources = sources; lines = lines })
 
 -- the masters, of which there is at least one
-unfoldable pub masters_of : Members → Result (List Master) ScriptFault
-masters_of members = do
-  value ← value_at MasterKey members
-  tables ← tables_of MasterKey value
+unfoldable pub script_masters : Members → Result (List ScriptMaster) ScriptFault
+script_masters members = do
+  value ← script_value_at MasterKey members
+  tables ← script_tables_of MasterKey value
   some ← some_of MasterKey tables
   each master_of some
 
@@ -48,7 +48,7 @@ operations_from sources m n (line ∷ lines) = do
   Ok (operation ∷ operations)
 
 -- the operations of each master from m on
-abbrev pub jobs_from : ℕ → List Master → Result (List (List Job)) ScriptFault
+abbrev pub jobs_from : ℕ → List ScriptMaster → Result (List (List Job)) ScriptFault
 jobs_from m [] = Ok []
 jobs_from m (master ∷ masters) = do
   operations ← operations_from master.sources m 0 master.lines
@@ -56,8 +56,8 @@ jobs_from m (master ∷ masters) = do
   Ok (operations ∷ jobs)
 
 -- what contracts see of a master
-abbrev pub master_view : code_master.Master → Master
-master_view master = record { sources = master.sources; lines = map (λ line. line.now) master.lines.items }
+abbrev pub script_master_view : code_master.ScriptMaster → ScriptMaster
+script_master_view master = record { sources = master.sources; lines = map (λ line. line.now) master.lines.items }
 
 -- ---- for the proofs of the readers
 

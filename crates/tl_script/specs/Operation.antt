@@ -20,8 +20,8 @@ abbrev ◌>>=◌ : {A B : Type 0} → Option A → (A → Option B) → Option B
 o >>= f = option_and_then f o
 
 -- SOURCE: one to three decimal digits of a number below the master's count of sources
-unfoldable pub source_of : ℕ → List ℕ → Option ℕ
-source_of sources word = number_of 10 3 word >>= (λ source. if nat_lt source sources then Some source else None)
+unfoldable pub source_of_word : ℕ → List ℕ → Option ℕ
+source_of_word sources word = number_of 10 3 word >>= (λ source. if nat_lt source sources then Some source else None)
 
 -- ADDRESS: `0x` and one to sixteen hexadecimal digits, or one to twenty decimal digits, of a number below 2^64
 unfoldable pub address_of : List ℕ → Option ℕ
@@ -37,23 +37,23 @@ counted_data_of count word = if length word == 2 * count then data_of word else 
 
 -- the bytes that the words after SIZE spell: one word if the operation carries bytes, and none elsewhere;
 -- only a partial put has unset bytes
-unfoldable pub bytes_of : AskOp → ℕ → List (List ℕ) → Option (List (Option ℕ))
-bytes_of op size [] = if carries_bytes op then None else Some []
-bytes_of op size (word ∷ []) =
+unfoldable pub operand_bytes : AskOp → ℕ → List (List ℕ) → Option (List (Option ℕ))
+operand_bytes op size [] = if carries_bytes op then None else Some []
+operand_bytes op size (word ∷ []) =
     if carries_bytes op
     then counted_data_of (2 ^ size) word >>=
     (λ bytes. if may_leave_unset op || list_all is_some bytes then Some bytes else None)
     else None
-bytes_of op size (word ∷ more ∷ words) = None
+operand_bytes op size (word ∷ more ∷ words) = None
 
 -- the request that words spell
 unfoldable pub request_of : ℕ → List (List ℕ) → Option Request
 request_of sources (source ∷ name ∷ address ∷ size ∷ more) = do
-  s ← source_of sources source
+  s ← source_of_word sources source
   op ← name_of name
   a ← address_of address
   z ← size_of size
-  bytes ← bytes_of op z more
+  bytes ← operand_bytes op z more
   Some (record { op = op; size = z; source = s; address = a; bytes = bytes })
 request_of sources _ = None
 

@@ -3,7 +3,7 @@
 use Rattle.std.specs.Prelude.{Bool, true, false}
 use Rattle.tl_types.specs.Operation.{byte_count, may_leave_unset}
 use Rattle.tl_types.specs.Request.{Request}
-use Rattle.tl_journal.specs.Pools.{PoolsView, AreIn, bytes_in}
+use Rattle.tl_journal.specs.Pools.{PoolsView, AreIn, bytes_in_pool}
 use Rattle.tl_script.specs.declared.operation.Job.{Job}
 use Rattle.tl_script.specs.declared.operation.Job.TheVariants.{Wait, Send}
 use Rattle.tl_script.specs.declared.operations.Header.{Header}
@@ -17,7 +17,7 @@ job_in pools (SendHeader op size source start address) = Send (record {
   size = size;
   source = source;
   address = address;
-  bytes = bytes_in pools (may_leave_unset op) start (byte_count op size);
+  bytes = bytes_in_pool pools (may_leave_unset op) start (byte_count op size);
 })
 
 -- the bytes of the header's request, if it has one, are in their pool

@@ -7,16 +7,16 @@ use Rattle.tl_ops.specs.declared.kind.Kind as kind_of_slave
 use Rattle.tl_ops.specs.declared.kind.Kind.TheVariants.{Ram, Rom, Regs, ClearRegs}
 use Rattle.tl_ops.specs.declared.bank.TheConstants.{MAX_LENGTH}
 use Rattle.tl_text.specs.Number.{pair_of}
-use Rattle.tl_script.specs.Key.{key_name}
-use Rattle.tl_script.specs.Reading.{◌>>=◌, each}
-use Rattle.tl_script.specs.Value.{value_at, number_at, text_of, tables_of}
-use Rattle.tl_script.specs.declared.fault.Key.TheVariants.{Port, Kind, Base, Length, Reset}
+use Rattle.tl_script.specs.Key.{script_key_name}
+use Rattle.tl_text.specs.Reading.{◌>>=◌, each}
+use Rattle.tl_script.specs.Value.{script_value_at, script_number_at, script_text_of, script_tables_of}
+use Rattle.tl_script.specs.declared.fault.ScriptKey.TheVariants.{Port, Kind, Base, Length, Reset}
 use Rattle.tl_script.specs.declared.fault.ScriptFault.{ScriptFault}
 use Rattle.tl_script.specs.declared.fault.ScriptFault.TheVariants.{OutOfRange}
 
 -- the kind that a word names
-abbrev pub kind_of : List ℕ → Option kind_of_slave.Kind
-kind_of word =
+abbrev pub script_kind_of : List ℕ → Option kind_of_slave.Kind
+script_kind_of word =
     if bytes_eq word (codes "ram") then Some Ram
     else if bytes_eq word (codes "rom") then Some Rom
     else if bytes_eq word (codes "regs") then Some Regs
@@ -25,9 +25,9 @@ kind_of word =
 
 unfoldable pub kind_at : Members → Result kind_of_slave.Kind ScriptFault
 kind_at members = do
-  value ← value_at Kind members
-  word ← text_of Kind value
-  ok_or (kind_of word) (OutOfRange Kind)
+  value ← script_value_at Kind members
+  word ← script_text_of Kind value
+  ok_or (script_kind_of word) (OutOfRange Kind)
 
 -- the bytes that pairs of hexadecimal digits spell
 abbrev pub pairs_of : List ℕ → Option (List ℕ)
@@ -45,11 +45,11 @@ filled count text =
 -- the text of a reset, which is empty if there is none
 abbrev pub reset_text : Option Data → Result (List ℕ) ScriptFault
 reset_text None = Ok []
-reset_text (Some value) = text_of Reset value
+reset_text (Some value) = script_text_of Reset value
 
 -- the bytes of a slave of this many bytes
 unfoldable pub reset_at : ℕ → Members → Result (List ℕ) ScriptFault
-reset_at count members = reset_text (get_member (key_name Reset) members) >>= filled count
+reset_at count members = reset_text (get_member (script_key_name Reset) members) >>= filled count
 
 -- the last address that a range may start at: the largest integer of a document
 abbrev pub last_base : ℕ
@@ -59,16 +59,16 @@ last_base = 2 ^ 63 - 1
 unfoldable pub port_of : Members → Result Store ScriptFault
 port_of members = do
   kind ← kind_at members
-  base ← number_at Base 0 last_base members
-  count ← number_at Length 0 MAX_LENGTH members
+  base ← script_number_at Base 0 last_base members
+  count ← script_number_at Length 0 MAX_LENGTH members
   bytes ← reset_at count members
   Ok (record { kind = kind; base = base; bytes = bytes })
 
 -- the tables of the ports, of which there may be none
-abbrev pub port_tables : Option Data → Result (List Members) ScriptFault
-port_tables None = Ok []
-port_tables (Some value) = tables_of Port value
+abbrev pub script_port_tables : Option Data → Result (List Members) ScriptFault
+script_port_tables None = Ok []
+script_port_tables (Some value) = script_tables_of Port value
 
 -- the slave of each port
-unfoldable pub ports_of : Members → Result (List Store) ScriptFault
-ports_of members = port_tables (get_member (key_name Port) members) >>= each port_of
+unfoldable pub script_ports : Members → Result (List Store) ScriptFault
+script_ports members = script_port_tables (get_member (script_key_name Port) members) >>= each port_of

@@ -12,95 +12,95 @@ use Rattle.tl_map.specs.Sources.{AreLawfulCounts, IsFirstSourceFault}
 use Rattle.tl_map.specs.declared.map.MapFault.TheVariants.{Memory as MapMemory}
 use Rattle.tl_map.specs.declared.map.Range.{Range}
 use Rattle.tl_map.specs.declared.sources.SourceFault.TheVariants.{Memory as SourceMemory}
-use Rattle.tl_script.specs.Master.{Master, jobs_from, master_view, masters_of}
-use Rattle.tl_script.specs.Port.{ports_of}
-use Rattle.tl_script.specs.Reading.{◌>>=◌}
+use Rattle.tl_script.specs.Master.{ScriptMaster, jobs_from, script_master_view, script_masters}
+use Rattle.tl_script.specs.Port.{script_ports}
+use Rattle.tl_text.specs.Reading.{◌>>=◌}
 use Rattle.tl_script.specs.System.{System, range_of, store_of}
-use Rattle.tl_script.specs.Value.{number_at}
-use Rattle.tl_script.specs.declared.fault.Key.TheVariants.{Slots}
+use Rattle.tl_script.specs.Value.{script_number_at}
+use Rattle.tl_script.specs.declared.fault.ScriptKey.TheVariants.{Slots}
 use Rattle.tl_script.specs.declared.fault.ScriptFault.{ScriptFault}
 use Rattle.tl_script.specs.declared.fault.ScriptFault.TheVariants.{TooLong, NotToml, Map, Sources}
-use Rattle.tl_script.specs.declared.parts.Parts as code_parts
+use Rattle.tl_script.specs.declared.parts.ScriptParts as code_parts
 use Rattle.tl_script.specs.declared.script.TheConstants.{MAX_SCRIPT}
 
 -- ---- the parts that a script names
 
 -- how many slots there are, the slave of each port at reset, and the masters with the lines of their operations
-pub record Parts : Type 0 where
+pub record ScriptParts : Type 0 where
   pub slots : ℕ
   pub stores : List Store
-  pub masters : List Master
+  pub masters : List ScriptMaster
 
 -- the table of a script, which is a TOML document of at most so many bytes of UTF-8
-unfoldable pub document_of : List ℕ → Result Members ScriptFault
-document_of bytes =
+unfoldable pub script_document : List ℕ → Result Members ScriptFault
+script_document bytes =
     if nat_lt MAX_SCRIPT (length bytes) then Err TooLong
     else if is_utf8 bytes then ok_or (parse_document bytes) NotToml
     else Err NotToml
 
 -- the parts that a document's table names; members with other keys are nothing to it
-unfoldable pub parts_in : Members → Result Parts ScriptFault
+unfoldable pub parts_in : Members → Result ScriptParts ScriptFault
 parts_in members = do
-  slots ← number_at Slots 1 MAX_SLOTS members
-  stores ← ports_of members
-  masters ← masters_of members
+  slots ← script_number_at Slots 1 MAX_SLOTS members
+  stores ← script_ports members
+  masters ← script_masters members
   Ok (record { slots = slots; stores = stores; masters = masters })
 
 -- the parts that a script names, or the first fault on the way to them
-abbrev pub parts_of : List ℕ → Result Parts ScriptFault
-parts_of bytes = document_of bytes >>= parts_in
+abbrev pub script_parts : List ℕ → Result ScriptParts ScriptFault
+script_parts bytes = script_document bytes >>= parts_in
 
 -- ---- the system of the parts
 
 -- the addresses of the ports, and how many sources the masters have
-abbrev pub ranges_of : Parts → List Range
-ranges_of parts = map range_of parts.stores
+abbrev pub script_ranges : ScriptParts → List Range
+script_ranges parts = map range_of parts.stores
 
-abbrev pub counts_of : Parts → List ℕ
-counts_of parts = map (λ (master : Master). master.sources) parts.masters
+abbrev pub counts_of : ScriptParts → List ℕ
+counts_of parts = map (λ (master : ScriptMaster). master.sources) parts.masters
 
 -- the system of the parts, or the lowest operation of the lowest master that is none
-abbrev pub system_of : Parts → Result System ScriptFault
+abbrev pub system_of : ScriptParts → Result System ScriptFault
 system_of parts = jobs_from 0 parts.masters >>= (λ jobs. Ok (record {
   slots = parts.slots;
   stores = parts.stores;
   counts = counts_of parts;
-  ranges = ranges_of parts;
+  ranges = script_ranges parts;
   jobs = jobs;
 }))
 
 -- the parts make this system: their ranges make a map, their counts are lawful, and each line is an operation
-pub record Makes (parts : Parts) (system : System) : Type 0 where
-  pub ranges : IsLawfulMap (ranges_of parts)
+pub record MakesSystem (parts : ScriptParts) (system : System) : Type 0 where
+  pub ranges : IsLawfulMap (script_ranges parts)
   pub counts : AreLawfulCounts (counts_of parts)
   pub made : system_of parts ≡ Ok system
 
 -- the first fault of parts that make no system: that of the ranges; if these make a map, that of the counts; and
 -- if these are lawful, the lowest operation that is none
-abbrev pub IsFirstFaultOf : Parts → ScriptFault → Type 0
-IsFirstFaultOf parts (Map fault) = (fault ≢ MapMemory) × IsFirstMapFault (ranges_of parts) fault
-IsFirstFaultOf parts (Sources fault) =
-    IsLawfulMap (ranges_of parts) × (fault ≢ SourceMemory) × IsFirstSourceFault (counts_of parts) fault
-IsFirstFaultOf parts fault =
-    IsLawfulMap (ranges_of parts) × AreLawfulCounts (counts_of parts) × (system_of parts ≡ Err fault)
+abbrev pub IsFirstFaultOfScriptParts : ScriptParts → ScriptFault → Type 0
+IsFirstFaultOfScriptParts parts (Map fault) = (fault ≢ MapMemory) × IsFirstMapFault (script_ranges parts) fault
+IsFirstFaultOfScriptParts parts (Sources fault) =
+    IsLawfulMap (script_ranges parts) × (fault ≢ SourceMemory) × IsFirstSourceFault (counts_of parts) fault
+IsFirstFaultOfScriptParts parts fault =
+    IsLawfulMap (script_ranges parts) × AreLawfulCounts (counts_of parts) × (system_of parts ≡ Err fault)
 
 -- ---- scripts
 
 -- the script describes this system
 pub record Spells (bytes : List ℕ) (system : System) : Type 0 where
-  pub parts : Parts
-  pub named : parts_of bytes ≡ Ok parts
-  pub makes : Makes parts system
+  pub parts : ScriptParts
+  pub named : script_parts bytes ≡ Ok parts
+  pub makes : MakesSystem parts system
 
 -- the first fault of a script that describes no system: that on the way to its parts, or else that of its parts
 abbrev pub IsFirstScriptFault : List ℕ → ScriptFault → Type 0
 IsFirstScriptFault bytes fault =
-    MatchResult (parts_of bytes) (λ parts. IsFirstFaultOf parts fault) (λ first. fault ≡ first)
+    MatchResult (script_parts bytes) (λ parts. IsFirstFaultOfScriptParts parts fault) (λ first. fault ≡ first)
 
 -- what contracts see of the parts that were read
-abbrev pub parts_view : code_parts.Parts → Parts
-parts_view parts = record {
+abbrev pub script_parts_view : code_parts.ScriptParts → ScriptParts
+script_parts_view parts = record {
   slots = parts.slots;
   stores = map store_of parts.devices.items;
-  masters = map master_view parts.masters.items;
+  masters = map script_master_view parts.masters.items;
 }

@@ -5,7 +5,7 @@ use Rattle.tl_types.specs.Request.{Request}
 use Rattle.tl_types.specs.Response.{Response}
 use Rattle.tl_types.specs.declared.trace.Entry.{Entry}
 use Rattle.tl_script.specs.Data.{data_text}
-use Rattle.tl_text.specs.Name.{word_of, reply_word_of}
+use Rattle.tl_text.specs.Name.{operation_word, reply_word_of}
 
 -- the word after a reply's name if it is denied
 abbrev pub denied_text : Bool → List ℕ
@@ -19,7 +19,7 @@ bytes_part (byte ∷ bytes) = codes " " ++ data_text (byte ∷ bytes)
 
 -- `NAME ADDRESS SIZE [DATA]`
 abbrev pub ask_text : Request → List ℕ
-ask_text ask = word_of ask.op ++ codes " 0x" ++ digits 16 false ask.address ++ codes " " ++ decimal ask.size
+ask_text ask = operation_word ask.op ++ codes " 0x" ++ digits 16 false ask.address ++ codes " " ++ decimal ask.size
     ++ bytes_part ask.bytes
 
 -- `REPLY [denied] [DATA]`

@@ -1,6 +1,6 @@
 //! The faults of scripts, and the keys that they name.
 ghost use Rattle.std.specs.Prelude.{◌≡◌, Some};
-ghost use Rattle.tl_script.specs.Key.{key_name};
+ghost use Rattle.tl_script.specs.Key.{script_key_name};
 ghost use Rattle.tl_script.specs.Reading.{map_fault, source_fault};
 ghost use Rattle.tl_script.specs.declared.fault.ScriptFault.TheVariants.{Memory};
 
@@ -11,7 +11,7 @@ use tl_map::{MapFault, SourceFault};
 
 /// A key of a script.
 #[derive(Debug, Clone, Copy, PartialEq, Eq)]
-pub enum Key {
+pub enum ScriptKey {
     Slots,
     Port,
     Kind,
@@ -23,27 +23,27 @@ pub enum Key {
     Ops,
 }
 
-impl Key {
+impl ScriptKey {
     /// The key, as a script has it.
     pub fn name(self) -> &'static str
-        ensures { result.now ≡ key_name self }
+        ensures { result.now ≡ script_key_name self }
     {
         match self {
-            Key::Slots => "slots",
-            Key::Port => "port",
-            Key::Kind => "kind",
-            Key::Base => "base",
-            Key::Length => "length",
-            Key::Reset => "reset",
-            Key::Master => "master",
-            Key::Sources => "sources",
-            Key::Ops => "ops",
+            ScriptKey::Slots => "slots",
+            ScriptKey::Port => "port",
+            ScriptKey::Kind => "kind",
+            ScriptKey::Base => "base",
+            ScriptKey::Length => "length",
+            ScriptKey::Reset => "reset",
+            ScriptKey::Master => "master",
+            ScriptKey::Sources => "sources",
+            ScriptKey::Ops => "ops",
         }
     }
 }
 
-impl fmt::Display for Key {
-    ghost output = { λ key. Some (key_name key) };
+impl fmt::Display for ScriptKey {
+    ghost output = { λ key. Some (script_key_name key) };
 
     fn fmt<W: fmt::Write>(&self, f: &mut fmt::Formatter<W>) -> fmt::Result {
         f.write_str(self.name())
@@ -57,11 +57,11 @@ pub enum ScriptFault {
     #[error("script: not TOML")]
     NotToml,
     #[error("script: missing {0}")]
-    Missing(Key),
+    Missing(ScriptKey),
     #[error("script: wrong type of {0}")]
-    WrongType(Key),
+    WrongType(ScriptKey),
     #[error("script: {0} out of range")]
-    OutOfRange(Key),
+    OutOfRange(ScriptKey),
     #[error("script: master {0} operation {1}: bad operation")]
     BadOp(usize, usize),
     #[error("script: {0}")]

@@ -27,10 +27,10 @@ mod script;
 mod system;
 mod value;
 
-pub use fault::{Key, ScriptFault};
+pub use fault::{ScriptFault, ScriptKey};
 pub use history::{push_account, push_history, write_account, write_history};
 pub use operation::{Job, read_operation};
 pub use operations::Operations;
-pub use print::{push_entry, push_reply, push_trace, push_traces, write_trace};
+pub use print::{push_ask, push_entry, push_reply, push_trace, push_traces, write_trace};
 pub use script::{MAX_SCRIPT, read_system};
-pub use system::{Crossbar, Device, MAX_JOBS, System, banks_of};
+pub use system::{Device, MAX_JOBS, PartsOfSystem, System, banks_of};

@@ -3,7 +3,7 @@ ghost use Rattle.std.specs.Prelude.{◌≡◌, ◌≤◌, ◌<◌, ◌^◌, ◌|
 ghost use Rattle.std.specs.List.{list_all};
 ghost use Rattle.tl_types.specs.Operation.{may_leave_unset};
 ghost use Rattle.tl_types.specs.Request.{IsLawfulRequest};
-ghost use Rattle.tl_script.specs.Operation.{IsLawfulJob, address_of, bytes_of, job_of, operation_in, operation_of, request_of, size_of, source_of};
+ghost use Rattle.tl_script.specs.Operation.{IsLawfulJob, address_of, operand_bytes, job_of, operation_in, operation_of, request_of, size_of, source_of_word};
 ghost use Rattle.tl_script.specs.System.{IsFrom};
 ghost use Rattle.tl_script.specs.declared.operation.Job.TheVariants.{Send};
 
@@ -108,9 +108,9 @@ fn spell_request(words: &[&[u8]], sources: u16, bytes: &mut Bytes) -> Option<Spe
     })
 }
 
-#[tactic(auto, unfolding(crate::specs::Operation::source_of))]
+#[tactic(auto, unfolding(crate::specs::Operation::source_of_word))]
 fn read_source(word: &[u8], sources: u16) -> Option<u16>
-    ensures value { result ≡ source_of sources word.now }
+    ensures value { result ≡ source_of_word sources word.now }
     ensures below { IfSome result (λ source. source < sources) }
 {
     let source = read_number(word, 10, 3)?;
@@ -145,10 +145,10 @@ fn read_size(word: &[u8]) -> Option<u8>
 }
 
 /// Reads the bytes that the words after the size spell in the place of those that there were.
-#[tactic(auto, unfolding(crate::specs::Operation::bytes_of))]
+#[tactic(auto, unfolding(crate::specs::Operation::operand_bytes))]
 fn read_bytes(op: AskOp, size: u8, words: &[&[u8]], bytes: &mut Bytes) -> Option<()>
     requires { size ≤ MAX_SIZE }
-    ensures value { option_map (λ _. bytes.new) result ≡ bytes_of op size (map (λ word. word.now) words.now) }
+    ensures value { option_map (λ _. bytes.new) result ≡ operand_bytes op size (map (λ word. word.now) words.now) }
     ensures lawful { IfSome result (λ _. IsLawfulRequest op size bytes.new) }
 {
     match words {

@@ -9,7 +9,7 @@ use crate::system::Device;
 
 /// A master, with its operations as the script writes them.
 #[derive(Drop)]
-pub struct Master<'a> {
+pub struct ScriptMaster<'a> {
     pub sources: u16,
     pub lines: Vec<&'a str>,
     ghost in_limit: { length lines.items ≤ MAX_JOBS },
@@ -17,10 +17,10 @@ pub struct Master<'a> {
 
 /// What the tables of a script name.
 #[derive(Drop)]
-pub struct Parts<'a> {
+pub struct ScriptParts<'a> {
     pub slots: usize,
     pub devices: Vec<Device>,
-    pub masters: Vec<Master<'a>>,
+    pub masters: Vec<ScriptMaster<'a>>,
     ghost some_slots: { 0 < slots },
     ghost slots_in_limit: { slots ≤ MAX_SLOTS },
     ghost lengths: { All (λ store. length store.bytes ≤ MAX_LENGTH) (map store_of devices.items) },

@@ -1,16 +1,19 @@
 //! The ports of a script.
 ghost use Rattle.std.specs.Prelude.{◌≡◌, ◌≤◌, All, IfOk, length, map, ok_or};
 ghost use Rattle.toml.specs.View.{table_view};
+ghost use Rattle.tl_text.specs.Reading.{each};
 ghost use Rattle.tl_ops.specs.declared.bank.TheConstants.{MAX_LENGTH as LONGEST};
-ghost use Rattle.tl_script.specs.Port.{filled, kind_at, kind_of, pairs_of, port_of, ports_of, reset_at};
-ghost use Rattle.tl_script.specs.Reading.{Gives, each};
+ghost use Rattle.tl_script.specs.Port.{filled, kind_at, script_kind_of, pairs_of, port_of, script_ports, reset_at};
+ghost use Rattle.tl_script.specs.Reading.{GivesInScript};
 ghost use Rattle.tl_script.specs.System.{store_of};
-ghost use Rattle.tl_script.specs.declared.fault.Key.TheVariants.{Reset};
+ghost use Rattle.tl_script.specs.declared.fault.ScriptKey.TheVariants.{Reset};
 ghost use Rattle.tl_script.specs.declared.fault.ScriptFault.TheVariants.{OutOfRange};
 
-use crate::fault::{Key, ScriptFault};
+use crate::fault::{ScriptFault, ScriptKey};
 use crate::system::Device;
-use crate::value::{find_value, list_at, number_at, tables_of, text_of, value_at};
+use crate::value::{
+    find_script_value, list_at, script_number_at, script_tables_of, script_text_of, script_value_at,
+};
 use std::alloc::Global;
 use tl_ops::{Kind, MAX_LENGTH};
 use tl_text::read_pair;
@@ -21,7 +24,7 @@ const MAX_BASE: u64 = i64::MAX as u64;
 
 /// The kind that a word names.
 fn read_kind(word: &[u8]) -> Option<Kind>
-    ensures { result ≡ kind_of word.now }
+    ensures { result ≡ script_kind_of word.now }
 {
     if word == b"ram".as_slice() {
         Some(Kind::Ram)
@@ -38,24 +41,24 @@ fn read_kind(word: &[u8]) -> Option<Kind>
 
 #[tactic(auto, unfolding(crate::specs::Port::kind_at))]
 fn kind_of_port(table: &Table) -> Result<Kind, ScriptFault>
-    ensures { Gives (λ kind. kind) result (kind_at (table_view table.now)) }
+    ensures { GivesInScript (λ kind. kind) result (kind_at (table_view table.now)) }
 {
-    let word = text_of(value_at(table, Key::Kind)?, Key::Kind)?;
+    let word = script_text_of(script_value_at(table, ScriptKey::Kind)?, ScriptKey::Kind)?;
     match read_kind(word.as_bytes()) {
         Some(kind) => Ok(kind),
-        None => Err(ScriptFault::OutOfRange(Key::Kind)),
+        None => Err(ScriptFault::OutOfRange(ScriptKey::Kind)),
     }
 }
 
 /// The bytes that pairs of hexadecimal digits spell.
 fn read_pairs(alloc: Global, text: &[u8]) -> Result<Vec<u8>, ScriptFault>
-    ensures { Gives (λ bytes. bytes.items) result (ok_or (pairs_of text.now) (OutOfRange Reset)) }
+    ensures { GivesInScript (λ bytes. bytes.items) result (ok_or (pairs_of text.now) (OutOfRange Reset)) }
 {
     let mut bytes = Vec::new(alloc);
     let mut rest = text;
     while let [high, low, more @ ..] = rest {
         let Some(byte) = read_pair(*high, *low) else {
-            return Err(ScriptFault::OutOfRange(Key::Reset));
+            return Err(ScriptFault::OutOfRange(ScriptKey::Reset));
         };
         bytes.push(byte)?;
         rest = more;
@@ -63,7 +66,7 @@ fn read_pairs(alloc: Global, text: &[u8]) -> Result<Vec<u8>, ScriptFault>
     if rest.is_empty() {
         Ok(bytes)
     } else {
-        Err(ScriptFault::OutOfRange(Key::Reset))
+        Err(ScriptFault::OutOfRange(ScriptKey::Reset))
     }
 }
 
@@ -71,11 +74,11 @@ fn read_pairs(alloc: Global, text: &[u8]) -> Result<Vec<u8>, ScriptFault>
 #[tactic(auto, unfolding(crate::specs::Port::filled))]
 fn fill(alloc: Global, count: usize, text: &[u8]) -> Result<Vec<u8>, ScriptFault>
     requires { count ≤ LONGEST }
-    ensures value { Gives (λ bytes. bytes.items) result (filled count text.now) }
+    ensures value { GivesInScript (λ bytes. bytes.items) result (filled count text.now) }
     ensures counted { IfOk result (λ bytes. length bytes.items ≡ count) }
 {
     if text.len() > 2 * count {
-        return Err(ScriptFault::OutOfRange(Key::Reset));
+        return Err(ScriptFault::OutOfRange(ScriptKey::Reset));
     }
     let mut bytes = read_pairs(alloc, text)?;
     bytes.resize(count, 0)?;
@@ -85,29 +88,33 @@ fn fill(alloc: Global, count: usize, text: &[u8]) -> Result<Vec<u8>, ScriptFault
 #[tactic(auto, unfolding(crate::specs::Port::reset_at))]
 fn reset_of_port(alloc: Global, count: usize, table: &Table) -> Result<Vec<u8>, ScriptFault>
     requires { count ≤ LONGEST }
-    ensures value { Gives (λ bytes. bytes.items) result (reset_at count (table_view table.now)) }
+    ensures value { GivesInScript (λ bytes. bytes.items) result (reset_at count (table_view table.now)) }
     ensures counted { IfOk result (λ bytes. length bytes.items ≡ count) }
 {
-    match find_value(table, Key::Reset) {
-        Some(value) => fill(alloc, count, text_of(value, Key::Reset)?.as_bytes()),
+    match find_script_value(table, ScriptKey::Reset) {
+        Some(value) => fill(
+            alloc,
+            count,
+            script_text_of(value, ScriptKey::Reset)?.as_bytes(),
+        ),
         None => fill(alloc, count, b""),
     }
 }
 
 #[tactic(auto, unfolding(crate::specs::Port::port_of))]
 fn read_port(alloc: Global, table: &Table) -> Result<Device, ScriptFault>
-    ensures value { Gives store_of result (port_of (table_view table.now)) }
+    ensures value { GivesInScript store_of result (port_of (table_view table.now)) }
     ensures in_limit { IfOk result (λ device. length device.reset.items ≤ LONGEST) }
 {
     let kind = kind_of_port(table)?;
-    let base = number_at(table, Key::Base, 0, MAX_BASE)?;
-    let count = number_at(table, Key::Length, 0, MAX_LENGTH as u64)?;
+    let base = script_number_at(table, ScriptKey::Base, 0, MAX_BASE)?;
+    let count = script_number_at(table, ScriptKey::Length, 0, MAX_LENGTH as u64)?;
     let reset = reset_of_port(alloc, count as usize, table)?;
     Ok(Device { kind, base, reset })
 }
 
 fn read_each_port(alloc: Global, tables: &[&Table]) -> Result<Vec<Device>, ScriptFault>
-    ensures value { Gives (λ devices. map store_of devices.items) result
+    ensures value { GivesInScript (λ devices. map store_of devices.items) result
         (each port_of (map (λ table. table_view table.now) tables.now)) }
     ensures in_limit { IfOk result
         (λ devices. All (λ store. length store.bytes ≤ LONGEST) (map store_of devices.items)) }
@@ -120,16 +127,16 @@ fn read_each_port(alloc: Global, tables: &[&Table]) -> Result<Vec<Device>, Scrip
 }
 
 /// The device of each port, of which there may be none.
-#[tactic(auto, unfolding(crate::specs::Port::ports_of))]
-pub fn read_ports(alloc: Global, table: &Table) -> Result<Vec<Device>, ScriptFault>
-    ensures value { Gives (λ devices. map store_of devices.items) result
-        (ports_of (table_view table.now)) }
+#[tactic(auto, unfolding(crate::specs::Port::script_ports))]
+pub fn read_script_ports(alloc: Global, table: &Table) -> Result<Vec<Device>, ScriptFault>
+    ensures value { GivesInScript (λ devices. map store_of devices.items) result
+        (script_ports (table_view table.now)) }
     ensures in_limit { IfOk result
         (λ devices. All (λ store. length store.bytes ≤ LONGEST) (map store_of devices.items)) }
 {
-    let Some(ports) = find_value(table, Key::Port) else {
+    let Some(ports) = find_script_value(table, ScriptKey::Port) else {
         return Ok(Vec::new(alloc));
     };
-    let tables = tables_of(alloc, list_at(ports, Key::Port)?, Key::Port)?;
+    let tables = script_tables_of(alloc, list_at(ports, ScriptKey::Port)?, ScriptKey::Port)?;
     read_each_port(alloc, &tables)
 }

@@ -2,7 +2,7 @@
 ghost use Rattle.std.specs.Prelude.{◌≡◌, ◌<◌, ◌≤◌, ◌+◌, ◌*◌, ◌++◌, codes, false, length, vec_capacity, vec_len, IfOk, OnErr, OnOk, map, Some};
 ghost use Rattle.std.specs.Fmt.{digit_glyph, digits};
 ghost use Rattle.tl_script.specs.Data.{byte_text, data_text};
-ghost use Rattle.tl_text.specs.Name.{word_of};
+ghost use Rattle.tl_text.specs.Name.{operation_word};
 ghost use Rattle.tl_script.specs.Trace.{ask_text, bytes_part, denied_text, lines_of, message_text, reply_text, trace_line, trace_text};
 ghost use Rattle.tl_text.specs.Text.{BeginsWith};
 
@@ -77,7 +77,7 @@ fn push_plain(text: &mut Vec<u8>, bytes: &[u8]) -> Result<(), AllocError>
 #[tactic(auto, using(tl_text::proofs::TextLemmas::begins))]
 fn push_target(text: &mut Vec<u8>, ask: &Ask) -> Result<(), AllocError>
     ensures ok { OnOk result (text.new.items
-        ≡ text.old.items ++ word_of ask.now.op ++ codes " 0x" ++ digits 16 false ask.now.address) }
+        ≡ text.old.items ++ operation_word ask.now.op ++ codes " 0x" ++ digits 16 false ask.now.address) }
     ensures err { OnErr result (BeginsWith text.old.items text.new.items) }
 {
     text.extend_from_slice(word(ask.op()).as_bytes())?;
@@ -85,8 +85,9 @@ fn push_target(text: &mut Vec<u8>, ask: &Ask) -> Result<(), AllocError>
     push_hex(text, ask.address())
 }
 
+/// Appends a request, as lines spell it.
 #[tactic(auto, using(tl_text::proofs::TextLemmas::begins))]
-fn push_ask(text: &mut Vec<u8>, ask: &Ask) -> Result<(), AllocError>
+pub fn push_ask(text: &mut Vec<u8>, ask: &Ask) -> Result<(), AllocError>
     ensures ok { OnOk result (text.new.items ≡ text.old.items ++ ask_text ask.now) }
     ensures err { OnErr result (BeginsWith text.old.items text.new.items) }
 {

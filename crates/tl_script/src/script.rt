@@ -1,18 +1,18 @@
 //! Reads the system that a script describes.
 ghost use Rattle.std.specs.Prelude.{◌≡◌, ◌≢◌, IfErr, IfOk, map};
 ghost use Rattle.toml.specs.View.{table_view};
-ghost use Rattle.tl_script.specs.Master.{master_view};
-ghost use Rattle.tl_script.specs.Reading.{Gives};
-ghost use Rattle.tl_script.specs.Script.{IsFirstFaultOf, IsFirstScriptFault, Makes, Spells, document_of, parts_in, parts_view};
+ghost use Rattle.tl_script.specs.Master.{script_master_view};
+ghost use Rattle.tl_script.specs.Reading.{GivesInScript};
+ghost use Rattle.tl_script.specs.Script.{IsFirstFaultOfScriptParts, IsFirstScriptFault, MakesSystem, Spells, script_document, parts_in, script_parts_view};
 ghost use Rattle.tl_script.specs.System.{range_of, store_of};
 ghost use Rattle.tl_script.specs.declared.fault.ScriptFault.TheVariants.{Memory};
 
-use crate::fault::{Key, ScriptFault};
-use crate::masters::{read_jobs, read_masters};
-use crate::parts::{Master, Parts};
-use crate::ports::read_ports;
+use crate::fault::{ScriptFault, ScriptKey};
+use crate::masters::{read_jobs, read_script_masters};
+use crate::parts::{ScriptMaster, ScriptParts};
+use crate::ports::read_script_ports;
 use crate::system::{Device, System};
-use crate::value::number_at;
+use crate::value::script_number_at;
 use std::alloc::{AllocError, Global};
 use tl_map::{Map, Range, Sources};
 use tl_types::MAX_SLOTS;
@@ -22,9 +22,9 @@ use toml::Table;
 pub const MAX_SCRIPT: usize = 1_048_576;
 
 /// The table of a script.
-#[tactic(auto, using(crate::proofs::Views::text_tests), unfolding(crate::specs::Script::document_of))]
+#[tactic(auto, using(crate::proofs::Views::text_tests), unfolding(crate::specs::Script::script_document))]
 fn read_document(alloc: Global, bytes: &[u8]) -> Result<Table, ScriptFault>
-    ensures { Gives table_view result (document_of bytes.now) }
+    ensures { GivesInScript table_view result (script_document bytes.now) }
 {
     if bytes.len() > MAX_SCRIPT {
         return Err(ScriptFault::TooLong);
@@ -41,13 +41,13 @@ fn read_document(alloc: Global, bytes: &[u8]) -> Result<Table, ScriptFault>
 
 /// The parts that a script's table names.
 #[tactic(auto, unfolding(crate::specs::Script::parts_in))]
-fn read_parts<'a>(alloc: Global, table: &'a Table) -> Result<Parts<'a>, ScriptFault>
-    ensures { Gives parts_view result (parts_in (table_view table.now)) }
+fn read_parts<'a>(alloc: Global, table: &'a Table) -> Result<ScriptParts<'a>, ScriptFault>
+    ensures { GivesInScript script_parts_view result (parts_in (table_view table.now)) }
 {
-    let slots = number_at(table, Key::Slots, 1, MAX_SLOTS as u64)?;
-    let devices = read_ports(alloc, table)?;
-    let masters = read_masters(alloc, table)?;
-    Ok(Parts {
+    let slots = script_number_at(table, ScriptKey::Slots, 1, MAX_SLOTS as u64)?;
+    let devices = read_script_ports(alloc, table)?;
+    let masters = read_script_masters(alloc, table)?;
+    Ok(ScriptParts {
         slots: slots as usize,
         devices,
         masters,
@@ -69,9 +69,9 @@ fn ranges_of(alloc: Global, devices: &[Device]) -> Result<Vec<Range>, AllocError
 }
 
 /// How many sources masters have.
-fn counts_of(alloc: Global, masters: &[Master<'_>]) -> Result<Vec<u16>, AllocError>
+fn counts_of(alloc: Global, masters: &[ScriptMaster<'_>]) -> Result<Vec<u16>, AllocError>
     ensures { IfOk result
-        (λ counts. counts.items ≡ map (λ master. master.sources) (map master_view masters.now)) }
+        (λ counts. counts.items ≡ map (λ master. master.sources) (map script_master_view masters.now)) }
 {
     let mut counts = Vec::new(alloc);
     for master in masters {
@@ -81,10 +81,10 @@ fn counts_of(alloc: Global, masters: &[Master<'_>]) -> Result<Vec<u16>, AllocErr
 }
 
 /// The system of these parts, or their first fault.
-fn make_system(alloc: Global, parts: Parts<'_>) -> Result<System, ScriptFault>
-    ensures made { IfOk result (Makes (parts_view parts.entry)) }
+fn make_system(alloc: Global, parts: ScriptParts<'_>) -> Result<System, ScriptFault>
+    ensures made { IfOk result (MakesSystem (script_parts_view parts.entry)) }
     ensures fault { IfErr result
-        (λ fault. fault ≢ Memory → IsFirstFaultOf (parts_view parts.entry) fault) }
+        (λ fault. fault ≢ Memory → IsFirstFaultOfScriptParts (script_parts_view parts.entry) fault) }
 {
     let ranges = ranges_of(alloc, &parts.devices)?;
     let counts = counts_of(alloc, &parts.masters)?;

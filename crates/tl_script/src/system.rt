@@ -32,7 +32,7 @@ pub struct System {
 
 /// A system without its slots and operations: a device for each range of the map, and the sources of the masters.
 #[derive(Drop)]
-pub struct Crossbar {
+pub struct PartsOfSystem {
     pub devices: Vec<Device>,
     pub sources: Sources,
     pub map: Map,
@@ -109,7 +109,7 @@ impl System {
     }
 
     /// The system without its slots and operations.
-    pub fn into_crossbar(self) -> Crossbar
+    pub fn into_crossbar(self) -> PartsOfSystem
         ensures devices { map store_of result.devices.items ≡ self.stores }
         ensures sources { result.sources ≡ self.counts }
         ensures map { result.map ≡ self.ranges }
@@ -117,7 +117,7 @@ impl System {
         ensures banks { All IsLawfulDevice result.devices.items }
     {
         let _lawful = self.map.ports();
-        Crossbar {
+        PartsOfSystem {
             devices: self.devices,
             sources: self.sources,
             map: self.map,

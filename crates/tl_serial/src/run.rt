@@ -2,7 +2,7 @@
 ghost use Rattle.std.specs.Prelude.{◌≡◌, ◌++◌, ◌∷◌, [], ◌+◌, ◌<◌, ℕ, Bool, List, length, map, option_map, replicate, IfOk, OnOk, Some, slice_get, IsSomeAnd, All, false};
 ghost use Rattle.tl_types.specs.declared.trace.Entry.{Entry};
 ghost use Rattle.tl_journal.specs.Journal.{pairs_in};
-ghost use Rattle.tl_journal.specs.Trace.{entries_in, entry_of};
+ghost use Rattle.tl_journal.specs.Trace.{entries_in, served_entry};
 ghost use Rattle.tl_ops.specs.Store.{after, reply};
 ghost use Rattle.tl_script.specs.System.{System, IsLawfulDevice, sends, store_of, error_store};
 ghost use Rattle.tl_serial.specs.Serial.{IsSerialRun, numbered, asks_in, log_of};
@@ -68,7 +68,7 @@ pub(crate) fn send(
     ensures source { OnOk result (answer.new.source ≡ ask.now.source) }
     ensures stands { IfOk result (λ place. (keeps : Bool) (log : List (ℕ × Entry))
         → Stand system.now keeps log slaves.old
-        → Stand system.now keeps (log ++ (master, entry_of ask.now answer.new place) ∷ []) slaves.new) }
+        → Stand system.now keeps (log ++ (master, served_entry ask.now answer.new place) ∷ []) slaves.new) }
 {
     let port = system.map().route(ask);
     let wide = system.sources().widen(master, ask.source()).unwrap();

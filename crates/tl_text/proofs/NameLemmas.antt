@@ -5,9 +5,9 @@ use Rattle.tl_types.specs.declared.operation.Logic.TheVariants.{Xor, Or, And, Sw
 use Rattle.tl_types.specs.declared.operation.Hint.TheVariants.{PrefetchRead, PrefetchWrite}
 use Rattle.tl_types.specs.declared.operation.AskOp.{AskOp}
 use Rattle.tl_types.specs.declared.operation.AskOp.TheVariants.{PutFull, PutPartial, Arithmetic, Logical, Get, Intent}
-use Rattle.tl_text.specs.Name.{name_of, word_of}
+use Rattle.tl_text.specs.Name.{name_of, operation_word}
 
-pub name_of-word_of : (op : AskOp) → name_of (word_of op) ≡ Some op
+pub name_of-word_of : (op : AskOp) → name_of (operation_word op) ≡ Some op
 name_of-word_of Get = refl
 name_of-word_of PutFull = refl
 name_of-word_of PutPartial = refl

@@ -10,21 +10,21 @@ use Rattle.tl_types.specs.declared.operation.ReplyOp.{ReplyOp}
 use Rattle.tl_types.specs.declared.operation.ReplyOp.TheVariants.{AccessAck, AccessAckData, HintAck}
 
 -- the word that names an operation
-abbrev pub word_of : AskOp → List ℕ
-word_of Get = codes "get"
-word_of PutFull = codes "putfull"
-word_of PutPartial = codes "putpart"
-word_of (Arithmetic Min) = codes "min"
-word_of (Arithmetic Max) = codes "max"
-word_of (Arithmetic MinU) = codes "minu"
-word_of (Arithmetic MaxU) = codes "maxu"
-word_of (Arithmetic Add) = codes "add"
-word_of (Logical Xor) = codes "xor"
-word_of (Logical Or) = codes "or"
-word_of (Logical And) = codes "and"
-word_of (Logical Swap) = codes "swap"
-word_of (Intent PrefetchRead) = codes "prefetchr"
-word_of (Intent PrefetchWrite) = codes "prefetchw"
+abbrev pub operation_word : AskOp → List ℕ
+operation_word Get = codes "get"
+operation_word PutFull = codes "putfull"
+operation_word PutPartial = codes "putpart"
+operation_word (Arithmetic Min) = codes "min"
+operation_word (Arithmetic Max) = codes "max"
+operation_word (Arithmetic MinU) = codes "minu"
+operation_word (Arithmetic MaxU) = codes "maxu"
+operation_word (Arithmetic Add) = codes "add"
+operation_word (Logical Xor) = codes "xor"
+operation_word (Logical Or) = codes "or"
+operation_word (Logical And) = codes "and"
+operation_word (Logical Swap) = codes "swap"
+operation_word (Intent PrefetchRead) = codes "prefetchr"
+operation_word (Intent PrefetchWrite) = codes "prefetchw"
 
 -- every operation
 abbrev pub all_operations : List AskOp
@@ -36,7 +36,7 @@ all_operations =
 
 -- the operation that a word names
 abbrev pub name_of : List ℕ → Option AskOp
-name_of word = find (λ op. bytes_eq (word_of op) word) all_operations
+name_of word = find (λ op. bytes_eq (operation_word op) word) all_operations
 
 -- the word that names a reply
 abbrev pub reply_word_of : ReplyOp → List ℕ

@@ -3,7 +3,8 @@
 //! [`read_number`] answers the number that digits spell (`specs/Number.antt`), [`read_name`] the operation that a word
 //! names, [`word`] and [`reply_word`] the words of operations and replies: reading and writing use one table of names
 //! (`specs/Name.antt`). [`split_words`] answers the first words of a line (`specs/Word.antt`). [`push_decimal`],
-//! [`push_hex`] and [`push_field`] append a number to a text.
+//! [`push_hex`] and [`push_field`] append a number to a text. `specs/Reading.antt` says how the checks of a text follow
+//! one another, for all readers of scripts, system files, rows and dumps.
 //!
 //! Each answer is pinned to its definition. Read on in `docs/FORMATS.md`, which has the formats with examples, and in
 //! `docs/MODEL.md`, "Texts".

@@ -1,7 +1,7 @@
 //! The names of operations and replies.
 ghost use Rattle.std.specs.Prelude.{◌≡◌, find};
 ghost use Rattle.std.specs.Str.{bytes_eq};
-ghost use Rattle.tl_text.specs.Name.{name_of, word_of, reply_word_of};
+ghost use Rattle.tl_text.specs.Name.{name_of, operation_word, reply_word_of};
 ghost use Rattle.tl_types.specs.declared.operation.AskOp.TheVariants.{Arithmetic, Logical, Intent};
 
 use tl_types::{Arith, AskOp, Hint, Logic, ReplyOp};
@@ -26,7 +26,7 @@ const OPERATIONS: [AskOp; 14] = [
 
 /// The word that names an operation in scripts and traces.
 pub fn word(op: AskOp) -> &'static str
-    ensures { result.now ≡ word_of op }
+    ensures { result.now ≡ operation_word op }
 {
     match op {
         AskOp::Get => "get",
@@ -39,7 +39,7 @@ pub fn word(op: AskOp) -> &'static str
 }
 
 fn arith_word(arith: Arith) -> &'static str
-    ensures { result.now ≡ word_of (Arithmetic arith) }
+    ensures { result.now ≡ operation_word (Arithmetic arith) }
 {
     match arith {
         Arith::Min => "min",
@@ -51,7 +51,7 @@ fn arith_word(arith: Arith) -> &'static str
 }
 
 fn logic_word(logic: Logic) -> &'static str
-    ensures { result.now ≡ word_of (Logical logic) }
+    ensures { result.now ≡ operation_word (Logical logic) }
 {
     match logic {
         Logic::Xor => "xor",
@@ -62,7 +62,7 @@ fn logic_word(logic: Logic) -> &'static str
 }
 
 fn hint_word(hint: Hint) -> &'static str
-    ensures { result.now ≡ word_of (Intent hint) }
+    ensures { result.now ≡ operation_word (Intent hint) }
 {
     match hint {
         Hint::PrefetchRead => "prefetchr",
@@ -79,7 +79,7 @@ pub fn read_name(word: &[u8]) -> Option<AskOp>
 
 // The operations are a parameter, so that a proof sees a search of a list and not one test for each name.
 fn find_name(operations: &[AskOp], name: &[u8]) -> Option<AskOp>
-    ensures { result ≡ find (λ op. bytes_eq (word_of op) name.now) operations.now }
+    ensures { result ≡ find (λ op. bytes_eq (operation_word op) name.now) operations.now }
 {
     operations
         .iter()

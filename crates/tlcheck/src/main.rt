@@ -18,9 +18,9 @@
 //! memory are handed to it. It is a crate of its own, so that its proof is not done again for the tests.
 #![tactic(auto)]
 
-use check_options::{Options, read_options};
+use check_options::{CheckOptions, read_check_options};
 use check_program::{
-    CheckFault, Erasing, Meter, Shown, check_as_asked, ended, read_images, read_system,
+    CheckFault, Erasing, Meter, Shown, check_as_asked, end_check, read_images, read_system_parts,
     write_coverage,
 };
 use std::io::{IsTerminal, Read};
@@ -40,14 +40,14 @@ fn main(rt: HostRuntime) -> ExitCode {
     let Ok(line) = line.collect::<Vec<&str>>(rt.alloc()) else {
         return no_memory(&rt);
     };
-    match read_options(rt.alloc(), &line) {
-        Ok(options) => ended(&rt, run(&rt, &options)),
+    match read_check_options(rt.alloc(), &line) {
+        Ok(options) => end_check(&rt, run(&rt, &options)),
         Err(error) => refused(&rt, error),
     }
 }
 
 /// Judges the capture that was named, or the one on standard input.
-fn run(rt: &HostRuntime, options: &Options<'_>) -> Result<bool, CheckFault> {
+fn run(rt: &HostRuntime, options: &CheckOptions<'_>) -> Result<bool, CheckFault> {
     match options.capture {
         Some(name) => judge(rt, options, NamedFile::new(rt, name)),
         None => judge(rt, options, rt.stdin()),
@@ -58,11 +58,11 @@ fn run(rt: &HostRuntime, options: &Options<'_>) -> Result<bool, CheckFault> {
 /// was named for it.
 fn judge<C: Read + Drop>(
     rt: &HostRuntime,
-    options: &Options<'_>,
+    options: &CheckOptions<'_>,
     capture: C,
 ) -> Result<bool, CheckFault> {
     let mut system = NamedFile::new(rt, options.system);
-    let parts = read_system(rt.alloc(), &mut system)?;
+    let parts = read_system_parts(rt.alloc(), &mut system)?;
     let images = read_images(rt.alloc(), rt, options.system, &parts)?;
     let meter = meter(rt, options);
     let mut writer = Erasing::new(rt.stdout(), meter.as_ref());
@@ -89,7 +89,7 @@ fn judge<C: Read + Drop>(
 }
 
 /// What shows the progress of the capture, if it is shown.
-fn meter<'r>(rt: &'r HostRuntime, options: &Options<'_>) -> Option<Meter<'r, HostRuntime>> {
+fn meter<'r>(rt: &'r HostRuntime, options: &CheckOptions<'_>) -> Option<Meter<'r, HostRuntime>> {
     if options.quiet || !rt.stderr().is_terminal() {
         return None;
     }

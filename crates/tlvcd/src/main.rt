@@ -8,7 +8,7 @@
 //! are handed to it. Read on in `docs/CAPTURE.md`, "Your own design".
 #![tactic(auto)]
 
-use check_waves::{Options, WaveFault, ended, read_options, write_capture};
+use check_waves::{WaveFault, WaveOptions, end_waves, read_wave_options, write_capture};
 use std::env;
 use std::process::ExitCode;
 use tl_streams::{NamedFile, no_memory, refused, unread};
@@ -25,14 +25,14 @@ fn main(rt: HostRuntime) -> ExitCode {
     let Ok(line) = line.collect::<Vec<&str>>(rt.alloc()) else {
         return no_memory(&rt);
     };
-    match read_options(rt.alloc(), &line) {
-        Ok(options) => ended(&rt, run(&rt, &options)),
+    match read_wave_options(rt.alloc(), &line) {
+        Ok(options) => end_waves(&rt, run(&rt, &options)),
         Err(error) => refused(&rt, error),
     }
 }
 
 /// Writes the capture of the dump that was named, or of the one on standard input.
-fn run(rt: &HostRuntime, options: &Options<'_>) -> Result<(), WaveFault> {
+fn run(rt: &HostRuntime, options: &WaveOptions<'_>) -> Result<(), WaveFault> {
     let mut system = NamedFile::new(rt, options.system);
     let mut writer = rt.stdout();
     match options.dump {

@@ -6,8 +6,8 @@ use crate::tests::files::Disk;
 use crate::tests::streams::{Drips, Trickle, Trouble};
 use check_description::Parts;
 use check_flight::Order;
-use check_options::Options;
-use check_program::{CheckFault, check_as_asked, read_system, write_coverage};
+use check_options::CheckOptions;
+use check_program::{CheckFault, check_as_asked, read_system_parts, write_coverage};
 use check_sides::Links;
 use std::alloc::Global;
 use std::io::ErrorKind;
@@ -69,7 +69,7 @@ contested p0 1
 const HELD: &[u8] = b"held\n";
 
 /// A command line that asks for the coverage of the masters' links.
-const ASKED: Options<'static> = Options {
+const ASKED: CheckOptions<'static> = CheckOptions {
     links: Links::Masters,
     order: Order::Accept,
     trace: false,
@@ -85,7 +85,7 @@ const ASKED: Options<'static> = Options {
 type Judged = (
     &'static [u8],
     &'static [u8],
-    Options<'static>,
+    CheckOptions<'static>,
     Option<bool>,
     &'static [u8],
 );
@@ -98,7 +98,7 @@ static JUDGED: [Judged; 7] = [
     (
         SYSTEM,
         b"",
-        Options {
+        CheckOptions {
             complete: true,
             ..ASKED
         },
@@ -109,7 +109,7 @@ static JUDGED: [Judged; 7] = [
     (
         SYSTEM,
         REPLY,
-        Options {
+        CheckOptions {
             coverage: None,
             ..ASKED
         },
@@ -131,7 +131,9 @@ fn joined(rt: &impl Abort, alloc: Global, front: &[u8], end: &[u8]) -> Vec<u8> {
 /// The parts that a system names.
 fn parts_of(rt: &impl Abort, alloc: Global, system: &[u8]) -> Parts {
     let mut system = Trickle::new(system, Trouble::Never);
-    read_system(alloc, &mut system).ok().expect(rt, "parts")
+    read_system_parts(alloc, &mut system)
+        .ok()
+        .expect(rt, "parts")
 }
 
 /// Whether there is this verdict, or a fault if there is none.
@@ -147,7 +149,7 @@ fn judge(
     alloc: Global,
     parts: Parts,
     text: &[u8],
-    options: &Options<'_>,
+    options: &CheckOptions<'_>,
     covered: &mut Vec<u8>,
 ) -> Result<bool, CheckFault> {
     let capture = Trickle::new(text, Trouble::Never);

@@ -4,7 +4,7 @@ use crate::tests::ends::{End, Outcome, Run, fault, without_trouble};
 use crate::tests::streams::{Drips, Trickle, Trouble};
 use check_keys::SystemFault;
 use check_samples::{Signal, UnknownBit};
-use check_signals::{Key, KeyFault};
+use check_signals::{KeyFault, SignalKey};
 use check_vcd::Mistake;
 use check_watch::Link;
 use check_waves::{WaveFault, write_capture};
@@ -249,7 +249,7 @@ fn faults_have_their_lines_and_statuses(rt: HostRuntime) {
     has_line(
         &rt,
         alloc,
-        WaveFault::Keys(KeyFault::WrongType(Key::Wires)),
+        WaveFault::Keys(KeyFault::WrongType(SignalKey::Wires)),
         "system: wrong type of wires",
         1,
     );

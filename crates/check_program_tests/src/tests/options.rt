@@ -1,11 +1,11 @@
 //! The command line, row by row.
 use check_flight::Order;
-use check_options::{Options, read_options};
+use check_options::{CheckOptions, read_check_options};
 use check_sides::Links;
 use tl_streams::line_status;
 
 /// The options of a command line that has a system alone.
-const PLAIN: Options<'static> = Options {
+const PLAIN: CheckOptions<'static> = CheckOptions {
     links: Links::Both,
     order: Order::Accept,
     trace: false,
@@ -17,11 +17,11 @@ const PLAIN: Options<'static> = Options {
 };
 
 /// The words of a command line, and the options that they ask for.
-static LINES: [(&[&str], Options<'static>); 14] = [
+static LINES: [(&[&str], CheckOptions<'static>); 14] = [
     (&["tlcheck", "s"], PLAIN),
     (
         &["tlcheck", "s", "c"],
-        Options {
+        CheckOptions {
             capture: Some("c"),
             ..PLAIN
         },
@@ -29,14 +29,14 @@ static LINES: [(&[&str], Options<'static>); 14] = [
     (&["tlcheck", "s", "-"], PLAIN),
     (
         &["tlcheck", "--links", "masters", "s"],
-        Options {
+        CheckOptions {
             links: Links::Masters,
             ..PLAIN
         },
     ),
     (
         &["tlcheck", "s", "--links=ports", "--order=reply", "c"],
-        Options {
+        CheckOptions {
             links: Links::Ports,
             order: Order::Reply,
             capture: Some("c"),
@@ -45,14 +45,14 @@ static LINES: [(&[&str], Options<'static>); 14] = [
     ),
     (
         &["tlcheck", "--order=any", "s"],
-        Options {
+        CheckOptions {
             order: Order::Any,
             ..PLAIN
         },
     ),
     (
         &["tlcheck", "--trace", "s", "c"],
-        Options {
+        CheckOptions {
             trace: true,
             capture: Some("c"),
             ..PLAIN
@@ -60,14 +60,14 @@ static LINES: [(&[&str], Options<'static>); 14] = [
     ),
     (
         &["tlcheck", "--order", "accept", "--", "s", "--links"],
-        Options {
+        CheckOptions {
             capture: Some("--links"),
             ..PLAIN
         },
     ),
     (
         &["tlcheck", "--complete", "s", "c"],
-        Options {
+        CheckOptions {
             complete: true,
             capture: Some("c"),
             ..PLAIN
@@ -75,7 +75,7 @@ static LINES: [(&[&str], Options<'static>); 14] = [
     ),
     (
         &["tlcheck", "--trace", "s", "--complete", "--links", "each"],
-        Options {
+        CheckOptions {
             links: Links::Each,
             trace: true,
             complete: true,
@@ -84,7 +84,7 @@ static LINES: [(&[&str], Options<'static>); 14] = [
     ),
     (
         &["tlcheck", "s", "--quiet", "c", "--trace"],
-        Options {
+        CheckOptions {
             trace: true,
             quiet: true,
             capture: Some("c"),
@@ -93,7 +93,7 @@ static LINES: [(&[&str], Options<'static>); 14] = [
     ),
     (
         &["tlcheck", "--coverage", "f", "s", "c"],
-        Options {
+        CheckOptions {
             coverage: Some("f"),
             capture: Some("c"),
             ..PLAIN
@@ -101,7 +101,7 @@ static LINES: [(&[&str], Options<'static>); 14] = [
     ),
     (
         &["tlcheck", "s", "--coverage=f", "--complete", "-"],
-        Options {
+        CheckOptions {
             complete: true,
             coverage: Some("f"),
             ..PLAIN
@@ -110,7 +110,7 @@ static LINES: [(&[&str], Options<'static>); 14] = [
     // a hyphen is a name like others here
     (
         &["tlcheck", "s", "c", "--coverage", "-"],
-        Options {
+        CheckOptions {
             coverage: Some("-"),
             capture: Some("c"),
             ..PLAIN
@@ -121,7 +121,7 @@ static LINES: [(&[&str], Options<'static>); 14] = [
 #[test]
 fn words_give_options(rt: HostRuntime) {
     for (words, wanted) in &LINES {
-        let options = read_options(rt.alloc(), words).expect(&rt, "options");
+        let options = read_check_options(rt.alloc(), words).expect(&rt, "options");
         assert!(rt; options == *wanted);
     }
 }
@@ -150,7 +150,7 @@ static OTHERS: [(&[&str], u8); 17] = [
 #[test]
 fn other_words_have_a_status(rt: HostRuntime) {
     for (words, status) in &OTHERS {
-        match read_options(rt.alloc(), words) {
+        match read_check_options(rt.alloc(), words) {
             Ok(_) => panic!(&rt; "options"),
             Err(error) => assert!(rt; line_status(&error) == *status),
         }

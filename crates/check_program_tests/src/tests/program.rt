@@ -7,7 +7,7 @@ use crate::tests::streams::{Drips, Trickle, Trouble};
 use check_description::Parts;
 use check_flight::Order;
 use check_keys::SystemFault;
-use check_program::{Asked, CheckFault, check, read_image, read_system};
+use check_program::{Asked, CheckFault, check, read_image, read_system_parts};
 use check_rows::RowFault;
 use check_sides::Links;
 use check_start::Terms;
@@ -46,7 +46,7 @@ fn judge(
     trace: bool,
     covered: &mut Vec<u8>,
 ) -> Result<bool, CheckFault> {
-    let parts = match read_system(alloc, system) {
+    let parts = match read_system_parts(alloc, system) {
         Ok(parts) => parts,
         Err(fault) => return Err(fault),
     };
@@ -307,7 +307,9 @@ sources = 1
 /// The port of that ROM.
 fn rom(rt: &impl Abort, alloc: Global) -> Parts {
     let mut system = Trickle::new(ROM, Trouble::Never);
-    let parts = read_system(alloc, &mut system).ok().expect(rt, "a system");
+    let parts = read_system_parts(alloc, &mut system)
+        .ok()
+        .expect(rt, "a system");
     assert!(rt; parts.ports.len() == 1);
     parts
 }

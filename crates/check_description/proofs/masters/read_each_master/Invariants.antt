@@ -2,7 +2,7 @@
 use Rattle.std.proofs.Common.{◌≡◌, drop, map}
 use Rattle.toml.specs.View.{table_view}
 use Rattle.check_description.specs.Master.{master_of, master_view}
-use Rattle.check_keys.specs.Reading.{each, with_front}
+use Rattle.tl_text.specs.Reading.{each, with_front}
 use Rattle.check_description.proofs.masters.read_each_master.Given as goal
 
 abbrev pub invariant-loop-table : goal.invariant-loop-table

@@ -1,7 +1,7 @@
 -- Blocks are lawful owners, so only want of memory is left.
 use Rattle.std.proofs.Common.{◌≢◌}
-use Rattle.check_map.specs.Sources.{IsFirstSourceFault}
-use Rattle.check_map.specs.declared.sources.SourceFault.TheVariants.{Memory as SourceMemory}
+use Rattle.check_map.specs.Sources.{IsFirstSourceOwnerFault}
+use Rattle.check_map.specs.declared.sources.SourceOwnerFault.TheVariants.{Memory as SourceMemory}
 use Rattle.check_description.specs.Master.{IsBlockFault}
 use Rattle.check_keys.specs.Reading.{source_fault}
 use Rattle.check_description.specs.Description.{IsOfSources}
@@ -16,7 +16,7 @@ returns-in_err-new-clause-fault c =
     let owners = c.in_ok-owners.owners.items in
     let fault = c.in_err-new.field-0.0 in
     let lawful = blocks_lawful counts owners c.in_ok-owners.ensures.few c.in_ok-owners.ensures.made in
-    let first : fault ≢ SourceMemory → IsFirstSourceFault owners fault =
+    let first : fault ≢ SourceMemory → IsFirstSourceOwnerFault owners fault =
     rw (← c.deref.ensures.value) c.in_err-new.ensures.fault in
     error_is (λ (fault : SystemFault). fault ≢ Memory → IsOfSources (IsBlockFault counts) fault) (source_fault fault)
     c.from_residual-in_err-new.result c.from_residual-in_err-new.ensures.1

@@ -1,7 +1,7 @@
 -- The ports so far, and those of the rest, are the ports of all.
 use Rattle.std.proofs.Common.{◌≡◌, drop, length, map}
 use Rattle.toml.specs.View.{table_view}
-use Rattle.check_keys.specs.Reading.{each, with_front}
+use Rattle.tl_text.specs.Reading.{each, with_front}
 use Rattle.check_description.specs.Port.{port_of, port_view}
 use Rattle.check_description.proofs.ports.read_each_port.Given as goal
 

@@ -1,7 +1,7 @@
 -- The tables so far, and those of the rest, are the tables of all.
 use Rattle.std.proofs.Common.{◌≡◌, drop, map}
 use Rattle.toml.specs.View.{view, table_view}
-use Rattle.check_keys.specs.Reading.{each, with_front}
+use Rattle.tl_text.specs.Reading.{each, with_front}
 use Rattle.check_keys.specs.Value.{table_of}
 use Rattle.check_keys.proofs.value.tables_of.Given as goal
 

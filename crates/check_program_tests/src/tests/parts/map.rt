@@ -3,7 +3,7 @@ ghost use Rattle.std.specs.Prelude.{◌↔◌, IsTrue, ◌≡◌, ◌<◌, true,
 ghost use Rattle.check_map.specs.Ranges.{AreRanges, IsLawfulRange, lists_in};
 ghost use Rattle.check_program_tests.specs.Port.{IsPort};
 
-use check_map::{MAX_PORTS, MAX_RANGES, Map, MapFault};
+use check_map::{AddressMap, AddressMapFault, MAX_JUDGED_PORTS, MAX_RANGES_OF_PORT};
 use std::alloc::Global;
 use std::process::Abort;
 use tl_map::Range;
@@ -24,7 +24,9 @@ fn is_lawful(range: Range) -> bool
 fn is_port(ranges: &[Range]) -> bool
     ensures { IsTrue result ↔ IsPort ranges.now }
 {
-    0 < ranges.len() && ranges.len() <= MAX_RANGES && ranges.iter().all(|range| is_lawful(*range))
+    0 < ranges.len()
+        && ranges.len() <= MAX_RANGES_OF_PORT
+        && ranges.iter().all(|range| is_lawful(*range))
 }
 
 /// Whether each port has lawful ranges, one or more, and not too many.
@@ -38,7 +40,7 @@ fn are_ports(ports: &[Vec<Range>]) -> bool
 fn are_ranges(ports: &[Vec<Range>]) -> bool
     ensures { result ≡ true → AreRanges (lists_in ports.now) }
 {
-    ports.len() <= MAX_PORTS && are_ports(ports)
+    ports.len() <= MAX_JUDGED_PORTS && are_ports(ports)
 }
 
 /// The vectors of these ranges.
@@ -52,18 +54,22 @@ fn ports_of(rt: &impl Abort, alloc: Global, rows: &[&[Range]]) -> Vec<Vec<Range>
 }
 
 /// The map of ports that have ranges as the reader of system files leaves them.
-pub(crate) fn made(rt: &impl Abort, alloc: Global, ports: &[Vec<Range>]) -> Result<Map, MapFault> {
+pub(crate) fn made(
+    rt: &impl Abort,
+    alloc: Global,
+    ports: &[Vec<Range>],
+) -> Result<AddressMap, AddressMapFault> {
     assert!(rt; are_ranges(ports));
-    Map::new(alloc, ports)
+    AddressMap::new(alloc, ports)
 }
 
 /// The map of these ranges.
-fn map_of(rt: &impl Abort, alloc: Global, rows: &[&[Range]]) -> Map {
+fn map_of(rt: &impl Abort, alloc: Global, rows: &[&[Range]]) -> AddressMap {
     made(rt, alloc, &ports_of(rt, alloc, rows)).expect(rt, "a map")
 }
 
 /// The fault of these ranges.
-fn fault_of(rt: &impl Abort, alloc: Global, rows: &[&[Range]]) -> Option<MapFault> {
+fn fault_of(rt: &impl Abort, alloc: Global, rows: &[&[Range]]) -> Option<AddressMapFault> {
     made(rt, alloc, &ports_of(rt, alloc, rows)).err()
 }
 
@@ -127,7 +133,7 @@ static ROUTES: [(u64, u8, usize); 20] = [
 ];
 
 /// A request of this size at this address goes to this port.
-fn is_routed(rt: &impl Abort, map: &Map, address: u64, size: u8, wanted: usize) {
+fn is_routed(rt: &impl Abort, map: &AddressMap, address: u64, size: u8, wanted: usize) {
     let ask = Ask::new(AskOp::Get, size, 0, address, &[]).expect(rt, "a request");
     assert!(rt; map.route(&ask) == wanted);
 }
@@ -199,7 +205,7 @@ static OVERLAPS: [(&[&[Range]], usize, usize); 9] = [
 #[test]
 fn ranges_have_a_first_fault(rt: HostRuntime) {
     for (ports, one, other) in &OVERLAPS {
-        let wanted = Some(MapFault::Overlap(*one, *other));
+        let wanted = Some(AddressMapFault::Overlap(*one, *other));
         assert!(rt; fault_of(&rt, rt.alloc(), ports) == wanted);
     }
     assert!(rt; fault_of(&rt, rt.alloc(), &[&[RAM], &[NEXT], &[FAR]]) == None);
@@ -234,7 +240,7 @@ fn many_ranges(rt: &impl Abort, alloc: Global) -> Vec<Vec<Range>> {
 }
 
 /// Looks up the first and the last byte of a port's range, and those beside it, which are no port's.
-fn look_up(rt: &impl Abort, map: &Map, range: Range, port: u64) {
+fn look_up(rt: &impl Abort, map: &AddressMap, range: Range, port: u64) {
     assert!(rt;
         0 < range.base && range.base <= 1 << 40 && 0 < range.length && range.length <= 1 << 20
     );
@@ -259,21 +265,21 @@ fn a_port_is_found_among_255_with_300_ranges(rt: HostRuntime) {
 
 #[test]
 fn a_port_may_have_sixteen_ranges(rt: HostRuntime) {
-    let mut ranges = [range(0, 16); MAX_RANGES];
-    for place in 0..MAX_RANGES {
+    let mut ranges = [range(0, 16); MAX_RANGES_OF_PORT];
+    for place in 0..MAX_RANGES_OF_PORT {
         ranges[place].base = 1000 - 32 * place as u64;
     }
     let map = map_of(&rt, rt.alloc(), &[&ranges, &[range(1016, 8)]]);
-    for place in 0..MAX_RANGES as u64 {
+    for place in 0..MAX_RANGES_OF_PORT as u64 {
         assert!(rt; map.route_bytes(1000 - 32 * place, 4) == 0);
         assert!(rt; map.route_bytes(999 - 32 * place, 0) == 2);
     }
     assert!(rt; map.route_bytes(1016, 3) == 1);
 }
 
-static TEXTS: [(MapFault, &str); 2] = [
-    (MapFault::Overlap(0, 254), "ports 0 and 254 overlap"),
-    (MapFault::Memory, "memory refused"),
+static TEXTS: [(AddressMapFault, &str); 2] = [
+    (AddressMapFault::Overlap(0, 254), "ports 0 and 254 overlap"),
+    (AddressMapFault::Memory, "memory refused"),
 ];
 
 #[test]

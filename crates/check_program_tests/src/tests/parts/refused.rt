@@ -2,7 +2,7 @@
 //! that each request may be refused in turn (`rt try --test --fail-alloc N`): the answer is the right one, or that
 //! memory was refused.
 use super::map::made;
-use check_map::{MapFault, Owner, SourceFault, Sources, blocks};
+use check_map::{AddressMapFault, Owner, SourceOwnerFault, SourceOwners, blocks};
 use std::alloc::{AllocError, Global};
 use tl_map::Range;
 
@@ -21,12 +21,12 @@ static OWNERS: [Owner; 2] = [
 
 #[test]
 fn sources_are_made_or_memory_is_refused(rt: HostRuntime) {
-    match Sources::new(rt.alloc(), &OWNERS) {
+    match SourceOwners::new(rt.alloc(), &OWNERS) {
         Ok(sources) => {
             assert!(rt; sources.owner(10) == Some((0, 2)));
             assert!(rt; sources.wides() == 11);
         }
-        Err(fault) => assert!(rt; fault == SourceFault::Memory),
+        Err(fault) => assert!(rt; fault == SourceOwnerFault::Memory),
     }
 }
 
@@ -41,7 +41,7 @@ fn blocks_are_made_or_memory_is_refused(rt: HostRuntime) {
                     stride: 1,
                 })
         ),
-        Err(fault) => assert!(rt; fault == SourceFault::Memory),
+        Err(fault) => assert!(rt; fault == SourceOwnerFault::Memory),
     }
 }
 
@@ -76,6 +76,6 @@ fn a_map_is_made_or_memory_is_refused(rt: HostRuntime) {
             assert!(rt; map.route_bytes(79, 0) == 0);
             assert!(rt; map.route_bytes(80, 0) == 2);
         }
-        Err(fault) => assert!(rt; fault == MapFault::Memory),
+        Err(fault) => assert!(rt; fault == AddressMapFault::Memory),
     }
 }

@@ -1,5 +1,5 @@
 //! The sources of masters.
-use check_map::{Owner, SourceFault, Sources, blocks};
+use check_map::{Owner, SourceOwnerFault, SourceOwners, blocks};
 use std::alloc::Global;
 use std::process::Abort;
 
@@ -62,15 +62,15 @@ static WIDENED: [(&[Owner], usize, u16, u16); 8] = [
 ];
 
 /// A master's source is this wide one, and this is its owner.
-fn is_widened(rt: &impl Abort, sources: &Sources, master: usize, source: u16, wide: u16) {
+fn is_widened(rt: &impl Abort, sources: &SourceOwners, master: usize, source: u16, wide: u16) {
     assert!(rt; sources.widen(master, source) == Some(wide));
     assert!(rt; sources.owner(wide) == Some((master, source)));
     assert!(rt; sources.is_owned(wide));
 }
 
 /// The sources of these owners.
-fn sources_of(rt: &impl Abort, alloc: Global, owners: &[Owner]) -> Sources {
-    Sources::new(alloc, owners).expect(rt, "sources")
+fn sources_of(rt: &impl Abort, alloc: Global, owners: &[Owner]) -> SourceOwners {
+    SourceOwners::new(alloc, owners).expect(rt, "sources")
 }
 
 #[test]
@@ -82,7 +82,7 @@ fn sources_are_widened_and_owned(rt: HostRuntime) {
 }
 
 /// A wide source has no owner.
-fn is_nobodys(rt: &impl Abort, sources: &Sources, wide: u16) {
+fn is_nobodys(rt: &impl Abort, sources: &SourceOwners, wide: u16) {
     assert!(rt; sources.owner(wide) == None);
     assert!(rt; !sources.is_owned(wide));
 }
@@ -111,9 +111,9 @@ fn masters_and_wide_sources_are_counted(rt: HostRuntime) {
 /// The first source, the count and the stride of a master.
 type Block = (u16, u32, u16);
 
-const TOO_MANY: Option<SourceFault> = Some(SourceFault::TooMany);
+const TOO_MANY: Option<SourceOwnerFault> = Some(SourceOwnerFault::TooMany);
 
-static FAULTS: [(&[Block], Option<SourceFault>); 12] = [
+static FAULTS: [(&[Block], Option<SourceOwnerFault>); 12] = [
     (&[(0, 65_536, 1)], None),
     (&[(1, 65_535, 1), (0, 1, 1)], None),
     (&[(1, 65_536, 1)], TOO_MANY),
@@ -123,28 +123,31 @@ static FAULTS: [(&[Block], Option<SourceFault>); 12] = [
     (&[(65_535, 2, 1)], TOO_MANY),
     // what is tried over all masters comes first
     (&[(3, 1, 1), (3, 1, 1), (0, 0, 1)], TOO_MANY),
-    (&[(3, 1, 1), (0, 8, 1)], Some(SourceFault::Shared(0, 1, 3))),
+    (
+        &[(3, 1, 1), (0, 8, 1)],
+        Some(SourceOwnerFault::Shared(0, 1, 3)),
+    ),
     // the later master's sources are tried in their order
     (
         &[(6, 1, 1), (3, 1, 1), (0, 8, 3)],
-        Some(SourceFault::Shared(1, 2, 3)),
+        Some(SourceOwnerFault::Shared(1, 2, 3)),
     ),
     // and the masters in theirs
     (
         &[(0, 2, 1), (4, 1, 1), (1, 1, 1), (4, 1, 1)],
-        Some(SourceFault::Shared(0, 2, 1)),
+        Some(SourceOwnerFault::Shared(0, 2, 1)),
     ),
     (&[(0, 2, 4), (2, 2, 4), (1, 4, 2)], None),
 ];
 
 /// The fault of masters with these blocks.
-fn fault_of(rt: &impl Abort, alloc: Global, blocks: &[Block]) -> Option<SourceFault> {
+fn fault_of(rt: &impl Abort, alloc: Global, blocks: &[Block]) -> Option<SourceOwnerFault> {
     let mut owners = Vec::new(alloc);
     for (first, count, stride) in blocks {
         let owner = owner(*first, *count, *stride);
         owners.push(owner).expect(rt, "memory");
     }
-    Sources::new(alloc, &owners).err()
+    SourceOwners::new(alloc, &owners).err()
 }
 
 #[test]
@@ -154,13 +157,13 @@ fn owners_have_a_first_fault(rt: HostRuntime) {
     }
 }
 
-static TEXTS: [(SourceFault, &str); 3] = [
-    (SourceFault::TooMany, "too many masters or sources"),
+static TEXTS: [(SourceOwnerFault, &str); 3] = [
+    (SourceOwnerFault::TooMany, "too many masters or sources"),
     (
-        SourceFault::Shared(2, 11, 65_535),
+        SourceOwnerFault::Shared(2, 11, 65_535),
         "masters 2 and 11 share source 65535",
     ),
-    (SourceFault::Memory, "memory refused"),
+    (SourceOwnerFault::Memory, "memory refused"),
 ];
 
 #[test]
@@ -188,7 +191,7 @@ fn sixty_four_masters_and_no_more(rt: HostRuntime) {
     assert!(rt; sources.owner(1008) == Some((63, 0)));
     assert!(rt; sources.wides() == 1024);
     let owners = in_a_row(&rt, rt.alloc(), 65);
-    assert!(rt; Sources::new(rt.alloc(), &owners).err() == TOO_MANY);
+    assert!(rt; SourceOwners::new(rt.alloc(), &owners).err() == TOO_MANY);
 }
 
 /// Counts of sources, the number of a master, and its block, if it has one.

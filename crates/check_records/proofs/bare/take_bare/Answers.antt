@@ -1,7 +1,7 @@
 -- The line that was taken is the record.
 use Rattle.std.proofs.Common.{◌+◌, ◌∙◌, ap, take, drop, arith}
 use Rattle.check_records.specs.Source.{at_hand, left}
-use Rattle.check_records.specs.Bare.{parts_of}
+use Rattle.check_records.specs.Bare.{comma_parts}
 use Rattle.check_records.proofs.LineLemmas.{bare-ends, bare-feeds}
 use Rattle.check_records.proofs.SourceLemmas.{IsAdvance, gives-advance, within-first}
 use Rattle.check_records.proofs.WithinLemmas.{blank}
@@ -25,5 +25,5 @@ returns-clause-yes g c = λ _.
       same = does.reader ∙ c.note_bare.ensures.reader;
     } in
     rw (does.bare ∙ c.note_bare.ensures.bare)
-    (gives-advance read (left read old) old new blank old.line (n + 1) c.from-feeds.result n (parts_of (take n hand))
+    (gives-advance read (left read old) old new blank old.line (n + 1) c.from-feeds.result n (comma_parts (take n hand))
     (within-first read old c.requires) is (bare-ends hand n line c.requires.1) line.short)

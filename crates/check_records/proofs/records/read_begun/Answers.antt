@@ -3,7 +3,7 @@ use Rattle.std.proofs.Common.{◌≡◌, [], length, arith, ◌∙◌}
 use Rattle.std.proofs.lemmas.List.{drop_all}
 use Rattle.csv.specs.Records.{fields_of}
 use Rattle.check_records.specs.Draft.{partial}
-use Rattle.check_records.specs.Reading.{row_of}
+use Rattle.check_records.specs.Reading.{row_of_draft}
 use Rattle.check_records.specs.Source.{Between, at_hand, left}
 use Rattle.check_records.proofs.SourceLemmas.{IsAdvance, answers-at-end, between-refill, gives-advance, within-advance}
 use Rattle.check_records.proofs.WithinLemmas.{IsWithin}
@@ -57,7 +57,7 @@ returns-then-not-branch-clause-ok g c =
     (record { none = none; text = c.in_ok-refill.ensures.text; line_is = c.refill.ensures.line }) in
     let end = c.in_ok-refill.ensures.end c.if-not-branch.true in
     answers-at-end read from new q line
-    (row_of c.finish.new.self) c.finish.result last end.0 end.1 ok.2.short c.finish.ensures.ends
+    (row_of_draft c.finish.new.self) c.finish.result last end.0 end.1 ok.2.short c.finish.ensures.ends
     c.finish.ensures.fields (c.finish.ensures.line ∙ c.feed.ensures.line)
 
 pub loop-preserved : goal.loop-preserved

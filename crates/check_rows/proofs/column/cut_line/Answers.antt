@@ -1,6 +1,6 @@
 -- As many parts as there are columns, or not.
 use Rattle.std.proofs.Common.{◌≡◌, ◌∙◌, ◌++◌, ◌∷◌, [], List, ℕ, length, map, take, sym, ap, arith, length-append}
-use Rattle.check_rows.specs.Column.{parts_of}
+use Rattle.check_rows.specs.Column.{column_parts}
 use Rattle.check_rows.proofs.ColumnLemmas.{length-words, some-part, words-all}
 use Rattle.check_rows.proofs.column.cut_line.Goals as goal
 
@@ -14,7 +14,7 @@ returns-in-Some-clause-none c = λ is.
     let found = map (λ word. word.now) (take i words) in
     let before : length found ≡ i = length-words words i (omega (arith, size, high)) in
     let all = ap (λ (xs : List (List ℕ)). length xs) c.loop-place.invariant.parts
-    ∙ length-append found (parts_of c.loop-place.rest.now) in
+    ∙ length-append found (column_parts c.loop-place.rest.now) in
     let more = ap (λ (xs : List (List ℕ)). length xs) c.in-Some.ensures.some in
     let some = some-part c.in-Some.field-0.1.now in
     omega (arith, is, before, all, more, some, low)

@@ -1,7 +1,7 @@
 -- One lane more, or digits that are none.
 use Rattle.std.proofs.Common.{◌≡◌, ◌∙◌, ◌+◌, ◌-◌, length, None, Some, length-set, sym, ap, arith}
 use mir.Val.{bool_byte}
-use Rattle.check_rows.specs.Lanes.{byte_in, known_bit, lane_at}
+use Rattle.check_rows.specs.Lanes.{byte_or_zero, known_bit, lane_at}
 use Rattle.check_rows.proofs.Shown.{all-read, bit-some, byte-or, lane-here, one_lane_more, shown_by-none}
 use Rattle.check_rows.proofs.lanes.read_shown.Goals as goal
 
@@ -26,7 +26,7 @@ loop-k-preserved c =
     lane-here count word k (omega arith) ∙ sym c.read_lane.ensures ∙ c.in_ok-lane.was in
     let here : count - (k + 1) ≡ count - 1 - k = omega arith in
     let next : count - k ≡ count - 1 - k + 1 = omega arith in
-    let byte : c.unwrap_or.result ≡ byte_in found = c.unwrap_or.ensures ∙ byte-or found in
+    let byte : c.unwrap_or.result ≡ byte_or_zero found = c.unwrap_or.ensures ∙ byte-or found in
     let bit : c.from.result ≡ known_bit found = c.from.ensures ∙ ap bool_byte c.is_some.ensures ∙ bit-some found in
     record {
       size = length-set lanes (count - 1 - k) c.unwrap_or.result ∙ size;

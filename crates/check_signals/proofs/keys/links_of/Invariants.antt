@@ -1,7 +1,8 @@
 -- The links so far, and those of the rest, are the links of all.
 use Rattle.std.proofs.Common.{◌≡◌, drop, map}
 use Rattle.toml.specs.View.{view}
-use Rattle.check_signals.specs.Names.{each, link_of, link_view, with_front}
+use Rattle.tl_text.specs.Reading.{each, with_front}
+use Rattle.check_signals.specs.Names.{link_of, link_view}
 use Rattle.check_signals.proofs.keys.links_of.Given as goal
 
 abbrev pub invariant-loop-value : goal.invariant-loop-value

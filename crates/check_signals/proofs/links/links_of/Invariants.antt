@@ -1,7 +1,8 @@
 -- The links so far, and those of the rest, are those of all.
 use Rattle.std.proofs.Common.{◌≡◌, drop, map}
+use Rattle.tl_text.specs.Reading.{with_front}
 use Rattle.check_vcd.specs.Header.{var_view}
-use Rattle.check_signals.specs.Found.{link_sources_view, links_from, with_front}
+use Rattle.check_signals.specs.Found.{link_sources_view, links_from}
 use Rattle.check_signals.specs.Names.{link_view}
 use Rattle.check_signals.proofs.links.links_of.Given as goal
 

@@ -1,11 +1,11 @@
 -- The next row, and what becomes of it.
 use Rattle.std.proofs.Common.{[], ◌∷◌, ◌++◌, Err, refl, sym, ap, subst}
 use Rattle.check_records.specs.Source.{Between}
-use Rattle.check_records.specs.Text.{Gives}
+use Rattle.check_records.specs.Text.{GivesRecord}
 use Rattle.check_rows.specs.Row.{seen_row}
 use Rattle.check_review.specs.View.{TellsOn}
 use Rattle.check_text.specs.Buses.{link_buses}
-use Rattle.check_text.specs.Rows.{Spells}
+use Rattle.check_text.specs.Rows.{SpellsCapture}
 use Rattle.check_text.proofs.Fitting.{bus_fits}
 use Rattle.check_text.proofs.Taking.{no_row, read_stops}
 use Rattle.check_text.proofs.rows.take_next.Goals as goal
@@ -23,7 +23,7 @@ returns-in-Err-row_at_hand-clause-next g c = λ text.
     let r = c.read_in_place.new.self.row in
     let old = c.args.records.now.left in
     let new = c.read_in_place.new.self.left in
-    let gives : Between old new (λ from to. Gives from r to) =
+    let gives : Between old new (λ from to. GivesRecord from r to) =
     rw c.in-Ok-true.field-0-test at c.in-Ok-true.ensures.ok in
     rw c.line.ensures
     (no_row (link_buses c.args.buses.now) r c.in-Err-row_at_hand.fault old new c.args.judge.now c.args.judge.now.tally text gives
@@ -34,10 +34,10 @@ returns-in-Ok-true-take_quietly-clause-next g c =
     let r = c.read_in_place.new.self.row in
     let old = c.args.records.now.left in
     let new = c.read_in_place.new.self.left in
-    let gives : Between old new (λ from to. Gives from r to) =
+    let gives : Between old new (λ from to. GivesRecord from r to) =
     rw c.in-Ok-true.field-0-test at c.in-Ok-true.ensures.ok in
     let row = seen_row c.in-Ok.row c.row_at_hand.new.lanes in
-    let spells : Spells (link_buses c.args.buses.now) r row = sym c.in-Ok.ensures.value in (
+    let spells : SpellsCapture (link_buses c.args.buses.now) r row = sym c.in-Ok.ensures.value in (
       gives,
       (
         row,
@@ -58,7 +58,7 @@ returns-in-Ok-false-take_quietly-clause-next g c =
     let r = c.read_in_place.new.self.row in
     let old = c.args.records.now.left in
     let new = c.read_in_place.new.self.left in
-    let gives : Between old new (λ from to. Gives from r to) =
+    let gives : Between old new (λ from to. GivesRecord from r to) =
     rw c.in-Ok-true.field-0-test at c.in-Ok-true.ensures.ok in
     (gives, sym c.in-Ok.ensures.value, c.in-Ok-false-take_quietly.ensures.left c.in-Ok-false-take_quietly.field-0-test)
 

@@ -112,7 +112,7 @@ returns-clause-place c =
     let fits : FitsAsk (under_in view link).bus (first_ask (under_in view link).asking) beat =
     rw (← c.link.ensures) c.in_default.ensures.fits in
     record {
-      at = c.number_of.ensures;
+      at = c.link_number.ensures;
       wide = at;
       in_limit = rw c.from-wide.ensures c.in-Some-wide.ensures.in_limit;
       port = λ plan suits. port_found plan view link (flight_in view link wide).turn beat c.port.result suits c.port.ensures.master c.port.ensures.port;

@@ -5,7 +5,7 @@ use Rattle.check_flight.specs.PortSlave.{may_be_unknown}
 use Rattle.check_watch.specs.Allowed.{OfAsked, IsAnswer}
 use Rattle.check_watch.specs.Faults.{HasAnswerReason, reason_rank}
 use Rattle.check_watch.specs.Past.{slave_at}
-use Rattle.check_watch.specs.Plan.{IsWideAt, number_of}
+use Rattle.check_watch.specs.Plan.{IsWideAt, link_number}
 use Rattle.check_watch.specs.View.{under_in, flight_in}
 use Rattle.check_watch.proofs.Replying.{answer_first, end_first, reply_allowed}
 use Rattle.check_watch.proofs.replies.judge_reply.Goals as goal
@@ -25,12 +25,12 @@ returns-in-Some-answer_reason-clause-reason c plan suits =
     let fits : FitsReply (first_reply (under_in view link).replying) beat =
     rw (← c.link-under.ensures) c.in_default.ensures.fits in
     let reason = c.in-Some-answer_reason.reason in
-    let first : IsFirstOf (HasAnswerReason (number_of link) (flight_in view link wide).turn (under_in view link).bus
+    let first : IsFirstOf (HasAnswerReason (link_number link) (flight_in view link wide).turn (under_in view link).bus
     (may_be_unknown (slave_at view.slaves port)) beat known) reason_rank reason =
     rw (
       ← c.flight-flight.ensures,
       ← c.link-under.ensures,
-      ← c.number_of.ensures,
+      ← c.link_number.ensures,
       ← c.slave.ensures,
       ← c.may_be_unknown-unknown.ensures,
     ) c.in-Some-answer_reason.ensures.reason in
@@ -50,12 +50,12 @@ returns-in-Some-end_reason-clause-reason c plan suits =
     let port_here = c.port_in_flight.ensures.port plan beat suits in
     let fits : FitsReply (first_reply (under_in view link).replying) beat =
     rw (← c.link-under.ensures) c.in_default.ensures.fits in
-    let answers : OfAsked (number_of link) (flight_in view link wide).turn
+    let answers : OfAsked (link_number link) (flight_in view link wide).turn
     (IsAnswer (under_in view link).bus (may_be_unknown (slave_at view.slaves port)) beat known) =
     rw (
       ← c.flight-flight.ensures,
       ← c.link-under.ensures,
-      ← c.number_of.ensures,
+      ← c.link_number.ensures,
       ← c.slave.ensures,
       ← c.may_be_unknown-unknown.ensures,
     ) c.in_default-answer_reason.ensures.none in
@@ -75,12 +75,12 @@ returns-clause-allowed c plan suits =
     let port_here = c.port_in_flight.ensures.port plan beat suits in
     let fits : FitsReply (first_reply (under_in view link).replying) beat =
     rw (← c.link-under.ensures) c.in_default.ensures.fits in
-    let answers : OfAsked (number_of link) (flight_in view link wide).turn
+    let answers : OfAsked (link_number link) (flight_in view link wide).turn
     (IsAnswer (under_in view link).bus (may_be_unknown (slave_at view.slaves port)) beat known) =
     rw (
       ← c.flight-flight.ensures,
       ← c.link-under.ensures,
-      ← c.number_of.ensures,
+      ← c.link_number.ensures,
       ← c.slave.ensures,
       ← c.may_be_unknown-unknown.ensures,
     ) c.in_default-answer_reason.ensures.none in

@@ -10,7 +10,7 @@ use Rattle.check_description.specs.File.{Parts}
 use Rattle.check_sides.specs.View.{Keeps}
 use Rattle.check_start.specs.Slaves.{image_at}
 use Rattle.check_start.specs.Start.{ByThePlan}
-use Rattle.tl_c.specs.Draft.{bytes_in}
+use Rattle.tl_c.specs.Draft.{image_bytes}
 use Rattle.tl_c.proofs.Drafts.{slaves_are}
 use Rattle.tl_c.proofs.making.make_judge.Goals as goal
 
@@ -20,7 +20,7 @@ returns-in_err-begun-clause-fault c =
     let system = c.in_ok-system.system in
     let fault = c.in_err-begun.field-0.0 in
     let given = map (λ image. image.items) c.deref.result.now in
-    let images : given ≡ bytes_in draft.images =
+    let images : given ≡ image_bytes draft.images =
     ap (map (λ image. image.items)) c.deref.ensures.value ∙ c.in_ok-parts.ensures.images in
     let ports : system.ports ≡ draft.parts.ports =
     c.in_ok-system.ensures.made.ports ∙ ap (λ (p : Parts). p.ports) c.in_ok-parts.ensures.parts in
@@ -37,9 +37,9 @@ pub returns-clause-ok : goal.returns-clause-ok
 returns-clause-ok c =
     let system = c.in_ok-system.system in
     let watch = c.in_ok-begun.begun.watch in
-    let images : map (λ image. image.items) c.deref.result.now ≡ bytes_in c.args.draft.images =
+    let images : map (λ image. image.items) c.deref.result.now ≡ image_bytes c.args.draft.images =
     ap (map (λ image. image.items)) c.deref.ensures.value ∙ c.in_ok-parts.ensures.images in
-    let keeps : ByThePlan c.args.terms system (bytes_in c.args.draft.images) (λ plan. Keeps plan [] watch) =
+    let keeps : ByThePlan c.args.terms system (image_bytes c.args.draft.images) (λ plan. Keeps plan [] watch) =
     (let P : List (List ℕ) → Type 0 = λ l. ByThePlan c.args.terms system l (λ plan. Keeps plan [] watch) in
     subst P images c.in_ok-begun.ensures.keeps) in
     record {

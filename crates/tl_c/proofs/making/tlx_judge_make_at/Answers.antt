@@ -3,8 +3,8 @@ use Rattle.std.proofs.Common.{◌≡◌, ◌∙◌, Option, Some, refl, subst, s
 use Rattle.check_keys.specs.declared.fault.SystemFault.TheVariants.{ImageUnreadable}
 use Rattle.tl_c.specs.Calls.{HoldsDraft, IsFaultOfDraft}
 use Rattle.tl_c.specs.Draft.{IsFirstLacking, LacksNone}
-use Rattle.tl_c.specs.declared.held.Held.{Held}
-use Rattle.tl_c.specs.declared.held.Held.TheVariants as held
+use Rattle.tl_c.specs.declared.held.HandleContent.{HandleContent}
+use Rattle.tl_c.specs.declared.held.HandleContent.TheVariants as held
 use Rattle.tl_c.proofs.Drafts.{holds_draft}
 use Rattle.tl_c.proofs.Told.{if_none, of_draft, then_written}
 use Rattle.tl_c.proofs.making.tlx_judge_make_at.Goals as goal
@@ -39,5 +39,5 @@ returns-in-Err-clause-fault c more _ =
     sym c.lacking_in.ensures.same ∙ c.in-Some-take_draft.ensures.some in
     let none : LacksNone draft =
     if_none c.lacking_in.result (c.lacking_in.ensures.none draft is) c.in_default-lacking_in.is in
-    subst (λ (v : Option Held). HoldsDraft (λ d. IsFaultOfDraft d c.refuse.result) v) (sym is)
+    subst (λ (v : Option HandleContent). HoldsDraft (λ d. IsFaultOfDraft d c.refuse.result) v) (sym is)
     (of_draft draft c.in-Err.fault c.refuse.result c.refuse.ensures.number none c.in-Err.ensures.fault more)

@@ -3,7 +3,7 @@ use Rattle.std.proofs.Common.{Option, subst, sym}
 use Rattle.check_start.specs.declared.start.Terms.{Terms}
 use Rattle.tl_c.specs.Calls.{HoldsJudge}
 use Rattle.tl_c.specs.Judging.{IsJudgeOfFile}
-use Rattle.tl_c.specs.declared.held.Held.{Held}
+use Rattle.tl_c.specs.declared.held.HandleContent.{HandleContent}
 use Rattle.tl_c.proofs.Told.{by_terms, no_file, of_file, then_written}
 use Rattle.tl_c.proofs.making.tlx_judge_read_at.Goals as goal
 
@@ -13,7 +13,7 @@ returns-in-Ok-clause-ok c ok =
     by_terms c.args.links c.args.order c.in-Some.terms
     (λ (t : Terms). HoldsJudge (IsJudgeOfFile t file) c.hold.new.handle.value)
     c.in-Some.ensures.some.0 c.in-Some.ensures.some.1
-    (subst (λ (v : Option Held). HoldsJudge (IsJudgeOfFile c.in-Some.terms file) v) (sym (c.hold.ensures.ok ok))
+    (subst (λ (v : Option HandleContent). HoldsJudge (IsJudgeOfFile c.in-Some.terms file) v) (sym (c.hold.ensures.ok ok))
     c.in-Ok.ensures.ok)
 
 pub returns-in-Ok-clause-fault : goal.returns-in-Ok-clause-fault

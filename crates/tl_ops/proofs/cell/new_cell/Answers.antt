@@ -4,27 +4,27 @@ use Rattle.tl_ops.proofs.Bytes.{low_bytes-and, low_bytes-or}
 use Rattle.tl_ops.proofs.Givens.{merged_by_masks, new_window-put}
 use Rattle.tl_ops.proofs.Parts.{length-word_of}
 use Rattle.tl_ops.specs.Number.{low_bytes}
-use Rattle.tl_ops.specs.Cell.{word_of}
+use Rattle.tl_ops.specs.Cell.{bytes_of_word}
 use Rattle.tl_ops.specs.Window.{combine_arith, combine_logic}
 use Rattle.tl_ops.specs.declared.kind.Kind.TheVariants.{Ram}
 use Rattle.tl_ops.proofs.cell.new_cell.Goals as goal
 
 same_width : (given : List (Option ℕ)) (word len width : ℕ) → len ≡ length given → width ≡ min (len - 8 * word) 8
-    → width ≡ length (word_of given word)
+    → width ≡ length (bytes_of_word given word)
 same_width given word len width len_is width_is =
     sym (length-word_of given word width (omega (arith, len_is, width_is)))
 
 pub returns-in-PutFull-clause-fits : goal.returns-in-PutFull-clause-fits
 returns-in-PutFull-clause-fits c =
     let given = c.given_word-operand.result in
-    let width = length (word_of c.args.bytes.now c.args.word) in
+    let width = length (bytes_of_word c.args.bytes.now c.args.word) in
     let kept : bit_and c.args.old given.keep < 2 ^ (8 * width) =
     omega (arith, and_le_l c.args.old given.keep, c.requires.old) in
     or_lt (8 * width) (bit_and c.args.old given.keep) given.bytes kept c.given_word-operand.ensures.fits
 
 pub returns-in-PutFull-clause-bytes : goal.returns-in-PutFull-clause-bytes
 returns-in-PutFull-clause-bytes c =
-    let part = word_of c.args.bytes.now c.args.word in
+    let part = bytes_of_word c.args.bytes.now c.args.word in
     let width = length part in
     let given = c.given_word-operand.result in
     rw (
@@ -45,7 +45,7 @@ combine_arith-requires-clause-operand c =
 
 pub returns-in-Arithmetic-clause-bytes : goal.returns-in-Arithmetic-clause-bytes
 returns-in-Arithmetic-clause-bytes c =
-    let part = word_of c.args.bytes.now c.args.word in
+    let part = bytes_of_word c.args.bytes.now c.args.word in
     let width = same_width c.args.bytes.now c.args.word c.len-len.result c.min-width.result c.len-len.ensures.value c.min-width.ensures in
     let operand = ap (λ n. low_bytes n c.given_word-operand.result.bytes) width ∙ c.given_word-operand.ensures.bytes in
     rw (← width, c.in-Arithmetic.is) (c.combine_arith.ensures.bytes
@@ -61,7 +61,7 @@ combine_logic-requires-clause-operand c =
 
 pub returns-in-Logical-clause-bytes : goal.returns-in-Logical-clause-bytes
 returns-in-Logical-clause-bytes c =
-    let part = word_of c.args.bytes.now c.args.word in
+    let part = bytes_of_word c.args.bytes.now c.args.word in
     let width = same_width c.args.bytes.now c.args.word c.len-len.result c.min-width.result c.len-len.ensures.value c.min-width.ensures in
     let operand = ap (λ n. low_bytes n c.given_word-operand.result.bytes) width ∙ c.given_word-operand.ensures.bytes in
     rw (← width, c.in-Logical.is) (c.combine_logic.ensures.bytes

@@ -1,7 +1,7 @@
 -- The operations so far, and those of the lines that are left.
 use Rattle.std.proofs.Common.{◌≡◌, ◌<◌, All, drop, length, map}
 use Rattle.tl_script.specs.Master.{operations_from}
-use Rattle.tl_script.specs.Reading.{with_front}
+use Rattle.tl_text.specs.Reading.{with_front}
 use Rattle.tl_script.specs.System.{sends}
 use Rattle.tl_script.proofs.masters.read_operations.Given as goal
 

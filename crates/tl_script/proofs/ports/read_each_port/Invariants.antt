@@ -3,7 +3,7 @@ use Rattle.std.proofs.Common.{◌≡◌, ◌≤◌, All, drop, length, map}
 use Rattle.toml.specs.View.{table_view}
 use Rattle.tl_ops.specs.declared.bank.TheConstants.{MAX_LENGTH}
 use Rattle.tl_script.specs.Port.{port_of}
-use Rattle.tl_script.specs.Reading.{each, with_front}
+use Rattle.tl_text.specs.Reading.{each, with_front}
 use Rattle.tl_script.specs.System.{store_of}
 use Rattle.tl_script.proofs.ports.read_each_port.Given as goal
 

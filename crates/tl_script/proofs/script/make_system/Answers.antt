@@ -3,65 +3,65 @@ use Rattle.std.proofs.Common.{◌≡◌, ◌≢◌, ◌∙◌, List, length, map
 use Rattle.std.proofs.lemmas.List.{length-map}
 use Rattle.tl_map.specs.Map.{IsLawfulMap}
 use Rattle.tl_map.specs.Sources.{AreLawfulCounts, IsFirstSourceFault}
-use Rattle.tl_script.specs.Master.{Master, LawfulSoFar, master_view}
-use Rattle.tl_script.specs.Script.{IsFirstFaultOf, counts_of, parts_view, ranges_of}
+use Rattle.tl_script.specs.Master.{ScriptMaster, LawfulSoFar, script_master_view}
+use Rattle.tl_script.specs.Script.{IsFirstFaultOfScriptParts, counts_of, script_parts_view, script_ranges}
 use Rattle.tl_script.specs.System.{range_of, store_of}
 use Rattle.tl_script.specs.Reading.{source_fault}
 use Rattle.tl_script.specs.declared.fault.ScriptFault.{ScriptFault}
 use Rattle.tl_script.specs.declared.fault.ScriptFault.TheVariants.{Memory}
-use Rattle.tl_script.specs.declared.parts.Master as code_master
+use Rattle.tl_script.specs.declared.parts.ScriptMaster as code_master
 use Rattle.tl_script.specs.declared.system.Device.{Device}
 use Rattle.tl_script.proofs.Systems.{error_is, jobs_refused, sources_refused, system_of-made}
 use Rattle.tl_script.proofs.script.make_system.Goals as goal
 
 pub returns-in_err-sources-clause-fault : goal.returns-in_err-sources-clause-fault
 returns-in_err-sources-clause-fault c =
-    let parts = parts_view c.args.parts in
-    let ranges : c.deref-3.result.now ≡ ranges_of parts =
+    let parts = script_parts_view c.args.parts in
+    let ranges : c.deref-3.result.now ≡ script_ranges parts =
     c.deref-3.ensures.value ∙ c.in_ok-ranges.ensures
     ∙ ap (λ (ds : List Device). map range_of (map store_of ds)) c.deref.ensures.value in
     let counts : c.deref-4.result.now ≡ counts_of parts =
     c.deref-4.ensures.value ∙ c.in_ok-counts.ensures
-    ∙ ap (λ (ms : List code_master.Master). map (λ (m : Master). m.sources)
-    (map master_view ms)) c.deref-2.ensures.value in
-    let lawful : IsLawfulMap (ranges_of parts) = rw (← ranges) c.in_ok-map.ensures.lawful in
+    ∙ ap (λ (ms : List code_master.ScriptMaster). map (λ (m : ScriptMaster). m.sources)
+    (map script_master_view ms)) c.deref-2.ensures.value in
+    let lawful : IsLawfulMap (script_ranges parts) = rw (← ranges) c.in_ok-map.ensures.lawful in
     let first : IsFirstSourceFault (counts_of parts) c.in_err-sources.field-0.0 =
     rw (← counts) c.in_err-sources.ensures.fault in
     let refused = sources_refused parts c.in_err-sources.field-0.0 lawful first in
-    error_is (λ (fault : ScriptFault). fault ≢ Memory → IsFirstFaultOf parts fault)
+    error_is (λ (fault : ScriptFault). fault ≢ Memory → IsFirstFaultOfScriptParts parts fault)
     (source_fault c.in_err-sources.field-0.0) c.from_residual-in_err-sources.result
     c.from_residual-in_err-sources.ensures.1 refused
 
 pub returns-in_err-jobs-clause-fault : goal.returns-in_err-jobs-clause-fault
 returns-in_err-jobs-clause-fault c =
-    let parts = parts_view c.args.parts in
-    let ranges : c.deref-3.result.now ≡ ranges_of parts =
+    let parts = script_parts_view c.args.parts in
+    let ranges : c.deref-3.result.now ≡ script_ranges parts =
     c.deref-3.ensures.value ∙ c.in_ok-ranges.ensures
     ∙ ap (λ (ds : List Device). map range_of (map store_of ds)) c.deref.ensures.value in
     let counts : c.deref-4.result.now ≡ counts_of parts =
     c.deref-4.ensures.value ∙ c.in_ok-counts.ensures
-    ∙ ap (λ (ms : List code_master.Master). map (λ (m : Master). m.sources)
-    (map master_view ms)) c.deref-2.ensures.value in
-    let lawful_ranges : IsLawfulMap (ranges_of parts) = rw (← ranges) c.in_ok-map.ensures.lawful in
+    ∙ ap (λ (ms : List code_master.ScriptMaster). map (λ (m : ScriptMaster). m.sources)
+    (map script_master_view ms)) c.deref-2.ensures.value in
+    let lawful_ranges : IsLawfulMap (script_ranges parts) = rw (← ranges) c.in_ok-map.ensures.lawful in
     let lawful_counts : AreLawfulCounts (counts_of parts) = rw (← counts) c.in_ok-sources.ensures.lawful in
     let read = rw c.deref-5.ensures.value at c.in_err-jobs.ensures.value in
     let refused = jobs_refused parts c.in_err-jobs.field-0.0 lawful_ranges lawful_counts c.in_err-jobs.ensures.bad read in
     error_is (λ (fault : ScriptFault). fault ≢ Memory
-    → IsFirstFaultOf parts fault) c.in_err-jobs.field-0.0 c.from_residual-in_err-jobs.result
+    → IsFirstFaultOfScriptParts parts fault) c.in_err-jobs.field-0.0 c.from_residual-in_err-jobs.result
     c.from_residual-in_err-jobs.ensures.1 refused
 
 pub new-requires-3 : goal.new-requires-3
 new-requires-3 c =
-    let parts = parts_view c.args.parts in
-    let ranges : c.in_ok-map.map ≡ ranges_of parts =
+    let parts = script_parts_view c.args.parts in
+    let ranges : c.in_ok-map.map ≡ script_ranges parts =
     c.in_ok-map.ensures.made ∙ c.deref-3.ensures.value ∙ c.in_ok-ranges.ensures
     ∙ ap (λ (ds : List Device). map range_of (map store_of ds)) c.deref.ensures.value in
     let counts : c.in_ok-sources.sources ≡ counts_of parts =
     c.in_ok-sources.ensures.made ∙ c.deref-4.ensures.value ∙ c.in_ok-counts.ensures
-    ∙ ap (λ (ms : List code_master.Master). map (λ (m : Master). m.sources)
-    (map master_view ms)) c.deref-2.ensures.value in
+    ∙ ap (λ (ms : List code_master.ScriptMaster). map (λ (m : ScriptMaster). m.sources)
+    (map script_master_view ms)) c.deref-2.ensures.value in
     let counted : length (counts_of parts) ≡ length c.args.parts.masters.items =
-    length-map parts.masters (λ (m : Master). m.sources) ∙ length-map c.args.parts.masters.items master_view in
+    length-map parts.masters (λ (m : ScriptMaster). m.sources) ∙ length-map c.args.parts.masters.items script_master_view in
     let lawful : LawfulSoFar (counts_of parts) c.in_ok-jobs.jobs.items (length c.args.parts.masters.items) =
     rw c.deref-5.ensures.value at c.in_ok-jobs.ensures.lawful in
     rw (ranges, counts) record {
@@ -76,14 +76,14 @@ new-requires-3 c =
 
 pub returns-clause-made : goal.returns-clause-made
 returns-clause-made c =
-    let parts = parts_view c.args.parts in
-    let ranges : c.in_ok-map.map ≡ ranges_of parts =
+    let parts = script_parts_view c.args.parts in
+    let ranges : c.in_ok-map.map ≡ script_ranges parts =
     c.in_ok-map.ensures.made ∙ c.deref-3.ensures.value ∙ c.in_ok-ranges.ensures
     ∙ ap (λ (ds : List Device). map range_of (map store_of ds)) c.deref.ensures.value in
     let counts : c.in_ok-sources.sources ≡ counts_of parts =
     c.in_ok-sources.ensures.made ∙ c.deref-4.ensures.value ∙ c.in_ok-counts.ensures
-    ∙ ap (λ (ms : List code_master.Master). map (λ (m : Master). m.sources)
-    (map master_view ms)) c.deref-2.ensures.value in
+    ∙ ap (λ (ms : List code_master.ScriptMaster). map (λ (m : ScriptMaster). m.sources)
+    (map script_master_view ms)) c.deref-2.ensures.value in
     let read = rw c.deref-5.ensures.value at c.in_ok-jobs.ensures.value in
     record {
       ranges = rw (← ranges, c.in_ok-map.ensures.made) c.in_ok-map.ensures.lawful;

@@ -1,6 +1,6 @@
 use Rattle.std.proofs.Common.{◌≡◌, ◌∙◌, ◌++◌, ◌∷◌, [], Bool, List, Some, arith, length, length-append, slice_get, sym, ap}
 use Rattle.tl_types.specs.Request.{Request}
-use Rattle.tl_journal.specs.Trace.{entry_of}
+use Rattle.tl_journal.specs.Trace.{served_entry}
 use Rattle.tl_script.specs.Operations.{job_at}
 use Rattle.tl_script.specs.declared.operation.Job.TheVariants.{Send}
 use Rattle.tl_serial.specs.Serial.{asks_in, numbered}
@@ -39,7 +39,7 @@ loop-number-preserved c =
         stands = λ keeps log stand. rw (w.trace-is, w.slaves-is) (c.loop-number.invariant.stands keeps log stand);
       }
       | then-fill+in_ok-place w ↦
-          let entry = entry_of ask w.send.new.answer w.in_ok-place.place in
+          let entry = served_entry ask w.send.new.answer w.in_ok-place.place in
           let at : slice_get jobs i ≡ Some (Send ask) =
           here ∙ ap (λ (sends : Bool). Some (job_at sends ask)) w.if-fill.true in
           let pushed : c.if-fill.trace.items ≡ c.loop-number.trace.items ++ entry ∷ [] =

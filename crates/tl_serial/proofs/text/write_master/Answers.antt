@@ -2,7 +2,7 @@
 use Rattle.std.proofs.Common.{◌≡◌, ◌∙◌, ◌++◌, ◌∷◌, [], ℕ, Bool, List, Some, slice_get, sym, ap}
 use Rattle.tl_types.specs.Request.{Request}
 use Rattle.tl_script.specs.Trace.{trace_line}
-use Rattle.tl_journal.specs.Trace.{entry_of}
+use Rattle.tl_journal.specs.Trace.{served_entry}
 use Rattle.tl_script.specs.Operations.{job_at}
 use Rattle.tl_script.specs.declared.operation.Job.TheVariants.{Send}
 use Rattle.tl_serial.specs.Serial.{numbered}
@@ -32,7 +32,7 @@ loop-number-preserved c =
         is = rw w.text-is before.is;
       }
       | then-fill+in_ok-place+in_ok-push_entry w ↦
-          let entry = entry_of ask w.send.new.answer w.in_ok-place.place in
+          let entry = served_entry ask w.send.new.answer w.in_ok-place.place in
           let at : slice_get jobs i ≡ Some (Send ask) =
           here ∙ ap (λ (sends : Bool). Some (job_at sends ask)) w.if-fill.true in
           let master = c.args.master in

@@ -20,4 +20,4 @@ returns c = λ address.
     let some = rw (← c.self.view_is) at c.requires.goes_on in
     let is = goes_on (bus_log i.bus) i.first i.beats i.bytes c.args.beat.now c.args.known c.args.lanes.now c.self.invariant fits wide some in
     ap (λ (p : Pattern). record p { bytes = c.push_seen.new.cells }) (c.reply.view_is ∙ c.set_fields.ensures)
-    ∙ rw (c.push_seen.ensures, c.refill_from.ensures, c.reply_op_of-op.ensures.value, ← c.self.view_is, reply_bytes_after i.first i.beats i.bytes some, is.part address) refl
+    ∙ rw (c.push_seen.ensures, c.refill_from.ensures, c.lawful_reply_op-op.ensures.value, ← c.self.view_is, reply_bytes_after i.first i.beats i.bytes some, is.part address) refl

@@ -3,7 +3,7 @@ use Rattle.std.proofs.Common.{◌≡◌, ◌∙◌, ℕ, true, Some, ap, sym, su
 use Rattle.std.specs.Prelude.{◌↔◌}
 use Rattle.std.proofs.lemmas.Option.{none-some, same_Some}
 use Rattle.check_beats.specs.Bus.{bus_bytes}
-use Rattle.check_map.specs.Owner.{IsWide}
+use Rattle.check_map.specs.Owner.{IsWideSource}
 use Rattle.check_watch.specs.declared.seen.Ended.{Ended}
 use Rattle.check_sides.specs.declared.links.Links.{Links}
 use Rattle.check_sides.specs.Plan.{Layout, bus_of}
@@ -36,7 +36,7 @@ returns-in-Some c = λ plan rows lanes covers keeps is_end.
     let found : c.wide_source.result ≡ Some (wide_at plan row.sighting) =
     found_wide plan (beats_of rows) row.sighting keeps.suits.lawful keeps.lawful counted c.sources.result.now
     c.wide_source.result owners
-    (λ number wide is. subst (λ (s : ℕ). (c.wide_source.result ≡ Some wide) ↔ IsWide c.sources.result.now number s wide)
+    (λ number wide is. subst (λ (s : ℕ). (c.wide_source.result ≡ Some wide) ↔ IsWideSource c.sources.result.now number s wide)
     c.source_of.ensures (c.wide_source.ensures.master number wide is))
     (λ number is. c.wide_source.ensures.port number is ∙ ap (λ (s : ℕ). Some s) c.source_of.ensures) in
     let wide : c.in-Some.wide ≡ wide_at plan row.sighting =
@@ -61,7 +61,7 @@ returns-in-None c = λ plan rows lanes covers keeps is_end.
     let found : c.wide_source.result ≡ Some (wide_at plan row.sighting) =
     found_wide plan (beats_of rows) row.sighting keeps.suits.lawful keeps.lawful counted c.sources.result.now
     c.wide_source.result owners
-    (λ number wide is. subst (λ (s : ℕ). (c.wide_source.result ≡ Some wide) ↔ IsWide c.sources.result.now number s wide)
+    (λ number wide is. subst (λ (s : ℕ). (c.wide_source.result ≡ Some wide) ↔ IsWideSource c.sources.result.now number s wide)
     c.source_of.ensures (c.wide_source.ensures.master number wide is))
     (λ number is. c.wide_source.ensures.port number is ∙ ap (λ (s : ℕ). Some s) c.source_of.ensures) in
     absurd (none-some (wide_at plan row.sighting) (sym c.in-None.is ∙ found))

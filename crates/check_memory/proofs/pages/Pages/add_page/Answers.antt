@@ -1,7 +1,7 @@
 use Rattle.std.proofs.Common.{◌≡◌, ◌∙◌, ℕ, ◌+◌, ◌^◌, Bool, [], ◌∷◌, ◌++◌, length, replicate, refl, ap, sym, subst, arith, rules, nat_eq}
 use Rattle.std.specs.HashMap.{get}
 use Rattle.check_memory.specs.Place.{fill_of}
-use Rattle.check_memory.specs.Paged.{Slot, Paged, seen, IsAt, AreIndexed}
+use Rattle.check_memory.specs.Paged.{Slot, Paged, paged_cells, IsAt, AreIndexed}
 use Rattle.std.proofs.lemmas.List.{length-replicate}
 use Rattle.check_memory.proofs.PagePlaces.{indexed_run, indexed_more, pages_same, at_new}
 use Rattle.check_memory.proofs.pages.Pages.add_page.Goals as goal
@@ -16,7 +16,7 @@ more paged number = record { slots = paged.slots ++ fresh number paged.known ∷
 
 -- what the new page shows was seen there before
 seen_same : (paged : Paged) (number : ℕ) → ((i : ℕ) → IsAt paged.slots number i → ⊥)
-    → seen (more paged number) ≡ seen paged
+    → paged_cells (more paged number) ≡ paged_cells paged
 seen_same paged number none = pages_same paged.slots (fresh number paged.known) paged.known (2 ^ 64) refl none
 
 -- the place of the new page
@@ -42,7 +42,7 @@ invariant_of-self-then-at-eq0 c =
 pub returns-then-at-eq0-clause-same : goal.returns-then-at-eq0-clause-same
 returns-then-at-eq0-clause-same c =
     let none = rw (← c.self.view_is) at c.requires in
-    ap seen c.in_ok-add.ensures.added ∙ seen_same c.self.inside.slots c.args.number none ∙ ap seen c.self.view_is
+    ap paged_cells c.in_ok-add.ensures.added ∙ seen_same c.self.inside.slots c.args.number none ∙ ap paged_cells c.self.view_is
 
 -- ---- a page that goes on with the run
 
@@ -66,7 +66,7 @@ invariant_of-self-then-number-self c =
 pub returns-then-number-self-clause-same : goal.returns-then-number-self-clause-same
 returns-then-number-self-clause-same c =
     let none = rw (← c.self.view_is) at c.requires in
-    ap seen c.in_ok-add-2.ensures.added ∙ seen_same c.self.inside.slots c.args.number none ∙ ap seen c.self.view_is
+    ap paged_cells c.in_ok-add-2.ensures.added ∙ seen_same c.self.inside.slots c.args.number none ∙ ap paged_cells c.self.view_is
 
 pub returns-then-number-self-clause-at : goal.returns-then-number-self-clause-at
 returns-then-number-self-clause-at c =
@@ -79,7 +79,7 @@ returns-then-number-self-clause-at c =
 pub returns-clause-same : goal.returns-clause-same
 returns-clause-same c =
     let none = rw (← c.self.view_is) at c.requires in
-    ap seen c.in_default.ensures.added ∙ seen_same c.self.inside.slots c.args.number none ∙ ap seen c.self.view_is
+    ap paged_cells c.in_default.ensures.added ∙ seen_same c.self.inside.slots c.args.number none ∙ ap paged_cells c.self.view_is
 
 pub returns-clause-at : goal.returns-clause-at
 returns-clause-at c =

@@ -4,7 +4,7 @@ use Rattle.std.proofs.lemmas.List.{length-drop}
 use Rattle.check_memory.specs.Known.{replaced}
 use Rattle.check_memory.specs.Cells.{forgotten}
 use Rattle.check_memory.specs.Place.{tabulate}
-use Rattle.check_memory.specs.Paged.{Slot, Paged, blank_slot, seen, content, IsAt, AreIndexed}
+use Rattle.check_memory.specs.Paged.{Slot, Paged, blank_slot, paged_cells, content, IsAt, AreIndexed}
 use Rattle.check_memory.proofs.Forgotten.{marked, length-marked, length-forgotten, marked-take}
 use Rattle.check_memory.proofs.PagePlaces.{slot_here, at_within, paged_at, page_shown, page_changed, indexed_kept}
 use Rattle.check_memory.proofs.pages.Pages.forget.Goals as goal
@@ -54,9 +54,9 @@ returns c =
     ∙ ap (marked flags) (sym (page_shown slots c.args.at (address / 256) slot known (2 ^ 64) address n
     c.self.invariant.distinct here.0 here.1 refl c.requires.inside within))
     ∙ marked-take flags (drop address (tabulate (content slots known) (2 ^ 64))) in
-    ap seen c.forget.ensures
+    ap paged_cells c.forget.ensures
     ∙ page_changed slots c.args.at (address / 256) slot new known (2 ^ 64) address
     cells c.self.invariant.distinct here.0 here.1 refl refl (omega (arith, long, c.requires.inside))
     (omega (arith, long, within)) refl
     ∙ ap (replaced (tabulate (content slots known) (2 ^ 64)) address) shown
-    ∙ ap (λ p. forgotten flags address (seen p)) c.self.view_is
+    ∙ ap (λ p. forgotten flags address (paged_cells p)) c.self.view_is

@@ -2,7 +2,7 @@ use Rattle.std.proofs.Common.{◌≡◌, ◌∙◌, ◌+◌, ◌/◌, ◌%◌, �
 use Rattle.std.specs.HashMap.{get}
 use Rattle.std.proofs.lemmas.List.{length-map}
 use Rattle.check_memory.specs.Known.{known, replaced}
-use Rattle.check_memory.specs.Paged.{Slot, Paged, blank_slot, seen, IsAt, AreIndexed}
+use Rattle.check_memory.specs.Paged.{Slot, Paged, blank_slot, paged_cells, IsAt, AreIndexed}
 use Rattle.check_memory.proofs.PagePlaces.{slot_here, at_within, paged_at, page_changed, indexed_kept}
 use Rattle.check_memory.proofs.PageCells.{length-replaced}
 use Rattle.check_memory.proofs.pages.Pages.load.Goals as goal
@@ -41,8 +41,8 @@ returns c =
     let new : Slot = record { number = slot.number; page = replaced slot.page start cells } in
     let long : length cells ≡ length c.args.bytes.now = length-map c.args.bytes.now (λ byte. Some byte) in
     let room : start + length cells ≤ 256 = omega (arith, c.requires.inside, long) in
-    ap seen c.load.ensures
+    ap paged_cells c.load.ensures
     ∙ page_changed slots c.args.at (c.args.address / 256) slot new c.self.inside.slots.known (2 ^ 64) c.args.address
     cells c.self.invariant.distinct here.0 here.1 refl refl room
     (omega (arith, room, c.ranges.address.fits)) refl
-    ∙ ap (λ p. replaced (seen p) c.args.address cells) c.self.view_is
+    ∙ ap (λ p. replaced (paged_cells p) c.args.address cells) c.self.view_is

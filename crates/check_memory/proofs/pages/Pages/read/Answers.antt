@@ -1,5 +1,5 @@
 use Rattle.std.proofs.Common.{◌∙◌, ◌+◌, ◌/◌, ◌^◌, ◌≤◌, take, drop, get_or, refl, sym, ap, arith}
-use Rattle.check_memory.specs.Paged.{blank_slot, seen, IsAt}
+use Rattle.check_memory.specs.Paged.{blank_slot, paged_cells, IsAt}
 use Rattle.check_memory.proofs.PagePlaces.{slot_here, at_within, page_shown, fill_shown}
 use Rattle.check_memory.proofs.pages.Pages.read.Goals as goal
 
@@ -20,7 +20,7 @@ returns-in-Some c =
     ∙ sym (page_shown slots c.in-Some.at number (get_or slots c.in-Some.at blank_slot)
     c.self.inside.slots.known (2 ^ 64) c.args.address c.args.width c.self.invariant.distinct here.0 here.1 refl
     c.requires.inside within)
-    ∙ ap (λ p. take c.args.width (drop c.args.address (seen p))) c.self.view_is
+    ∙ ap (λ p. take c.args.width (drop c.args.address (paged_cells p))) c.self.view_is
 
 pub returns-in-None : goal.returns-in-None
 returns-in-None c =
@@ -32,4 +32,4 @@ returns-in-None c =
     unknown
     ∙ sym (fill_shown slots number c.self.inside.slots.known
     (2 ^ 64) c.args.address c.args.width none refl c.requires.inside within)
-    ∙ ap (λ p. take c.args.width (drop c.args.address (seen p))) c.self.view_is
+    ∙ ap (λ p. take c.args.width (drop c.args.address (paged_cells p))) c.self.view_is

@@ -7,7 +7,7 @@ use Rattle.tl_ops.specs.declared.kind.Kind.{Kind}
 use Rattle.check_memory.specs.Known.{replaced}
 use Rattle.check_memory.specs.Cells.{new_cells}
 use Rattle.check_memory.specs.Pattern.{shown_cells}
-use Rattle.check_memory.specs.Paged.{Slot, Paged, blank_slot, seen, IsAt, AreDistinct, AreIndexed}
+use Rattle.check_memory.specs.Paged.{Slot, Paged, blank_slot, paged_cells, IsAt, AreDistinctPages, AreIndexed}
 use Rattle.check_memory.proofs.PageCells.{length-replaced}
 use Rattle.check_memory.proofs.PagePlaces.{slot_here, set_here, at_from_slot, at_within, paged_at, page_shown, page_changed, indexed_kept, length-new_cells}
 use Rattle.check_memory.proofs.pages.Pages.serve.Goals as goal
@@ -52,9 +52,9 @@ invariant_of-self c =
     (length-replaced slot.page cells start (omega (arith, whole, long, c.requires.inside)) ∙ whole))
 
 -- a window of the page is one of what is seen
-window : (slots : List Slot) (known : Bool) (at address width : ℕ) → AreDistinct slots → IsAt slots (address / 256) at
+window : (slots : List Slot) (known : Bool) (at address width : ℕ) → AreDistinctPages slots → IsAt slots (address / 256) at
     → address % 256 + width ≤ 256 → address < 2 ^ 64
-    → take width (drop address (seen (record { slots = slots; known = known })))
+    → take width (drop address (paged_cells (record { slots = slots; known = known })))
     ≡ take width (drop (address % 256) (get_or slots at blank_slot).page)
 window slots known at address width distinct found inside small =
     let here = slot_here slots at (address / 256) found in
@@ -71,7 +71,7 @@ returns-clause-shown c =
     shown
     ∙ ap (shown_cells (reply_op_of ask.op)) (sym (window paged.slots paged.known c.args.at ask.address (2 ^ ask.size)
     c.self.invariant.distinct found c.requires.inside small)
-    ∙ ap (λ p. take (2 ^ ask.size) (drop ask.address (seen p))) c.self.view_is)
+    ∙ ap (λ p. take (2 ^ ask.size) (drop ask.address (paged_cells p))) c.self.view_is)
 
 pub returns-clause-after : goal.returns-clause-after
 returns-clause-after c =
@@ -89,15 +89,15 @@ returns-clause-after c =
     c.requires.counted in
     let new : Slot = record { number = slot.number; page = replaced slot.page start cells } in
     let after = rw c.address.ensures at c.serve.ensures.after in
-    ap seen after
+    ap paged_cells after
     ∙ page_changed slots c.args.at (ask.address / 256) slot new paged.known (2 ^ 64) ask.address cells
     c.self.invariant.distinct here.0 here.1 refl refl (omega (arith, long, c.requires.inside))
     (omega (arith, long, c.requires.inside, small)) refl
-    ∙ ap (λ old. replaced (seen paged) ask.address (new_cells c.args.kind ask.op old ask.bytes))
+    ∙ ap (λ old. replaced (paged_cells paged) ask.address (new_cells c.args.kind ask.op old ask.bytes))
     (sym (window slots paged.known c.args.at ask.address (2 ^ ask.size) c.self.invariant.distinct found
     c.requires.inside small))
-    ∙ ap (λ p. replaced (seen p) ask.address
-    (new_cells c.args.kind ask.op (take (2 ^ ask.size) (drop ask.address (seen p))) ask.bytes)) c.self.view_is
+    ∙ ap (λ p. replaced (paged_cells p) ask.address
+    (new_cells c.args.kind ask.op (take (2 ^ ask.size) (drop ask.address (paged_cells p))) ask.bytes)) c.self.view_is
 
 pub returns-clause-at : goal.returns-clause-at
 returns-clause-at c =

@@ -1,7 +1,7 @@
 -- The fields before `start` went on with the record.
 use Rattle.std.proofs.Common.{◌≡◌, ◌≤◌, ◌+◌, ◌-◌, [], length, take, get_or, true}
 use Rattle.csv.specs.Records.{fields_of, partial_of}
-use Rattle.check_records.specs.Draft.{GoesOn, partial}
+use Rattle.check_records.specs.Draft.{DraftGoesOn, partial}
 use Rattle.check_records.specs.Machine.{begins_field}
 use Rattle.check_records.specs.Text.{line_feeds}
 use Rattle.check_records.specs.declared.draft.TheConstants.{MAX_ROW}
@@ -15,7 +15,7 @@ invariant-loop-start l =
       whole : partial_of l.self.columns ≡ [];
       short : l.fn.self.size + l.start ≤ MAX_ROW;
       inside : l.start ≤ length l.text;
-      so_far : GoesOn (partial l.fn.self) (take l.start l.text) p;
+      so_far : DraftGoesOn (partial l.fn.self) (take l.start l.text) p;
       begins : begins_field p.state (get_or l.text l.start 0) ≡ true;
       feeds : line_feeds (take l.start l.text) ≡ 0;
       line : l.self.line ≡ l.fn.self.line;

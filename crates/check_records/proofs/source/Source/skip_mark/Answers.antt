@@ -1,7 +1,7 @@
 -- Three bytes at most are at hand, which are the mark or not.
 use Rattle.std.proofs.Common.{◌≡◌, ◌-◌, [], length, drop, slice_range, refl, arith, length-drop, length-take, sym, ◌∙◌}
 use Rattle.std.proofs.lemmas.Slice.Eq.{bytes_eq-Decides}
-use Rattle.check_records.specs.Source.{at_hand, left_of}
+use Rattle.check_records.specs.Source.{at_hand, text_left}
 use Rattle.check_records.proofs.KnownLemmas.{prepend-none}
 use Rattle.check_records.proofs.MarkLemmas.{mark, strip-no, strip-yes}
 use Rattle.check_records.proofs.source.Source.skip_mark.Goals as goal
@@ -11,7 +11,7 @@ returns-then-eq-clause-text g c =
     let read = g.R.Read.remaining in
     let old = c.args.self.now in
     let mid = c.read_front.new.self in
-    let start : left_of read old ≡ read old.reader =
+    let start : text_left read old ≡ read old.reader =
     rw (c.requires.front, c.requires.unread) (prepend-none (read old.reader)) in
     let kept = rw start at c.in_ok-read_front.ensures.text in
     let same = rw (c.text.ensures, c.as_slice.ensures) at (sym c.eq.ensures ∙ c.if-eq.true) in
@@ -26,7 +26,7 @@ returns-else-eq-clause-text g c =
     let read = g.R.Read.remaining in
     let old = c.args.self.now in
     let mid = c.read_front.new.self in
-    let start : left_of read old ≡ read old.reader =
+    let start : text_left read old ≡ read old.reader =
     rw (c.requires.front, c.requires.unread) (prepend-none (read old.reader)) in
     let kept = rw start at c.in_ok-read_front.ensures.text in
     let other = rw (c.text.ensures, c.as_slice.ensures) at (sym c.eq.ensures ∙ c.if-eq.false) in

@@ -2,7 +2,7 @@
 use Rattle.std.proofs.Common.{◌≡◌, ◌∙◌, ◌∷◌, false, sym, subst}
 use Rattle.check_unanswered.specs.Began.{row_with}
 use Rattle.check_sides.specs.Plan.{HasLink, IsWatched, Layout}
-use Rattle.check_review.specs.Order.{is_watched, seen, watched}
+use Rattle.check_review.specs.Order.{is_watched, sightings_of, watched}
 use Rattle.check_review.proofs.Leaving.{kept_noted, kept_unwatched}
 use Rattle.check_review.proofs.Watched.{watched_is, watches_by}
 use Rattle.check_review.proofs.tally.Tally.judge_row.Goals as goal
@@ -17,7 +17,7 @@ returns-clause-keeps c plan before kept =
       tallied = c.in_default.ensures.keeps plan before kept.tallied;
       same = c.in_default.ensures.pending;
       asked = c.change-change.ensures.asked;
-      change = c.change-change.ensures.change plan (seen plan.layout before) c.args.lanes.now kept.tallied.keeps;
+      change = c.change-change.ensures.change plan (sightings_of plan.layout before) c.args.lanes.now kept.tallied.keeps;
       noted = c.note.ensures.tallied plan (row ∷ before);
       holds = c.note.ensures.holds plan (watched plan.layout before) c.args.lanes.now;
     })

@@ -3,7 +3,7 @@ use Rattle.std.proofs.Common.{◌≡◌, ◌∙◌, ◌<◌, ◌++◌, ◌∷◌
 use Rattle.std.proofs.lemmas.List.{take_all}
 use Rattle.check_rows.specs.Row.{SeenRow}
 use Rattle.check_unanswered.specs.Began.{row_with}
-use Rattle.check_review.specs.Order.{seen}
+use Rattle.check_review.specs.Order.{sightings_of}
 use Rattle.check_review.specs.Told.{AppendsTold}
 use Rattle.check_review.specs.Verdict.{MayWantAfter}
 use Rattle.check_review.specs.View.{Kept, wants}
@@ -67,11 +67,11 @@ loop-place-preserved c =
           let mid : List SeenRow = reverse (take i rows) ++ before in
           let now = c.loop-place.text.items in
           let next = c.judge_row.new.text.items in
-          subst (λ l. AppendsTold c.args.self.now.trace plan (seen plan.layout before) (seen plan.layout l)
+          subst (λ l. AppendsTold c.args.self.now.trace plan (sightings_of plan.layout before) (sightings_of plan.layout l)
           c.args.text.now.items next) (sym (one_more rows before i row inside here))
-          (tells_then c.args.self.now.trace plan (seen plan.layout before) (seen plan.layout mid)
-          (seen plan.layout (row ∷ mid)) c.args.text.now.items now next (c.loop-place.invariant.told plan before kept)
-          (subst (λ t. AppendsTold t plan (seen plan.layout mid) (seen plan.layout (row ∷ mid)) now next)
+          (tells_then c.args.self.now.trace plan (sightings_of plan.layout before) (sightings_of plan.layout mid)
+          (sightings_of plan.layout (row ∷ mid)) c.args.text.now.items now next (c.loop-place.invariant.told plan before kept)
+          (subst (λ t. AppendsTold t plan (sightings_of plan.layout mid) (sightings_of plan.layout (row ∷ mid)) now next)
           c.loop-place.invariant.trace
           (c.in_default.ensures.told plan mid (c.loop-place.invariant.keeps plan before kept))));
     }

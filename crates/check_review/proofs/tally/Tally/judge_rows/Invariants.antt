@@ -2,7 +2,7 @@
 use Rattle.std.proofs.Common.{◌≡◌, List, ◌++◌, is_some, reverse, take}
 use Rattle.check_sides.specs.Plan.{Plan}
 use Rattle.check_rows.specs.Row.{SeenRow}
-use Rattle.check_review.specs.Order.{seen}
+use Rattle.check_review.specs.Order.{sightings_of}
 use Rattle.check_review.specs.Told.{AppendsTold}
 use Rattle.check_review.specs.View.{Kept}
 use Rattle.check_review.proofs.tally.Tally.judge_rows.Given as goal
@@ -16,6 +16,6 @@ invariant-loop-place l = record {
   keeps : (plan : Plan) (before : List SeenRow) → Kept plan before l.initial.self
       → Kept plan (reverse (take l.place l.moment.rows) ++ before) l.self;
   told : (plan : Plan) (before : List SeenRow) → Kept plan before l.initial.self
-      → AppendsTold l.initial.self.trace plan (seen plan.layout before)
-      (seen plan.layout (reverse (take l.place l.moment.rows) ++ before)) l.initial.text.items l.text.items;
+      → AppendsTold l.initial.self.trace plan (sightings_of plan.layout before)
+      (sightings_of plan.layout (reverse (take l.place l.moment.rows) ++ before)) l.initial.text.items l.text.items;
 }

@@ -1,7 +1,7 @@
 -- The moment has one row, and nothing is told of it.
 use Rattle.std.proofs.Common.{◌≡◌, ◌++◌, false, true, IfOk, length, reverse, sym, subst, arith}
 use Rattle.check_unanswered.specs.Began.{row_with}
-use Rattle.check_review.specs.Order.{seen}
+use Rattle.check_review.specs.Order.{sightings_of}
 use Rattle.check_review.specs.Told.{AppendsTold}
 use Rattle.check_review.specs.View.{Kept, wants}
 use Rattle.check_review.proofs.Keeping.{alone, if_err, if_ok, row_at, wants_there}
@@ -24,9 +24,9 @@ returns-clause-told c plan before text kept =
     let one : length rows ≡ 1 = omega (arith, c.if-len-ne1.false, c.len.ensures.value) in
     let here = row_at rows 0 c.get.result.0.now c.get.result.1.now c.get.ensures.lanes c.get.ensures.row in
     if_ok c.pass_row.result _ (λ passed is.
-    subst (λ t. AppendsTold t plan (seen plan.layout before) (seen plan.layout (reverse rows ++ before)) text text)
+    subst (λ t. AppendsTold t plan (sightings_of plan.layout before) (sightings_of plan.layout (reverse rows ++ before)) text text)
     (sym c.if-self.false)
-    (subst (λ l. AppendsTold false plan (seen plan.layout before) (seen plan.layout l) text text)
+    (subst (λ l. AppendsTold false plan (sightings_of plan.layout before) (sightings_of plan.layout l) text text)
     (sym (alone rows before row one here)) (tells_none plan before row text)))
 
 pub returns-clause-memory : goal.returns-clause-memory

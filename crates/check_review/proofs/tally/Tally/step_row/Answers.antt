@@ -2,7 +2,7 @@
 use Rattle.std.proofs.Common.{◌≡◌, ◌∷◌, true, false, sym, subst}
 use Rattle.check_unanswered.specs.Began.{row_with}
 use Rattle.check_sides.specs.Plan.{HasLink, IsWatched, Layout}
-use Rattle.check_review.specs.Order.{is_watched, seen}
+use Rattle.check_review.specs.Order.{is_watched, sightings_of}
 use Rattle.check_review.specs.Told.{AppendsTold}
 use Rattle.check_review.proofs.Telling.{tells_quietly}
 use Rattle.check_review.proofs.Watched.{watched_is}
@@ -16,6 +16,6 @@ returns-in-Ok-true-clause-told c plan before tallied =
     (watched_is plan.layout row.sighting.link).1
     (subst P tallied.keeps.suits.layout (c.requires.known, c.requires.watched)) in
     let quiet : c.args.self.now.trace ≡ false = c.if-self.false in
-    subst (λ t. AppendsTold t plan (seen plan.layout before)
-    (seen plan.layout (row ∷ before)) c.args.text.now.items c.args.text.now.items) (sym quiet)
+    subst (λ t. AppendsTold t plan (sightings_of plan.layout before)
+    (sightings_of plan.layout (row ∷ before)) c.args.text.now.items c.args.text.now.items) (sym quiet)
     (tells_quietly plan before row c.args.text.now.items watched)

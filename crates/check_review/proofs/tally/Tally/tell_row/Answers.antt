@@ -5,7 +5,7 @@ use Rattle.check_sides.specs.Plan.{HasLink, IsWatched, Layout}
 use Rattle.check_sides.specs.View.{Keeps, View}
 use Rattle.check_coverage.specs.View.{Covers}
 use Rattle.check_coverage.specs.declared.coverage.Coverage.{Coverage}
-use Rattle.check_review.specs.Order.{is_watched, seen, watched}
+use Rattle.check_review.specs.Order.{is_watched, sightings_of, watched}
 use Rattle.check_review.specs.declared.tally.Tally.{Tally}
 use Rattle.check_review.proofs.Counting.{tallied_one}
 use Rattle.check_review.proofs.Telling.{tells_row, tells_step}
@@ -15,7 +15,7 @@ use Rattle.check_review.proofs.tally.Tally.tell_row.Goals as goal
 pub returns-in-Ok-tell-clause-told : goal.returns-in-Ok-tell-clause-told
 returns-in-Ok-tell-clause-told c plan before kept =
     let row = row_with c.args.row.now c.args.lanes.now in
-    let past = seen plan.layout before in
+    let past = sightings_of plan.layout before in
     let keeps = c.in-Ok.ensures.keeps plan past kept.keeps in
     let P : Layout → Type 0 = λ l. HasLink l row.sighting.link × IsWatched l.links row.sighting.link in
     let watched : is_watched plan.layout row.sighting.link ≡ true =
@@ -30,7 +30,7 @@ returns-in-Ok-tell-clause-told c plan before kept =
 pub returns-in-Ok-tell-clause-keeps : goal.returns-in-Ok-tell-clause-keeps
 returns-in-Ok-tell-clause-keeps c plan before tallied =
     let row = row_with c.args.row.now c.args.lanes.now in
-    let past = seen plan.layout before in
+    let past = sightings_of plan.layout before in
     let P : Layout → Type 0 = λ l. HasLink l row.sighting.link × IsWatched l.links row.sighting.link in
     tallied_one plan before row c.args.self.now c.cover.new.self c.step.new.self c.in-Ok.seen c.ended-end.result tallied (record {
       here = (watched_is plan.layout row.sighting.link).1

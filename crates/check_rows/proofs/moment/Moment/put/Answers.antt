@@ -15,12 +15,12 @@ returns-in_default-clause-fault c =
     rw (← c.self.view_is) (
       let low = c.if-row-self.false in let high = c.if-row-self-2.false in omega (arith, low, high),
       beat-seen c.self.inside.time c.self.inside.lanes.items c.self.inside.rows.items here.0
-          (seen_row c.args.row.now c.args.lanes.now) here.1 (here.2 ∙ c.place_of.ensures.value),
+          (seen_row c.args.row.now c.args.lanes.now) here.1 (here.2 ∙ c.place_of_row.ensures.value),
     )
 
 pub insert-requires-clause-gap : goal.insert-requires-clause-gap
 insert-requires-clause-gap c =
-    let gap = rw (c.place_of.ensures.value, c.deref.ensures.0) at c.in-Some.ensures.some in
+    let gap = rw (c.place_of_row.ensures.value, c.deref.ensures.0) at c.in-Some.ensures.some in
     rw (← c.self.view_is) (gap-seen c.self.inside.lanes.items c.self.inside.rows.items _ c.in-Some.count gap)
 
 pub returns-clause-ok : goal.returns-clause-ok

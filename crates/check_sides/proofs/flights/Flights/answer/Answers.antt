@@ -4,7 +4,7 @@ use Rattle.std.specs.Ordering.{nat_cmp}
 use Rattle.std.specs.Prelude.{IsTrue, IsSomeAnd, OnOk, OnErr}
 use Rattle.check_flight.specs.Flight.{Flight, asked, flight_due, idle}
 use Rattle.check_flight.specs.PortSlave.{answering, due_answering, may_need_to_answer}
-use Rattle.check_sides.specs.Flights.{flight_of, kept_of}
+use Rattle.check_sides.specs.Flights.{flight_of, flight_kept}
 use Rattle.check_sides.proofs.Outcomes.{on_err, on_ok}
 use Rattle.check_sides.proofs.Puts.{changed_some, put_through, written_same}
 use Rattle.check_sides.proofs.flights.Flights.answer.Goals as goal
@@ -12,8 +12,8 @@ use Rattle.check_sides.proofs.flights.Flights.answer.Goals as goal
 found : (c : goal.After-self-2-1) → get nat_cmp c.self.inside.kept c.args.source ≡ Some c.in-Some.flight.now
 found c = search rules
 
-here : (c : goal.After-self-2-1) → kept_of c.args.self.now c.args.source ≡ Some c.in-Some.flight.now
-here c = ap (λ k. kept_of k c.args.source) (sym c.self.view_is) ∙ found c
+here : (c : goal.After-self-2-1) → flight_kept c.args.self.now c.args.source ≡ Some c.in-Some.flight.now
+here c = ap (λ k. flight_kept k c.args.source) (sym c.self.view_is) ∙ found c
 
 pub returns-clause-flight : goal.returns-clause-flight
 returns-clause-flight c =

@@ -3,7 +3,7 @@ use Rattle.std.specs.Prelude.{◌∷◌}
 use Rattle.check_watch.specs.declared.beat.Beat.{Beat}
 use Rattle.check_watch.specs.declared.beat.Beat.TheVariants.{A, D}
 use Rattle.check_watch.specs.declared.beat.Link.TheVariants.{Port}
-use Rattle.check_watch.specs.Lawful.{IsLawful}
+use Rattle.check_watch.specs.Lawful.{IsLawfulGroup}
 use Rattle.check_watch.specs.Plan.{seen_at}
 use Rattle.check_sides.specs.View.{KeepsPort}
 use Rattle.check_sides.proofs.PortSteps.{beyond_of, kept}
@@ -18,7 +18,7 @@ returns-then-ends-clause-keeps c plan past keeps =
     let new = c.admit_ask.new.self in
     let beat = c.in-A.beat in
     let P : Beat → Type 0 =
-    λ b. IsLawful plan (seen_at (Port port) b known lanes ∷ past)
+    λ b. IsLawfulGroup plan (seen_at (Port port) b known lanes ∷ past)
     → KeepsPort plan port (seen_at (Port port) b known lanes ∷ past) new in
     subst P (sym c.in-A.is)
     (kept plan port past view known lanes keeps new (A beat)
@@ -33,7 +33,7 @@ returns-else-ends-clause-keeps c plan past keeps =
     let new = c.admit_ask.new.self in
     let beat = c.in-A.beat in
     let P : Beat → Type 0 =
-    λ b. IsLawful plan (seen_at (Port port) b known lanes ∷ past)
+    λ b. IsLawfulGroup plan (seen_at (Port port) b known lanes ∷ past)
     → KeepsPort plan port (seen_at (Port port) b known lanes ∷ past) new in
     subst P (sym c.in-A.is)
     (kept plan port past view known lanes keeps new (A beat)
@@ -48,7 +48,7 @@ returns-then-ends-2-clause-keeps c plan past keeps =
     let new = c.admit_reply.new.self in
     let beat = c.in-D.beat in
     let P : Beat → Type 0 =
-    λ b. IsLawful plan (seen_at (Port port) b known lanes ∷ past)
+    λ b. IsLawfulGroup plan (seen_at (Port port) b known lanes ∷ past)
     → KeepsPort plan port (seen_at (Port port) b known lanes ∷ past) new in
     subst P (sym c.in-D.is)
     (kept plan port past view known lanes keeps new (D beat)
@@ -63,7 +63,7 @@ returns-else-ends-2-clause-keeps c plan past keeps =
     let new = c.admit_reply.new.self in
     let beat = c.in-D.beat in
     let P : Beat → Type 0 =
-    λ b. IsLawful plan (seen_at (Port port) b known lanes ∷ past)
+    λ b. IsLawfulGroup plan (seen_at (Port port) b known lanes ∷ past)
     → KeepsPort plan port (seen_at (Port port) b known lanes ∷ past) new in
     subst P (sym c.in-D.is)
     (kept plan port past view known lanes keeps new (D beat)

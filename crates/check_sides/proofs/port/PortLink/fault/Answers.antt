@@ -4,7 +4,7 @@ use Rattle.check_watch.specs.declared.beat.Beat.TheVariants.{A, D}
 use Rattle.check_watch.specs.declared.beat.Link.TheVariants.{Port}
 use Rattle.check_watch.specs.declared.fault.Fault.TheVariants.{NotGiven}
 use Rattle.check_watch.specs.declared.fault.Reason.{Reason}
-use Rattle.check_watch.specs.Lawful.{IsFirstReason, IsFirstFault}
+use Rattle.check_watch.specs.Lawful.{IsFirstReason, IsFirstGroupFault}
 use Rattle.check_watch.specs.Plan.{seen_at}
 use Rattle.check_sides.proofs.PortSteps.{beyond_of}
 use Rattle.check_sides.proofs.Telling.{tells_wrong, asks_tell, tells_other}
@@ -17,7 +17,7 @@ returns-in-A c plan past keeps =
     let lanes = c.args.lanes.now in
     let P : Beat → Reason → Type 0 =
     λ b r. IsFirstReason plan past (seen_at (Port port) b known lanes) r
-    → IsFirstFault plan past (seen_at (Port port) b known lanes) NotGiven in
+    → IsFirstGroupFault plan past (seen_at (Port port) b known lanes) NotGiven in
     subst (λ (b : Beat). P b c.args.reason) (sym c.in-A.is)
     (subst (λ (r : Reason). P (A c.in-A.field-0) r) (sym c.in-WrongReply.is)
     (asks_tell plan port past c.args.self.now known lanes keeps NotGiven c.in-A.field-0))
@@ -30,7 +30,7 @@ returns-in-D c plan past keeps =
     let fault = c.wrong_reply.result in
     let P : Beat → Reason → Type 0 =
     λ b r. IsFirstReason plan past (seen_at (Port port) b known lanes) r
-    → IsFirstFault plan past (seen_at (Port port) b known lanes) fault in
+    → IsFirstGroupFault plan past (seen_at (Port port) b known lanes) fault in
     subst (λ (b : Beat). P b c.args.reason) (sym c.in-D.is)
     (subst (λ (r : Reason). P (D c.in-D.beat) r) (sym c.in-WrongReply.is)
     (tells_wrong plan port past c.args.self.now known lanes keeps fault c.in-D.beat

@@ -6,7 +6,7 @@ use Rattle.check_watch.specs.declared.beat.Link.TheVariants.{Port}
 use Rattle.check_watch.specs.declared.fault.Reason.{Reason}
 use Rattle.check_watch.specs.Allowed.{IsAllowedAsk, IsAllowedReply}
 use Rattle.check_watch.specs.Faults.{IsFirstAskReason, IsFirstReplyReason}
-use Rattle.check_watch.specs.Lawful.{IsFirstReason, IsLawful}
+use Rattle.check_watch.specs.Lawful.{IsFirstReason, IsLawfulGroup}
 use Rattle.check_watch.specs.Plan.{seen_at}
 use Rattle.check_watch.specs.Scene.{Scene}
 use Rattle.check_sides.proofs.Outcomes.{if_none, if_some}
@@ -36,7 +36,7 @@ returns-in-A-clause-allowed c plan past own keeps =
     let lanes = c.args.lanes.now in
     let beat = c.in-A.beat in
     let P : Beat → Type 0 =
-    λ b. IfNone c.ask_reason.result (IsLawful plan (seen_at (Port port) b known lanes ∷ past)) in
+    λ b. IfNone c.ask_reason.result (IsLawfulGroup plan (seen_at (Port port) b known lanes ∷ past)) in
     subst P (sym c.in-A.is) (if_none c.ask_reason.result (λ allowed. (
       keeps.lawful,
       carried plan port past view known lanes keeps (A beat)
@@ -67,7 +67,7 @@ returns-in-D-clause-allowed c plan past own keeps =
     let lanes = c.args.lanes.now in
     let beat = c.in-D.beat in
     let P : Beat → Type 0 =
-    λ b. IfNone c.reply_reason.result (IsLawful plan (seen_at (Port port) b known lanes ∷ past)) in
+    λ b. IfNone c.reply_reason.result (IsLawfulGroup plan (seen_at (Port port) b known lanes ∷ past)) in
     subst P (sym c.in-D.is) (if_none c.reply_reason.result (λ allowed. (
       keeps.lawful,
       carried plan port past view known lanes keeps (D beat)

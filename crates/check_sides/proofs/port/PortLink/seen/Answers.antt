@@ -2,7 +2,7 @@ use Rattle.std.proofs.Common.{◌≡◌, sym, subst}
 use Rattle.check_watch.specs.declared.beat.Beat.{Beat}
 use Rattle.check_watch.specs.declared.beat.Beat.TheVariants.{D}
 use Rattle.check_watch.specs.declared.beat.Link.TheVariants.{Port}
-use Rattle.check_watch.specs.Lawful.{what_is_seen}
+use Rattle.check_watch.specs.Lawful.{seen_in_group}
 use Rattle.check_watch.specs.Plan.{seen_at}
 use Rattle.check_watch.specs.Scene.{Scene, seen}
 use Rattle.check_sides.proofs.PortSteps.{beyond_of, carried}
@@ -16,7 +16,7 @@ returns-in-D c plan past keeps =
     let lanes = c.args.lanes.now in
     let beat = c.in-D.beat in
     let P : Beat → Type 0 =
-    λ b. c.seen_reply.result ≡ what_is_seen plan past (seen_at (Port port) b known lanes) in
+    λ b. c.seen_reply.result ≡ seen_in_group plan past (seen_at (Port port) b known lanes) in
     subst P (sym c.in-D.is)
     (carried plan port past view known lanes keeps (D beat)
     (λ (s : Scene). c.seen_reply.result ≡ seen plan.layout (Port port) s (D beat) known lanes)

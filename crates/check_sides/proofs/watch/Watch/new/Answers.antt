@@ -1,13 +1,13 @@
 use Rattle.std.proofs.Common.{◌≡◌, ◌∙◌, ◌≤◌, ℕ, [], List, length, ap, refl, sym, subst, arith}
 use Rattle.std.specs.Prelude.{IsTrue}
-use Rattle.check_map.specs.Owner.{IsWide}
-use Rattle.check_map.specs.Ranges.{RoutesBytes}
+use Rattle.check_map.specs.Owner.{IsWideSource}
+use Rattle.check_map.specs.Ranges.{RoutesBytesByRanges}
 use Rattle.check_map.specs.Sources.{AreLawfulOwners}
 use Rattle.check_beats.specs.declared.bus.Bus.{Bus}
 use Rattle.check_flight.specs.PortSlave.{PortSlave}
-use Rattle.check_watch.specs.declared.links.Links.{Links as Together}
-use Rattle.check_watch.specs.Plan.{Layout as GroupLayout}
-use Rattle.check_sides.specs.Groups.{are_apart, layout_of, shared_layout, shared_plan}
+use Rattle.check_watch.specs.declared.links.GroupLinks.{GroupLinks as Together}
+use Rattle.check_watch.specs.Plan.{GroupLayout}
+use Rattle.check_sides.specs.Groups.{are_apart, layout_with, shared_layout, shared_plan}
 use Rattle.check_sides.specs.Plan.{Layout, Plan, IsPlan}
 use Rattle.check_sides.specs.View.{HaveBuses, Keeps, PortView, View, fresh_links}
 use Rattle.check_sides.proofs.Fresh.{each_is, fresh_buses, fresh_keeps, length-fresh_links, shared_is_plan}
@@ -36,7 +36,7 @@ invariant_of-result c = record {
 
 abbrev made_of : goal.In_ok-shared → View
 made_of c = record {
-  layout = layout_of c.args.links c.in_ok-shared.shared.layout;
+  layout = layout_with c.args.links c.in_ok-shared.shared.layout;
   shared = c.in_ok-shared.shared;
   ports = c.in_ok-ports.ports.items;
 }
@@ -59,7 +59,7 @@ keeps_by c plan lawful layout resets =
       master_buses = c.args.master_buses.items;
       port_buses = c.args.port_buses.items;
     } in
-    fresh_keeps plan (made_of c) lawful (ap (layout_of c.args.links) c.in_ok-shared.ensures.layout ∙ sym layout)
+    fresh_keeps plan (made_of c) lawful (ap (layout_with c.args.links) c.in_ok-shared.ensures.layout ∙ sym layout)
     (c.in_ok-shared.ensures.keeps (shared_plan plan) (shared_is_plan plan lawful)
     (ap shared_layout layout ∙ ap linked (sym c.together_of-together.ensures)) resets)
     (λ apart. made c
@@ -94,9 +94,9 @@ returns-clause-plan c =
     } in
     let lawful : IsPlan plan = record {
       owners = subst (λ (l : GroupLayout). AreLawfulOwners l.owners) is found.2.suits.lawful.owners;
-      wide = subst (λ (l : GroupLayout). (master source wide : ℕ) → IsWide l.owners master source wide
+      wide = subst (λ (l : GroupLayout). (master source wide : ℕ) → IsWideSource l.owners master source wide
           → found.0.wide master source ≡ wide) is found.2.suits.lawful.wide;
       route = subst (λ (l : GroupLayout). (address size : ℕ)
-          → RoutesBytes l.ports address size (found.0.route address size)) is found.2.suits.lawful.route;
+          → RoutesBytesByRanges l.ports address size (found.0.route address size)) is found.2.suits.lawful.route;
     } in
     (plan, refl, keeps_by c plan lawful refl refl)

@@ -4,7 +4,7 @@ use Rattle.check_watch.specs.declared.beat.Link.{Link}
 use Rattle.check_watch.specs.declared.beat.Link.TheVariants.{Port}
 use Rattle.check_watch.specs.Lawful as group_lawful
 use Rattle.check_watch.specs.Plan.{Sighting, seen_at}
-use Rattle.check_sides.specs.Groups.{is_alone, layout_of, port_past, port_plan}
+use Rattle.check_sides.specs.Groups.{is_alone, layout_with, port_past, port_plan}
 use Rattle.check_sides.specs.Lawful.{IsFirstFault, IsFirstRequest, IsLawful, MayNeedMemory, OfFault, what_is_seen}
 use Rattle.check_sides.specs.Plan.{Layout, Plan}
 use Rattle.check_sides.specs.View.{IsOwnPort, Keeps, KeepsPort, View}
@@ -15,7 +15,7 @@ use Rattle.check_sides.proofs.watch.Watch.step_alone.Goals as goal
 
 abbrev view_of : goal.After-self-1 → View
 view_of c = record {
-  layout = layout_of c.self.inside.links c.self.inside.shared.layout;
+  layout = layout_with c.self.inside.links c.self.inside.shared.layout;
   shared = c.self.inside.shared;
   ports = c.self.inside.ports.items;
 }
@@ -75,7 +75,7 @@ returns-clause-seen c plan past keeps =
     subst (λ (l : Link). IfOk c.step.result (λ s. s ≡ what_is_seen plan past (at c plan past k l)))
     (sym c.requires.here)
     (of_group plan past (Port c.args.port)
-    (λ p l. IfOk c.step.result (λ s. s ≡ group_lawful.what_is_seen p l x)) true (alone c plan past k)
+    (λ p l. IfOk c.step.result (λ s. s ≡ group_lawful.seen_in_group p l x)) true (alone c plan past k)
     (c.step.ensures.seen (port_plan plan) (port_past c.args.port past) (own c plan past k) (here c plan past k)))
 
 pub returns-clause-fault : goal.returns-clause-fault
@@ -85,7 +85,7 @@ returns-clause-fault c plan past keeps =
     subst (λ (l : Link). IfErr c.step.result (OfFault (IsFirstFault plan past (at c plan past k l))))
     (sym c.requires.here)
     (of_group plan past (Port c.args.port)
-    (λ p l. IfErr c.step.result (OfFault (group_lawful.IsFirstFault p l x))) true (alone c plan past k)
+    (λ p l. IfErr c.step.result (OfFault (group_lawful.IsFirstGroupFault p l x))) true (alone c plan past k)
     (c.step.ensures.fault (port_plan plan) (port_past c.args.port past) (own c plan past k) (here c plan past k)))
 
 pub returns-clause-memory : goal.returns-clause-memory
@@ -102,13 +102,13 @@ returns-clause-needed c plan past keeps refused =
     subst (λ (l : Link). MayNeedMemory plan past (at c plan past k l)) (sym c.requires.here)
     (needed_alone plan past x (alone c plan past k)
     (of_group plan past (Port c.args.port)
-    (λ p l. group_lawful.SlaveMayNeedMemory p l x ⊎ IsFirstRequest l c.args.beat.now) true (alone c plan past k)
+    (λ p l. group_lawful.GroupMayNeedMemory p l x ⊎ IsFirstRequest l c.args.beat.now) true (alone c plan past k)
     (c.step.ensures.needed (port_plan plan) (port_past c.args.port past) (own c plan past k) (here c plan past k) refused)))
 
 pub step-requires : goal.step-requires
 step-requires c =
     let view : View = record {
-      layout = layout_of c.self.inside.links c.self.inside.shared.layout;
+      layout = layout_with c.self.inside.links c.self.inside.shared.layout;
       shared = c.self.inside.shared;
       ports = c.self.inside.ports.items;
     } in

@@ -5,8 +5,8 @@ use Rattle.check_watch.specs.declared.beat.Link.TheVariants.{Port}
 use Rattle.check_watch.specs.declared.seen.Ended.{Ended}
 use Rattle.check_watch.specs.Lawful as group_lawful
 use Rattle.check_watch.specs.Plan.{Sighting, seen_at}
-use Rattle.check_watch.specs.Scene.{ended}
-use Rattle.check_sides.specs.Groups.{is_alone, layout_of, port_past, port_plan}
+use Rattle.check_watch.specs.Scene.{ended_by}
+use Rattle.check_sides.specs.Groups.{is_alone, layout_with, port_past, port_plan}
 use Rattle.check_sides.specs.Lawful.{IsFirstRequest, IsLawful, MayNeedMemory, what_is_seen}
 use Rattle.check_sides.specs.Plan.{Layout, Plan}
 use Rattle.check_sides.specs.View.{IsOwnPort, Keeps, KeepsPort, View}
@@ -17,7 +17,7 @@ use Rattle.check_sides.proofs.watch.Watch.take_alone.Goals as goal
 
 abbrev view_of : goal.After-self-1 → View
 view_of c = record {
-  layout = layout_of c.self.inside.links c.self.inside.shared.layout;
+  layout = layout_with c.self.inside.links c.self.inside.shared.layout;
   shared = c.self.inside.shared;
   ports = c.self.inside.ports.items;
 }
@@ -78,9 +78,9 @@ returns-clause-ended c plan past keeps =
     let k = within c plan past keeps in
     let x = at c plan past k (Port c.args.port) in
     subst (λ (l : Link). IfOk c.take.result (λ end. IfSome end (λ e.
-    e ≡ ended (what_is_seen plan past (at c plan past k l))))) (sym c.requires.here)
+    e ≡ ended_by (what_is_seen plan past (at c plan past k l))))) (sym c.requires.here)
     (of_group plan past (Port c.args.port)
-    (λ p l. IfOk c.take.result (λ end. IfSome end (λ e. e ≡ ended (group_lawful.what_is_seen p l x)))) true
+    (λ p l. IfOk c.take.result (λ end. IfSome end (λ e. e ≡ ended_by (group_lawful.seen_in_group p l x)))) true
     (alone c plan past k)
     (c.take.ensures.ended (port_plan plan) (port_past c.args.port past) (own c plan past k) (here c plan past k)))
 
@@ -99,14 +99,14 @@ returns-clause-needed c plan past keeps =
     subst (λ (l : Link). OnErr c.take.result (MayNeedMemory plan past (at c plan past k l))) (sym c.requires.here)
     (on_err c.take.result (needed_alone plan past x (alone c plan past k))
     (of_group plan past (Port c.args.port)
-    (λ p l. OnErr c.take.result (group_lawful.SlaveMayNeedMemory p l x ⊎ IsFirstRequest l c.args.beat.now)) true
+    (λ p l. OnErr c.take.result (group_lawful.GroupMayNeedMemory p l x ⊎ IsFirstRequest l c.args.beat.now)) true
     (alone c plan past k)
     (c.take.ensures.needed (port_plan plan) (port_past c.args.port past) (own c plan past k) (here c plan past k))))
 
 pub take-requires : goal.take-requires
 take-requires c =
     let view : View = record {
-      layout = layout_of c.self.inside.links c.self.inside.shared.layout;
+      layout = layout_with c.self.inside.links c.self.inside.shared.layout;
       shared = c.self.inside.shared;
       ports = c.self.inside.ports.items;
     } in

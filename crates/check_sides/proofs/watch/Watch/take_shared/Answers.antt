@@ -1,10 +1,10 @@
 use Rattle.std.proofs.Common.{◌≡◌, ◌∙◌, ◌≤◌, List, length, false, ap, sym, subst}
 use Rattle.std.specs.Prelude.{IfOk, IfSome, IsSome, OnErr, Option}
 use Rattle.check_watch.specs.Lawful as group_lawful
-use Rattle.check_watch.specs.Plan.{Layout as GroupLayout, Sighting, seen_at}
+use Rattle.check_watch.specs.Plan.{GroupLayout, Sighting, seen_at}
 use Rattle.check_watch.specs.declared.seen.Ended.{Ended}
-use Rattle.check_watch.specs.Scene.{ended}
-use Rattle.check_sides.specs.Groups.{is_alone, layout_of, shared_past, shared_plan}
+use Rattle.check_watch.specs.Scene.{ended_by}
+use Rattle.check_sides.specs.Groups.{is_alone, layout_with, shared_past, shared_plan}
 use Rattle.check_sides.specs.Plan.{Layout, Plan, bus_of}
 use Rattle.check_sides.specs.View.{Keeps, View}
 use Rattle.check_sides.proofs.Outcomes.{if_ok, on_err, on_some}
@@ -14,7 +14,7 @@ use Rattle.check_sides.proofs.watch.Watch.take_shared.Goals as goal
 
 abbrev view_of : goal.After-take → View
 view_of c = record {
-  layout = layout_of c.self.inside.links c.self.inside.shared.layout;
+  layout = layout_with c.self.inside.links c.self.inside.shared.layout;
   shared = c.self.inside.shared;
   ports = c.self.inside.ports.items;
 }
@@ -29,8 +29,8 @@ module _ (c : goal.After-take) (plan : Plan) (past : List Sighting) (keeps : Kee
   shared : is_alone plan.layout.links c.args.link ≡ false
   shared = subst (λ (l : Layout). is_alone l.links c.args.link ≡ false) keeps.suits.layout c.requires.shared
 
-  same : layout_of c.self.inside.links c.take.new.self.layout ≡ plan.layout
-  same = ap (layout_of c.self.inside.links) c.take.ensures.layout ∙ inside.suits.layout
+  same : layout_with c.self.inside.links c.take.new.self.layout ≡ plan.layout
+  same = ap (layout_with c.self.inside.links) c.take.ensures.layout ∙ inside.suits.layout
 
 pub invariant_of-self : goal.invariant_of-self
 invariant_of-self c = record {
@@ -50,13 +50,13 @@ pub returns-clause-keeps : goal.returns-clause-keeps
 returns-clause-keeps c plan past keeps =
     if_ok c.take.result (λ (end : Option Ended). on_some end
     (shared_kept plan past (view_of c) (x c plan past keeps) (inside c plan past keeps) (shared c plan past keeps)
-    c.take.new.self (layout_of c.self.inside.links c.take.new.self.layout) (same c plan past keeps)))
+    c.take.new.self (layout_with c.self.inside.links c.take.new.self.layout) (same c plan past keeps)))
     (c.take.ensures.keeps (shared_plan plan) (shared_past plan.layout.links past) (inside c plan past keeps).shared)
 
 pub returns-clause-ended : goal.returns-clause-ended
 returns-clause-ended c plan past keeps =
     of_group plan past c.args.link
-    (λ p l. IfOk c.take.result (λ end. IfSome end (λ e. e ≡ ended (group_lawful.what_is_seen p l (x c plan past keeps)))))
+    (λ p l. IfOk c.take.result (λ end. IfSome end (λ e. e ≡ ended_by (group_lawful.seen_in_group p l (x c plan past keeps)))))
     false (shared c plan past keeps)
     (c.take.ensures.ended (shared_plan plan) (shared_past plan.layout.links past) (inside c plan past keeps).shared)
 
@@ -68,7 +68,7 @@ returns-clause-memory c plan past keeps =
 
 pub returns-clause-needed : goal.returns-clause-needed
 returns-clause-needed c plan past keeps =
-    of_group plan past c.args.link (λ p l. OnErr c.take.result (group_lawful.SlaveMayNeedMemory p l (x c plan past keeps))) false
+    of_group plan past c.args.link (λ p l. OnErr c.take.result (group_lawful.GroupMayNeedMemory p l (x c plan past keeps))) false
     (shared c plan past keeps)
     (c.take.ensures.needed (shared_plan plan) (shared_past plan.layout.links past) (inside c plan past keeps).shared)
 

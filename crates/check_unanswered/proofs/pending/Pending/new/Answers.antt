@@ -2,17 +2,17 @@
 use Rattle.std.proofs.Common.{◌≡◌, ℕ, ◌<◌, List, Option, None, length, refl, sym, subst, arith}
 use Rattle.check_map.specs.Owner.{IsOwned}
 use Rattle.check_map.specs.declared.sources.Owner.{Owner}
-use Rattle.check_watch.specs.Plan.{Side}
-use Rattle.check_watch.specs.Plan.Side.{AtMasters, AtPorts}
+use Rattle.check_watch.specs.Plan.{LinkSide}
+use Rattle.check_watch.specs.Plan.LinkSide.{AtMasters, AtPorts}
 use Rattle.check_unanswered.specs.declared.request.Open.{Open}
 use Rattle.check_unanswered.specs.Table.{open_at}
-use Rattle.check_unanswered.specs.View.{PendingView, table_of}
+use Rattle.check_unanswered.specs.View.{PendingView, open_table}
 use Rattle.check_unanswered.proofs.Kept.{holds_fresh}
 use Rattle.check_unanswered.proofs.pending.Pending.new.Goals as goal
 
 -- what holds of both tables holds of that of each side
 of_each : (masters ports : List (Option Open)) (taken : ℕ) (P : List (Option Open) → Type 0) → P masters → P ports
-    → (side : Side) → P (table_of (record { masters = masters; ports = ports; taken = taken }) side)
+    → (side : LinkSide) → P (open_table (record { masters = masters; ports = ports; taken = taken }) side)
 of_each masters ports taken P at_masters at_ports AtMasters = at_masters
 of_each masters ports taken P at_masters at_ports AtPorts = at_ports
 

@@ -23,7 +23,7 @@ use Rattle.core.specs.declared.option.Option.TheVariants.{None}
 use Rattle.std.proofs.raw_atomic.Walks.{proved_at, leaves}
 use Rattle.std.proofs.alloc.Global.TheLaws as heap_laws
 use Rattle.tl_c.proofs.Handles.{three, R, Z, shut_good, shut_in}
-use Rattle.tl_c.specs.Handle.{holds}
+use Rattle.tl_c.specs.Handle.{handle_holds}
 use Rattle.tl_c.specs.contracts.handle.Handle.empty.{ended, clauses}
 use Rattle.tl_c.specs.contracts.handle.Handle.empty.Key.{name as #self}
 use Rattle.tl_c.proofs.handle.Handle.empty.Statement.{statement}
@@ -46,7 +46,7 @@ empty_spec 𝓤 𝓛 𝓜 𝓡 wired =
     (id⊢ 𝓤 (Run (h.0 ∷ [])))) $
     enter ! 𝓣.C 𝓣.Λ fn (h.0 ∷ []) Post $ alloc_all ! (λ l. pass_all ! refl (h.2, tt) $
     sets ! (agg ! (and_then ! (lit ! tt) (and_then ! (false_lit !) (and_then ! (get ! refl) (no_more !))))) refl made $
-    feq_i ! Bool false false refl $ use1 𝓛 (‵ (holds R a null_ptr false None))
+    feq_i ! Bool false false refl $ use1 𝓛 (‵ (handle_holds R a null_ptr false None))
     (id⊢ 𝓤 _) $ shut_in ! null_ptr false h.0 a None $
     use0 𝓛 (raw (fact 𝓤 (None ≡ None))) (fact_i 𝓤 (None ≡ None) (emp 𝓤) refl) $ nothing ! $ nothing ! $ fjoin ! $
     returns ! (look_at ! 0 refl) $ free_all ! refl $ keep ! (3 ∷ 0 ∷ 2 ∷ 1 ∷ []) $ by !

@@ -23,7 +23,7 @@ use Rattle.std.specs.contracts.impls.GlobalAllocator.TheImpl.{ghosts}
 use Rattle.std.proofs.alloc.Global.TheLaws as heap_laws
 use Rattle.tl_c.proofs.Values.{both, loose_good, loose_out}
 use Rattle.tl_c.proofs.Handles.{three, R, Z, Open, shut_good, shut_in}
-use Rattle.tl_c.specs.Handle.{holds}
+use Rattle.tl_c.specs.Handle.{handle_holds}
 use Rattle.tl_c.specs.contracts.handle.Handle.keep.{ended, clauses}
 use Rattle.tl_c.specs.contracts.handle.Handle.keep.Key.{name as #self}
 use Rattle.tl_c.proofs.handle.Handle.keep.Statement.{statement}
@@ -49,7 +49,7 @@ keep_spec 𝓤 𝓛 𝓜 𝓡 wired =
     (of_opd ! (get_in ! (fld ! refl (stop !)) (sub ! 1 refl (whole !)))) refl fits $ sets !
     (of_opd ! (get ! refl)) refl (tt, tt) $
     sets ! (agg ! (and_then ! (get ! refl) (and_then ! (true_lit !) (and_then ! (get ! refl) (no_more !))))) refl made $
-    feq_i ! Bool true true refl $ fjoin ! $ use1 𝓛 (‵ (holds R v.alloc (block_ptr b o) true (Some v.value)))
+    feq_i ! Bool true true refl $ fjoin ! $ use1 𝓛 (‵ (handle_holds R v.alloc (block_ptr b o) true (Some v.value)))
     (id⊢ 𝓤 _) $ shut_in ! (block_ptr b o) true h v.alloc (Some v.value) $
     use0 𝓛 (raw (fact 𝓤 (Some v.value ≡ Some v.value)))
     (fact_i 𝓤 (Some v.value ≡ Some v.value) (emp 𝓤) refl) $ nothing ! $ nothing ! $ fjoin ! $

@@ -1,6 +1,6 @@
 -- The new entry stands after the others.
 use Rattle.std.proofs.Common.{◌∙◌, ◌<◌, ◌++◌, ◌∷◌, [], ap, arith, length}
-use Rattle.tl_journal.specs.Trace.{entry_of}
+use Rattle.tl_journal.specs.Trace.{served_entry}
 use Rattle.tl_journal.proofs.Placed.{entries_of-push, length-entries_of}
 use Rattle.tl_journal.proofs.Room.{length_push}
 use Rattle.tl_journal.proofs.trace.Trace.push_reserved.Goals as goal
@@ -39,5 +39,5 @@ pub returns-clause-items : goal.returns-clause-items
 returns-clause-items c =
     rw (c.push_reserved.ensures.items, c.push_reserved-2.ensures.items)
     (entries_of-push c.self.inside.journal.items c.self.inside.places.items _ c.args.place c.self.invariant.counted
-    ∙ ap (λ v. v.items ++ entry_of (record c.args.ask.now { source = c.args.source })
+    ∙ ap (λ v. v.items ++ served_entry (record c.args.ask.now { source = c.args.source })
     (record c.args.reply.now { source = c.args.source }) c.args.place ∷ []) c.self.view_is)

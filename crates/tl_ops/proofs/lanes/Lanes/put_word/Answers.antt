@@ -1,6 +1,6 @@
 use Rattle.std.proofs.Common.{◌≡◌, ◌∙◌, ◌<◌, ◌≤◌, ◌+◌, ◌*◌, ℕ, List, Option, length, get_or, take, drop, sym, ap, arith}
 use Rattle.std.proofs.lemmas.List.{get_or_read}
-use Rattle.tl_ops.specs.Cell.{lanes_of, word_of}
+use Rattle.tl_ops.specs.Cell.{lanes_of, bytes_of_word}
 use Rattle.tl_ops.proofs.Parts.{length-word_of}
 use Rattle.tl_ops.specs.Number.{low_bytes}
 use Rattle.tl_ops.specs.Store.{with_window}
@@ -19,7 +19,7 @@ index_mut-requires c =
     let words = c.self.inside.words.items in
     omega (arith, length-lanes_of words, ap length c.self.view_is)
 
-full : (given : List (Option ℕ)) (k : ℕ) → 8 * k + 8 ≤ length given → length (word_of given k) ≡ 8
+full : (given : List (Option ℕ)) (k : ℕ) → 8 * k + 8 ≤ length given → length (bytes_of_word given k) ≡ 8
 full given k long = length-word_of given k 8 (omega (arith, long))
 
 pub new_cell-requires-clause-old : goal.new_cell-requires-clause-old
@@ -28,10 +28,10 @@ new_cell-requires-clause-old c =
 
 -- the bytes of the new word are the merged ones
 bytes_are_new : (c : goal.After-self-1) → low_bytes 8 c.new_cell.result ≡ merged
-    (take 8 (drop (8 * c.args.i) c.args.self.now)) (word_of c.args.given.now c.args.k)
+    (take 8 (drop (8 * c.args.i) c.args.self.now)) (bytes_of_word c.args.given.now c.args.k)
 bytes_are_new c =
     let words = c.self.inside.words.items in
-    let part = word_of c.args.given.now c.args.k in
+    let part = bytes_of_word c.args.given.now c.args.k in
     let wide = full c.args.given.now c.args.k c.requires.width in
     let within : c.args.i < length words = omega (arith, length-lanes_of words, ap length c.self.view_is) in
     let word : c.index-word.result.now ≡ get_or words c.args.i 0 =
@@ -46,7 +46,7 @@ bytes_are_new c =
 pub returns-clause-after : goal.returns-clause-after
 returns-clause-after c =
     let words = c.self.inside.words.items in
-    let part = word_of c.args.given.now c.args.k in
+    let part = bytes_of_word c.args.given.now c.args.k in
     let within : c.args.i < length words = omega (arith, length-lanes_of words, ap length c.self.view_is) in
     word_written words c.args.i c.new_cell.result within
     ∙ ap (λ bytes. with_window (lanes_of words) (8 * c.args.i) bytes) (bytes_are_new c)
@@ -56,7 +56,7 @@ returns-clause-after c =
 pub returns-clause-len : goal.returns-clause-len
 returns-clause-len c =
     let now = c.args.self.now in
-    let new = merged (take 8 (drop (8 * c.args.i) now)) (word_of c.args.given.now c.args.k) in
+    let new = merged (take 8 (drop (8 * c.args.i) now)) (bytes_of_word c.args.given.now c.args.k) in
     let wide : length new ≡ 8 = ap length (sym (bytes_are_new c)) ∙ length-low_bytes 8 c.new_cell.result in
     ap length (returns-clause-after c) ∙ length-with_window now (8 * c.args.i) new
     (omega (arith, wide, c.requires.inside))

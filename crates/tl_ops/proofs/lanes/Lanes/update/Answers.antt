@@ -1,6 +1,6 @@
 use Rattle.std.proofs.Common.{◌≡◌, ◌∙◌, ◌<◌, ◌≤◌, ◌+◌, ◌*◌, ◌%◌, ◌^◌, ℕ, List, Option, length, take, drop, ap, arith}
 use Rattle.tl_ops.specs.Number.{low_bytes}
-use Rattle.tl_ops.specs.Cell.{word_of}
+use Rattle.tl_ops.specs.Cell.{bytes_of_word}
 use Rattle.tl_ops.specs.Store.{with_window}
 use Rattle.tl_ops.specs.Window.{new_window}
 use Rattle.tl_ops.specs.declared.kind.Kind.TheVariants.{Ram}
@@ -8,7 +8,7 @@ use Rattle.tl_ops.proofs.Parts.{word_of-only}
 use Rattle.tl_ops.proofs.lanes.Lanes.update.Goals as goal
 
 -- the only word is the whole request
-only : (given : List (Option ℕ)) (lane : ℕ) → lane + length given ≤ 8 → word_of given 0 ≡ given
+only : (given : List (Option ℕ)) (lane : ℕ) → lane + length given ≤ 8 → bytes_of_word given 0 ≡ given
 only given lane in_word = word_of-only given (omega (arith, in_word))
 
 pub new_cell-requires-clause-old : goal.new_cell-requires-clause-old

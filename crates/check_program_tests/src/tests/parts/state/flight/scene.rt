@@ -2,10 +2,11 @@
 use crate::tests::holds;
 use crate::tests::parts::state::expect_text;
 use check_beats::{AskHead, Bus};
-use check_flight::{Order, Place, PortSlave, Side};
-use check_memory::{Memory, Range, Sizes, Slave, are_within};
+use check_flight::{FlightPlace, Order, PortSlave, Side};
+use check_memory::{PartialMemory, Sizes, Slave, are_within};
 use std::alloc::{AllocError, Global};
 use std::process::Abort;
+use tl_map::Range;
 use tl_ops::Kind;
 
 /// A RAM of 4 KiB from address 0x1000 on, of which nothing is known.
@@ -16,7 +17,7 @@ pub fn ram(rt: &impl Abort, alloc: Global, order: Order) -> Result<PortSlave, Al
         length: 0x1000,
     })?;
     assert!(rt; are_within(&ranges));
-    let memory = Memory::new(alloc, Kind::Ram, Sizes::of(Kind::Ram), ranges, false);
+    let memory = PartialMemory::new(alloc, Kind::Ram, Sizes::of(Kind::Ram), ranges, false);
     Ok(PortSlave::new(alloc, Slave::Memory(memory), order, true))
 }
 
@@ -26,8 +27,8 @@ pub fn side_of_four(alloc: Global) -> Result<Side, AllocError> {
 }
 
 /// The place of a wide source's request at link 0, to port 2.
-fn place_of(wide: usize) -> Place {
-    Place {
+fn place_of(wide: usize) -> FlightPlace {
+    FlightPlace {
         link: 0,
         wide,
         port: 2,

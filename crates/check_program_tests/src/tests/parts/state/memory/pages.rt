@@ -2,14 +2,15 @@
 use super::scene::{Turn, ask_of, memory_of, serve_all};
 use crate::tests::holds;
 use crate::tests::parts::state::expect_cells;
-use check_memory::{Memory, Pattern, Range, Sizes};
+use check_memory::{PartialMemory, Pattern, Sizes};
 use std::alloc::Global;
 use std::process::Abort;
+use tl_map::Range;
 use tl_ops::Kind;
 use tl_types::{Ask, AskOp};
 
 /// A RAM in one range, of which nothing is known.
-fn ram(rt: &impl Abort, alloc: Global, base: u64, length: u64) -> Memory {
+fn ram(rt: &impl Abort, alloc: Global, base: u64, length: u64) -> PartialMemory {
     let range = Range { base, length };
     memory_of(rt, alloc, Kind::Ram, Sizes::of(Kind::Ram), &[range], false)
 }
@@ -30,7 +31,13 @@ fn number_bytes(number: u64) -> [Option<u8>; 8] {
 }
 
 /// Puts the eight bytes of a number.
-fn put_number(rt: &impl Abort, alloc: Global, memory: &mut Memory, address: u64, number: u64) {
+fn put_number(
+    rt: &impl Abort,
+    alloc: Global,
+    memory: &mut PartialMemory,
+    address: u64,
+    number: u64,
+) {
     let ask = Ask::new(AskOp::PutFull, 3, 0, address, &number_bytes(number));
     let ask = ask.expect(rt, "a request");
     let mut answer = Pattern::blank();
@@ -41,7 +48,7 @@ fn put_number(rt: &impl Abort, alloc: Global, memory: &mut Memory, address: u64,
 }
 
 /// The eight bytes of a number stand there.
-fn expect_number(rt: &impl Abort, memory: &Memory, address: u64, number: u64) {
+fn expect_number(rt: &impl Abort, memory: &PartialMemory, address: u64, number: u64) {
     let mut answer = Pattern::blank();
     memory.answer(&ask_of(rt, AskOp::Get, 3, address, ""), &mut answer);
     expect_cells(rt, "a number", answer.cells(), &number_bytes(number));

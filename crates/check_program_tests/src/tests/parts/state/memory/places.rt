@@ -1,7 +1,8 @@
 //! Requests that lie in no range, worked out by hand. No program asks a memory for such bytes: the error port denies them.
 //! `examples/verdicts` has what each kind of slave serves.
 use super::scene::{Turn, memory_of, serve_all};
-use check_memory::{Range, Sizes};
+use check_memory::Sizes;
+use tl_map::Range;
 use tl_ops::Kind;
 use tl_types::{AskOp, Hint};
 

@@ -3,32 +3,33 @@
 use super::scene::ask_of;
 use crate::tests::holds;
 use crate::tests::parts::state::expect_text;
-use check_memory::{Memory, Pattern, Range, Sizes, are_within};
+use check_memory::{PartialMemory, Pattern, Sizes, are_within};
 use std::alloc::{AllocError, Global};
 use std::process::Abort;
+use tl_map::Range;
 use tl_ops::Kind;
 use tl_types::AskOp;
 
 /// A RAM of 64 KiB, of which nothing is known.
-fn ram(rt: &impl Abort, alloc: Global) -> Result<Memory, AllocError> {
+fn ram(rt: &impl Abort, alloc: Global) -> Result<PartialMemory, AllocError> {
     let mut ranges = Vec::new(alloc);
     ranges.push(Range {
         base: 0,
         length: 0x1_0000,
     })?;
     assert!(rt; are_within(&ranges));
-    Ok(Memory::new(alloc, Kind::Ram, Sizes::of(Kind::Ram), ranges, false))
+    Ok(PartialMemory::new(alloc, Kind::Ram, Sizes::of(Kind::Ram), ranges, false))
 }
 
 /// These bytes stand at an address.
-fn expect_there(rt: &impl Abort, memory: &Memory, address: u64, text: &str) {
+fn expect_there(rt: &impl Abort, memory: &PartialMemory, address: u64, text: &str) {
     let mut answer = Pattern::blank();
     memory.answer(&ask_of(rt, AskOp::Get, 1, address, ""), &mut answer);
     expect_text(rt, "what stands there", answer.cells(), text);
 }
 
 /// A put in a page of its own leaves its bytes, or where memory is refused all as it was.
-fn try_put(rt: &impl Abort, alloc: Global, memory: &mut Memory, address: u64) {
+fn try_put(rt: &impl Abort, alloc: Global, memory: &mut PartialMemory, address: u64) {
     let pages = memory.pages();
     let mut answer = Pattern::blank();
     memory.answer(&ask_of(rt, AskOp::Get, 1, address, ""), &mut answer);

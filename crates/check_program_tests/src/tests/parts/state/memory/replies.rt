@@ -2,9 +2,10 @@
 use super::scene::{ask_of, memory_of};
 use crate::tests::holds;
 use crate::tests::parts::state::bytes_of;
-use check_memory::{Pattern, Range, Sizes, Slave};
+use check_memory::{Pattern, Sizes, Slave};
 use std::alloc::Global;
 use std::process::Abort;
+use tl_map::Range;
 use tl_ops::Kind;
 use tl_types::{AskOp, ReplyOp};
 

@@ -1,9 +1,10 @@
 //! What the scenes of the tests share: memories, and requests that are served.
 use crate::tests::holds;
 use crate::tests::parts::state::{bytes_of, expect_cells};
-use check_memory::{Memory, Pattern, Range, Sizes, are_within};
+use check_memory::{PartialMemory, Pattern, Sizes, are_within};
 use std::alloc::Global;
 use std::process::Abort;
+use tl_map::Range;
 use tl_ops::Kind;
 use tl_types::{Ask, AskOp};
 
@@ -21,20 +22,20 @@ pub fn memory_of(
     sizes: Sizes,
     ranges: &[Range],
     known: bool,
-) -> Memory {
+) -> PartialMemory {
     let mut kept = Vec::new(alloc);
     for range in ranges {
         kept.push(*range).expect(rt, "memory refused");
     }
     assert!(rt; are_within(&kept));
-    Memory::new(alloc, kind, sizes, kept, known)
+    PartialMemory::new(alloc, kind, sizes, kept, known)
 }
 
 /// A request's operation, size, address and bytes; whether its reply is denied, and the bytes that it has to have.
 pub type Turn = (AskOp, u8, u64, &'static str, bool, &'static str);
 
 /// A memory serves one request.
-fn serve(rt: &impl Abort, alloc: Global, row: &str, memory: &mut Memory, turn: &Turn) {
+fn serve(rt: &impl Abort, alloc: Global, row: &str, memory: &mut PartialMemory, turn: &Turn) {
     let (op, size, address, given, denied, read) = *turn;
     let ask = ask_of(rt, op, size, address, given);
     let mut early = Pattern::blank();
@@ -54,7 +55,13 @@ fn serve(rt: &impl Abort, alloc: Global, row: &str, memory: &mut Memory, turn: &
 }
 
 /// A memory serves one request after the other.
-pub fn serve_all(rt: &impl Abort, alloc: Global, row: &str, memory: &mut Memory, turns: &[Turn]) {
+pub fn serve_all(
+    rt: &impl Abort,
+    alloc: Global,
+    row: &str,
+    memory: &mut PartialMemory,
+    turns: &[Turn],
+) {
     for turn in turns {
         serve(rt, alloc, row, memory, turn);
     }

@@ -1,0 +1,55 @@
+use Rattle.std.proofs.Common.{◌∙◌, length, refl, ap, sym}
+use Rattle.check_beats.specs.State.{Under}
+use Rattle.check_flight.specs.Side.{bus_at}
+use Rattle.check_watch.specs.Plan.{GroupPlan, IsGroupPlan}
+use Rattle.check_watch.specs.View.{GroupView}
+use Rattle.check_watch.proofs.Beginning.{fresh_keeps}
+use Rattle.check_watch.proofs.Wides.{wide_by, wide_by_is}
+use Rattle.check_watch.proofs.watch.GroupWatch.new.Goals as goal
+
+pub invariant_of-result : goal.invariant_of-result
+invariant_of-result c = record {
+  masters = c.in_ok-masters.ensures.counted ∙ ap (λ l. length l) c.deref.ensures.value ∙ c.requires.masters;
+  ports = c.in_ok-ports.ensures.counted ∙ ap (λ l. length l) c.deref-2.ensures.value ∙ c.requires.ports;
+  master_buses = λ number. ap (λ (u : Under). u.bus) (c.in_ok-masters.ensures.links number)
+      ∙ ap (λ l. bus_at l number) c.deref.ensures.value;
+  port_buses = λ number. ap (λ (u : Under). u.bus) (c.in_ok-ports.ensures.links number)
+      ∙ ap (λ l. bus_at l number) c.deref-2.ensures.value;
+  slaves = c.requires.slaves;
+  at_masters = c.in_ok-masters.ensures.wides ∙ sym c.in_ok-crossings.ensures.counted;
+  at_ports = c.in_ok-ports.ensures.wides ∙ sym c.in_ok-crossings.ensures.counted;
+  owned = λ w owned. rw c.in_ok-crossings.ensures.counted (c.wides-wides.ensures.above w owned);
+}
+
+pub returns-clause-plan : goal.returns-clause-plan
+returns-clause-plan c =
+    let plan : GroupPlan = record {
+      layout = record {
+        links = c.args.links;
+        owners = c.args.sources;
+        ports = c.args.map;
+        master_buses = c.args.master_buses.items;
+        port_buses = c.args.port_buses.items;
+      };
+      resets = c.args.slaves.items;
+      wide = wide_by c.args.sources;
+      route = c.ports-slots.ensures.routes.0;
+    } in
+    let lawful : IsGroupPlan plan = record {
+      owners = c.masters-owners.ensures.lawful;
+      wide = wide_by_is c.args.sources;
+      route = c.ports-slots.ensures.routes.1;
+    } in
+    let made : GroupView = record {
+      layout = plan.layout;
+      masters = c.in_ok-masters.masters;
+      ports = c.in_ok-ports.ports;
+      crossings = c.in_ok-crossings.crossings.items;
+      slaves = c.args.slaves.items;
+    } in (
+      plan,
+      refl,
+      fresh_keeps plan made lawful refl (rw (← c.deref.ensures.value) c.in_ok-masters.ensures.links)
+          c.in_ok-masters.ensures.flights (rw (← c.deref-2.ensures.value) c.in_ok-ports.ensures.links)
+          c.in_ok-ports.ensures.flights c.in_ok-crossings.ensures.fresh refl,
+    )

@@ -1,4 +1,0 @@
-use Rattle.check_watch.proofs.watch.Watch.port.Goals as goal
-
-pub returns-in-Master-clause-master : goal.returns-in-Master-clause-master
-returns-in-Master-clause-master c number port is = rw (← c.self.view_is) (c.route_bytes.ensures.port port)

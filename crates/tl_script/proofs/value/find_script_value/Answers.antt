@@ -1,0 +1,7 @@
+-- What the map of the table finds at the key.
+use Rattle.toml.proofs.Views.{table_get}
+use Rattle.tl_script.proofs.value.find_script_value.Goals as goal
+
+pub returns : goal.returns
+returns c = rw (← c.name.ensures)
+    (table_get c.get.result c.name.result.now c.args.table.now.entries c.get.ensures.value)
