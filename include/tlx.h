@@ -59,6 +59,7 @@ enum tlx_fault {
   TLX_BAD_SOURCES = 16,   /* too many masters or sources, a master without one, or two masters that share one */
   TLX_TOO_LONG = 17,      /* longer than 1048576 bytes */
   TLX_TWO_CALLED = 18,    /* two masters or ports have the same name */
+  TLX_UNKNOWN_KEY = 19,   /* of a system file: a key that no table of its kind has */
   /* of a request (tlx_model_serve, tlx_model_byte) */
   TLX_NO_OPERATION = 20,  /* opcode and param name no operation of TL-UL or TL-UH */
   TLX_SIZE = 21,          /* the size is above tlx_largest_size() */
@@ -210,9 +211,10 @@ static inline uint32_t tlx_system_read(struct tlx_system *system, const void *sc
 }
 
 /* Reads what the bytes of a system file name into an empty handle, for a judge, and writes the text of a fault as tlx_system_read does. A
- * script of tlx is a system file; its slots and operations are not looked at.
- * Faults: TLX_NULL, TLX_OTHER_VERSION, TLX_FULL, TLX_TOO_LONG, TLX_NOT_TOML; then key by key, in the order that docs/FORMATS.md has,
- * TLX_MISSING, TLX_WRONG_TYPE, TLX_OUT_OF_RANGE; then TLX_TWO_CALLED. After TLX_TOO_LONG, TLX_MEMORY may come at any point. */
+ * script of tlx is a system file; its slots and operations are not looked at. A key that no table of its kind has is a fault.
+ * Faults: TLX_NULL, TLX_OTHER_VERSION, TLX_FULL, TLX_TOO_LONG, TLX_NOT_TOML, TLX_UNKNOWN_KEY; then key by key, in the order that
+ * docs/FORMATS.md has, TLX_MISSING, TLX_WRONG_TYPE, TLX_OUT_OF_RANGE; then TLX_TWO_CALLED. After TLX_TOO_LONG, TLX_MEMORY may come at any
+ * point. */
 static inline uint32_t tlx_system_describe(struct tlx_system *system, const void *file, size_t length, char *text, size_t room) {
   char none;
   size_t written;
@@ -289,9 +291,9 @@ static inline uint32_t tlx_judge_make(struct tlx_judge *judge, struct tlx_system
 }
 
 /* Makes the judge of a file that names no image in one call, as tlx_system_describe and then tlx_judge_make.
- * Faults: TLX_NULL, TLX_OTHER_VERSION, TLX_BAD_ARGUMENT, TLX_FULL, TLX_TOO_LONG, TLX_NOT_TOML; then key by key TLX_MISSING, TLX_WRONG_TYPE,
- * TLX_OUT_OF_RANGE; then TLX_TWO_CALLED, TLX_IMAGE_UNREADABLE (of the first port that names an image), TLX_BAD_PORTS, TLX_BAD_SOURCES. After
- * TLX_TOO_LONG, TLX_MEMORY may come at any point. */
+ * Faults: TLX_NULL, TLX_OTHER_VERSION, TLX_BAD_ARGUMENT, TLX_FULL, TLX_TOO_LONG, TLX_NOT_TOML, TLX_UNKNOWN_KEY; then key by key
+ * TLX_MISSING, TLX_WRONG_TYPE, TLX_OUT_OF_RANGE; then TLX_TWO_CALLED, TLX_IMAGE_UNREADABLE (of the first port that names an image),
+ * TLX_BAD_PORTS, TLX_BAD_SOURCES. After TLX_TOO_LONG, TLX_MEMORY may come at any point. */
 static inline uint32_t tlx_judge_read(struct tlx_judge *judge, const void *file, size_t length, uint8_t links, uint8_t order, char *text,
                                       size_t room) {
   char none;

@@ -23,9 +23,14 @@ ORDERS = ("accept", "reply", "any")
 # The keys of a script: of the document, of a port and of a master.
 KEYS = {"": ("slots", "port", "master"), "port": ("kind", "base", "length", "reset"), "master": ("sources", "ops")}
 # The keys of a system file; those of a script that it may have too; and those that say where signals are (docs/CAPTURE.md).
-SYSTEM_KEYS = {"": ("bus", "port", "master", "slots", "clock", "reset", "reset_active"),
-               "port": ("name", "kind", "base", "length", "ranges", "reset", "image", "unknown", "sizes", "order", "bus", "signals", "wires"),
-               "master": ("name", "sources", "first", "stride", "bus", "ops", "signals", "wires")}
+SIGNALS = ("a_valid", "a_ready", "a_opcode", "a_param", "a_size", "a_source", "a_address", "a_mask", "a_data", "d_valid", "d_ready", "d_opcode",
+           "d_size", "d_source", "d_data", "d_denied", "d_corrupt")
+SYSTEM_KEYS = {"": ("bus", "port", "master", "clock", "reset", "reset_active", "slots", "extra"),
+               "port": ("name", "kind", "base", "length", "ranges", "reset", "image", "unknown", "sizes", "order", "bus", "signals", "wires",
+                        "extra"),
+               "master": ("name", "sources", "first", "stride", "bus", "signals", "wires", "ops", "extra"),
+               "sizes": ("get", "putfull", "putpart", "arithmetic", "logical", "intent", "extra"),
+               "wires": (*SIGNALS, "extra")}
 
 # The opcode and the parameter of each operation on channel A, and the opcode of each reply on channel D.
 OPERATIONS = {"putfull": (0, 0), "putpart": (1, 0), "min": (2, 0), "max": (2, 1), "minu": (2, 2), "maxu": (2, 3), "add": (2, 4),

@@ -25,9 +25,8 @@ def of_numbers(places):
     places.ordered(rising, places.header)
     words = [said._replace(text=said.key, key="") for said in places.call_words]
     places.said([Template(said, (said.text,), said.text) for said in words], places.header)
-    constants = files.words(NUMBERS, r"^pub\(crate\) const (?P<key>\w+): u32 = (?P<text>\d+);", every="const ")
     names = {said.key: said for said in places.header}
-    for said in constants:
+    for said in places.constants:
         # the library's own name of a number is the header's, or a variant's
         other = names.get(said.key)
         places.tell(other is not None and other.text == said.text, f"{said.at}: {said.key} is {said.text}, and {other.at if other else HEADER} has it not")

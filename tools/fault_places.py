@@ -146,28 +146,38 @@ class Places:
     def keys(self, crate):
         return self.files.words(f"crates/{crate}/src/fault.rt", r'Key::(?P<key>\w+) => "(?P<text>\w+)"', "pub fn name(self)", "\n    }\n", "=>")
 
-    def layers(self, crate, enum, key, maps, of_map, of_sources):
-        """The lines of a fault that carries a key, or a fault of a map or of sources."""
-        carried = {name: templates(self.files.errors(f"crates/{maps}/src/{file}.rt", name))
-                   for name, file in ((of_map, "map"), (of_sources, "sources"))}
+    def layers(self, crate, enum, key, *maps):
+        """The lines of a fault that carries a key, or one of these faults of a map or of sources, each with its file."""
+        carried = {name: templates(self.files.errors(f"crates/{file}.rt", name)) for name, file in maps}
         carried[key] = f"(?:{'|'.join(said.text for said in self.keys(crate))})"
         return templates(self.files.errors(f"crates/{crate}/src/fault.rt", enum), **carried)
 
     @functools.cached_property
     def scripts(self):
-        return self.layers("tl_script", "ScriptFault", "ScriptKey", "tl_map", "MapFault", "SourceFault")
+        return self.layers("tl_script", "ScriptFault", "ScriptKey", ("MapFault", "tl_script/src/map"), ("SourceFault", "tl_script/src/sources"))
 
     @functools.cached_property
     def systems(self):
-        files = self.layers("check_keys", "SystemFault", "Key", "check_map", "AddressMapFault", "SourceOwnerFault")
+        files = self.layers("check_keys", "SystemFault", "Key", ("AddressMapFault", "tl_map/src/address_map"),
+                            ("SourceOwnerFault", "tl_map/src/owners"))
         images = self.files.errors("crates/tl_c/src/draft.rt", "ImageFault")
         return files + [one for said in images if said.key != "System" for one in filled(said, {"usize": r"\d+"})]
 
     @functools.cached_property
     def call_words(self):
-        """The words of each number."""
-        return [said for head in ("\nfn call_words(", "\npub(crate) fn words(")
-                for said in self.files.words(NUMBERS, r'^ {8}(?P<key>\d+) => "(?P<text>[^"]+)"', head, every=r"\d+ =>")]
+        """The words of each number. A number may stand there by its name."""
+        named = {said.key: said.text for said in self.constants}
+        return [said._replace(key=named.get(said.key, said.key)) for head in ("\nfn call_words(", "\npub(crate) fn words(")
+                for said in self.files.words(NUMBERS, r'^ {8}(?P<key>[A-Z]\w*|\d+) => "(?P<text>[^"]+)"', head, every=r"^ {8}[A-Z\d]\w* =>")]
+
+    def variants(self, path, enum, prefix=""):
+        """The variants of an enum, in their order."""
+        return self.files.words(path, r"^ {4}(?P<text>(?P<key>[A-Z]\w*))", f"\npub enum {enum} {{\n", "\n}\n", prefix=prefix)
+
+    @functools.cached_property
+    def constants(self):
+        """The numbers that have a name, of the faults of calls."""
+        return self.files.words(NUMBERS, r"^(?:pub\(crate\) )?const (?P<key>\w+): u32 = (?P<text>\d+);", every="const ")
 
     def numbers(self, function):
         return self.files.words(NUMBERS, r"\w+::(?P<key>\w+)(?:\([^)]*\))? => (?P<text>\d+),", f"fn {function}(", every=r"=> \d")
@@ -189,11 +199,9 @@ class Places:
         self.ordered(self.literals("", "crates/check_lines/src/left.rt"), spec(r'codes "(?P<text>[^"]+)"', "\n-- where and when a request began\n",
                                                                                "10 ∷ []", "codes"))
         self.keyed(self.channels, spec(r'channel_text \((?P<key>\w) \w+\) = codes "(?P<text>[^"]+)"', every=r"channel_text \("))
-        form = self.files.errors("crates/check_beats/src/fault.rt", "FormFault", "Form.")
-        fault = [said for said in self.files.errors("crates/check_watch/src/fault.rt", "Fault") if said.key != "Form"]
-        self.keyed(self.form, form)
-        self.keyed(self.beats[len(self.form):], fault)
-        self.ordered(self.beats, form + fault)
+        form = self.variants("crates/check_beats/src/fault.rt", "FormFault", "Form.")
+        fault = [said for said in self.variants("crates/check_watch/src/fault.rt", "Fault") if said.key != "Form"]
+        self.ordered([said._replace(text=said.key) for said in self.beats], [said._replace(text=said.key) for said in form + fault])
 
     def of_beats_in_tools(self):
         words, beats = self.files.words, self.beat_templates

@@ -11,9 +11,10 @@ from typing import NamedTuple
 NAME = "[A-Za-z0-9_.-]+"
 REPLY = r"(?:\.\.|(?:AccessAck|AccessAckData|HintAck)(?: denied)?(?: [0-9a-fx]+)?)"
 # What may stand for a value of each type.
-HOLES = {"usize": r"\d+", "u64": r"\d+", "u16": r"\d+", "String": NAME}
+HOLES = {"usize": r"\d+", "u64": r"\d+", "u16": r"\d+", "String": NAME, "UnknownKey": r"[ -~]+ \(near: [a-z_]+\)"}
 # What is put for a name of a tool's own in one of its texts; a number for any other.
-SAMPLES = {"KEY": "base", "key": "base", "NAME": "x", "name": "x", "LONGEST_SCRIPT": "1048576"}
+SAMPLES = {"KEY": "base", "key": "base", "NAME": "x", "name": "x", "LONGEST_SCRIPT": "1048576", "UNKNOWN": "x (near: base)",
+           "nearest": "base"}
 
 
 class OtherForm(Exception):
@@ -119,7 +120,7 @@ class Files:
                 front, _, piece = piece.partition("(")
             at = line + text.count("\n", 0, literal.start())
             made += [Said(path, at, "", front + words) for words in piece.split("|") if words]
-        odd = [said for said in made if not re.fullmatch("[A-Za-z0-9:' ]+", said.text)]
+        odd = [said for said in made if not re.fullmatch("[A-Za-z0-9:'() ]+", said.text)]
         if not made or odd:
             raise OtherForm(f"{path}:{line}: {odd[0].text if odd else name!r} is no alternative of words")
         return made

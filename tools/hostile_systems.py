@@ -16,8 +16,10 @@ from common import GROUPS, HEADER, LONGEST_SCRIPT, OPERATIONS, ORDERS, REPLIES, 
 
 KEY = "|".join(sorted({key for keys in SYSTEM_KEYS.values() for key in keys}))
 NAME = "[A-Za-z0-9_.-]+"
+UNKNOWN = rf"[^\n]+ \(near: ({KEY})\)"
 SYSTEM_FAULT = re.compile(
     rf"system: (longer than {LONGEST_SCRIPT} bytes|not TOML|missing ({KEY})|wrong type of ({KEY})|({KEY}) out of range|two are called {NAME}"
+    rf"|unknown key {UNKNOWN}"
     r"|port \d+: image can't be read|port \d+: image is longer than its range|ports \d+ and \d+ overlap|too many masters or sources"
     r"|masters \d+ and \d+ share source \d+)\n")
 CAPTURE_FAULT = re.compile(r"capture: line \d+: (wrong header|row too long|wrong count of columns|bad number|number out of range|no such link"

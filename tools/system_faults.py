@@ -48,6 +48,35 @@ DOCUMENTS = ("", {
     "port = [{ kind = 1 }]": "wrong type of kind",
     "port = [{ kind = 'Device' }]": "kind out of range",
 })
+# A key that no table of its kind may have comes before all other faults of a table: of the top, then port by port, then master by master.
+UNKNOWN_KEYS = ("", {
+    "x = 1": "unknown key x (near: bus)",
+    "prot = []": "unknown key prot (near: port)",
+    "signals = 'x'\nbus = 3": "unknown key signals (near: slots)",
+    "reset_activ = 'low'\nmaster = 1": "unknown key reset_activ (near: reset_active)",
+    "ops = []": "unknown key ops (near: bus)",
+    # of several the first in the order of bytes
+    "b = 1\na = 1\nB = 1": "unknown key B (near: bus)",
+    "'' = 1": 'unknown key "" (near: bus)',
+    "'my key' = 1": 'unknown key "my key" (near: master)',
+    '"a\\nb" = 1': 'unknown key "a\\nb" (near: bus)',
+    "extra = { any = [1, 'x'] }\nslots = 'x'": "missing master",
+    # a port's own keys, then those of its sizes, then those of its wires
+    "[[port]]\nsignal = 'dut.p0_'": "unknown key signal (near: signals)",
+    "[[port]]\nsizes = { put = [0, 3] }\nwires = { a = 'x' }\nlenght = 1": "unknown key lenght (near: length)",
+    "[[port]]\nsizes = { put = [0, 3] }\nwires = { a = 'x' }": "unknown key put (near: get)",
+    "[[port]]\nsizes = { extra = 1 }\nwires = { a_vald = 'x', extra = 1 }": "unknown key a_vald (near: a_valid)",
+    "[[port]]\nops = []\nextra = 1": "unknown key ops (near: bus)",
+    "[[port]]\nextra = 1": "missing kind",
+    "[[port]]\nstride = 1\n[[master]]\nsource = 1": "unknown key stride (near: sizes)",
+    "[[port]]\nkind = 1\n[[master]]\nsource = 1": "unknown key source (near: sources)",
+    "[[master]]\nsizes = {}": "unknown key sizes (near: wires)",
+    "[[master]]\nops = 1\nextra = 1": "missing sources",
+    # what is no array or no table is passed over
+    "port = { x = 1 }\nmaster = [1, { x = 1 }]": "unknown key x (near: bus)",
+    "port = [1, { kinds = 'ram' }]": "unknown key kinds (near: kind)",
+    "port = [{ sizes = [{ x = 1 }], wires = 1 }]": "missing kind",
+})
 NAMES = ("[[port]]\n", {
     "name = 1": "wrong type of name",
     "name = 1\nkind = 1": "wrong type of name",
@@ -192,11 +221,11 @@ SIZES = (PORT, {
     "sizes = { intent = [0, 255] }": "sizes out of range",
     # a wrong type of any operation comes before a range of any
     "sizes = { get = [0, 9], intent = 1 }": "wrong type of sizes",
-    # keys that are not named are nothing
-    "sizes = { acquire = 1, Get = 1, atomics = [0, 9] }": "missing master",
-    "sizes = { acquire = 1 }": "missing master",
-    "sizes = { Get = 1 }": "missing master",
-    "sizes = { atomics = [0, 9] }": "missing master",
+    # names of no operation
+    "sizes = { acquire = 1, Get = 1, atomics = [0, 9] }": "unknown key Get (near: get)",
+    "sizes = { acquire = 1 }": "unknown key acquire (near: putpart)",
+    "sizes = { Get = 1 }": "unknown key Get (near: get)",
+    "sizes = { atomics = [0, 9] }": "unknown key atomics (near: logical)",
 })
 ORDERS_AND_BUSES = (PORT, {
     "order = 1": "wrong type of order",
@@ -312,7 +341,7 @@ IMAGES = (f"{MASTER}{PORT}", {
     "image = 'two.bin'\n[[port]]\nkind = 'ram'\nbase = 0\nlength = 1": "ports 0 and 1 overlap",
     "image = 'none.bin'\n[[master]]\nsources = 257": "port 0: image can't be read",
 })
-TABLES = (DOCUMENTS, NAMES, PLAIN_PORTS, RANGES, DEVICE_RANGES, CONTENTS, ONE_RANGE, SIZES, ORDERS_AND_BUSES, MASTERS, TWO_MASTERS, PARTS, IMAGES)
+TABLES = (DOCUMENTS, UNKNOWN_KEYS, NAMES, PLAIN_PORTS, RANGES, DEVICE_RANGES, CONTENTS, ONE_RANGE, SIZES, ORDERS_AND_BUSES, MASTERS, TWO_MASTERS, PARTS, IMAGES)
 
 
 def rows():

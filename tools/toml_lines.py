@@ -246,8 +246,8 @@ def asked(command, text):
 
 
 def run(program, whole, keys, document_faults, ask):
-    """Reads the file that the command line names, or standard input, and prints what is wrong with it. `ask` answers the program's
-    own line for a text of a path, which decides."""
+    """Reads the file that the command line names, or standard input, and prints what is wrong with it. It warns of keys that are none
+    of `keys`, if there are any. `ask` answers the program's own line for a text of a path, which decides."""
     words = sys.argv[1:]
     if len(words) > 1 or words and words[0].startswith("-"):
         sys.exit(f"usage: {os.path.basename(sys.argv[0])} [FILE]")
@@ -262,7 +262,7 @@ def run(program, whole, keys, document_faults, ask):
     try:
         table, places = read(text)
         faults = document_faults(table, places, os.path.dirname(path))
-        warnings = list(unknown_keys(table, places, keys, whole))
+        warnings = list(unknown_keys(table, places, keys, whole)) if keys else []
     except Fault as fault:
         faults = [fault]
     said = ask(text, path)

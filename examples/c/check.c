@@ -89,6 +89,7 @@ const char *words_of(enum tlx_fault fault) {
     case TLX_BAD_SOURCES: return "bad sources";
     case TLX_TOO_LONG: return "longer than 1048576 bytes";
     case TLX_TWO_CALLED: return "two of one name";
+    case TLX_UNKNOWN_KEY: return "unknown key";
     case TLX_NO_OPERATION: return "no such operation";
     case TLX_SIZE: return "size over the limit";
     case TLX_NO_MASTER: return "no such master";

@@ -8,15 +8,17 @@
 /* System files with faults, most with a later one as well, which is not told. */
 #define HOST(sources) "[[master]]\nsources = " sources "\n"
 #define PORT(base, length) "[[port]]\nkind = \"ram\"\nbase = " base "\nlength = " length "\n"
+#define TOO_MANY_SOURCES PORT("0x1000", "65537") HOST("257")
 static const struct { const char *file; uint32_t fault; const char *text; } FILES[] = {
     {"port = 1\n=", TLX_NOT_TOML, "system: not TOML"},
     {"port = 1 # \xff", TLX_NOT_TOML, "system: not TOML"},
+    {"prot = 1\nport = 1", TLX_UNKNOWN_KEY, "system: unknown key prot (near: port)"},
     {"", TLX_MISSING, "system: missing master"},
     {"port = 1", TLX_WRONG_TYPE, "system: wrong type of port"},
     {PORT("0x1000", "0"), TLX_OUT_OF_RANGE, "system: length out of range"},
     {"[[master]]\nname = \"a\"\nsources = 1\n[[master]]\nname = \"a\"\nsources = 300\n", TLX_TWO_CALLED, "system: two are called a"},
     {PORT("0x1000", "64") PORT("0x103f", "1") HOST("257"), TLX_BAD_PORTS, "system: ports 0 and 1 overlap"},
-    {PORT("0x1000", "65537") HOST("257"), TLX_BAD_SOURCES, "system: too many masters or sources"},
+    {TOO_MANY_SOURCES, TLX_BAD_SOURCES, "system: too many masters or sources"},
     {"[[master]]\nsources = 2\nfirst = 1\n[[master]]\nsources = 1\nfirst = 2\n", TLX_BAD_SOURCES, "system: masters 0 and 1 share source 2"},
     {PORT("0x1000", "0x10000000000") "image = \"a\"\n" PORT("0x1000", "1") "image = \"b\"\n" HOST("257"), TLX_IMAGE_UNREADABLE,
      "system: port 0: image can't be read"},
@@ -128,7 +130,7 @@ void check_images(void) {
   tlx_system_read(&script, SYSTEM, strlen(SYSTEM), 0, 0);
   tell("a script's system", tlx_system_ports(&script) == 0 && tlx_system_image_name(&script, 0, text, sizeof text) == 0 &&
        tlx_system_image(&script, 0, "", 0, 0, 0) == TLX_EMPTY && make(&second, &script, 0, 0) == TLX_EMPTY && tlx_model_make(&model, &script) == TLX_OK);
-  tlx_system_describe(&system, FILES[7].file, strlen(FILES[7].file), 0, 0);
+  tlx_system_describe(&system, TOO_MANY_SOURCES, strlen(TOO_MANY_SOURCES), 0, 0);
   tell("a system that is taken after a fault", make(&second, &system, 0, 0) == TLX_BAD_SOURCES && make(&second, &system, 0, 0) == TLX_EMPTY);
   tlx_system_free(&system);
   tlx_judge_free(&judge);

@@ -24,6 +24,7 @@ class Fault(enum.IntEnum):
     BAD_SOURCES = 16
     TOO_LONG = 17
     TWO_CALLED = 18
+    UNKNOWN_KEY = 19
     NO_OPERATION = 20
     SIZE = 21
     NO_MASTER = 22

@@ -1,27 +1,27 @@
 -- What a lawful row has: a size within the limit, and a source of its link.
 use Rattle.std.proofs.Common.{◌≡◌, ℕ, Bool, true, false, List, ◌∷◌, Option, Some, refl, ap, sym, subst}
 use Rattle.std.specs.Prelude.{◌↔◌, if◌then◌else◌}
-use Rattle.check_map.specs.Owner.{IsWideSource}
-use Rattle.check_map.specs.declared.sources.Owner.{Owner}
+use Rattle.tl_map.specs.Owner.{IsWideSource}
+use Rattle.tl_map.specs.declared.owners.Owner.{Owner}
 use Rattle.check_watch.specs.declared.beat.Beat.{Beat}
 use Rattle.check_watch.specs.declared.beat.Beat.TheVariants.{A, D}
 use Rattle.check_watch.specs.declared.beat.Link.{Link}
 use Rattle.check_watch.specs.declared.beat.Link.TheVariants.{Master, Port}
 use Rattle.check_watch.specs.Lawful.{IsAllowedBeat}
-use Rattle.check_watch.specs.Plan.{HasSource, GroupPlan, Sighting, source_of, wide_of}
+use Rattle.check_watch.specs.Plan.{HasSource, Plan, Sighting, source_of, wide_of}
 use Rattle.check_watch.specs.Scene.{Scene}
-use Rattle.check_sides.specs.declared.links.Links.{Links}
-use Rattle.check_sides.specs.declared.links.Links.TheVariants.{Both, Masters, Ports, Each}
-use Rattle.check_sides.specs.Groups.{is_alone, plan_at, port_plan, shared_plan}
+use Rattle.check_watch.specs.declared.links.Links.{Links}
+use Rattle.check_watch.specs.declared.links.Links.TheVariants.{Both, Masters, Ports, Each}
+use Rattle.check_sides.specs.Groups.{is_alone, plan_at, port_plan}
 use Rattle.check_sides.specs.Lawful.{IsLawful, scene}
-use Rattle.check_sides.specs.Plan.{IsPlan, Plan}
+use Rattle.check_sides.specs.Plan.{IsPlan}
 use Rattle.check_coverage.specs.Flights.{HasSize, is_counted, wide_at}
 
-allowed_size : (plan : GroupPlan) (here : Scene) (x : Sighting) (beat : Beat) → IsAllowedBeat plan here x beat → HasSize beat
+allowed_size : (plan : Plan) (here : Scene) (x : Sighting) (beat : Beat) → IsAllowedBeat plan here x beat → HasSize beat
 allowed_size plan here x (A beat) allowed = allowed.fits.formed.in_limit
 allowed_size plan here x (D beat) allowed = allowed.fits.formed.in_limit
 
-allowed_source : (plan : GroupPlan) (here : Scene) (x : Sighting) (beat : Beat) → IsAllowedBeat plan here x beat
+allowed_source : (plan : Plan) (here : Scene) (x : Sighting) (beat : Beat) → IsAllowedBeat plan here x beat
     → HasSource plan.layout x.link (source_of beat)
 allowed_source plan here x (A beat) allowed = allowed.source
 allowed_source plan here x (D beat) allowed = allowed.source
@@ -38,9 +38,9 @@ counted_together Each (Port p) is = absurd (cc)
 
 module _ (plan : Plan) (past : List Sighting) (x : Sighting) (is_plan : IsPlan plan) (lawful : IsLawful plan (x ∷ past))
     (counted : is_counted plan.layout.links x.link ≡ true) where
-  has_source : HasSource (shared_plan plan).layout x.link (source_of x.beat)
-  has_source = subst (λ (p : GroupPlan). HasSource p.layout x.link (source_of x.beat))
-      (ap (λ (b : Bool). if b then port_plan plan else shared_plan plan)
+  has_source : HasSource plan.layout x.link (source_of x.beat)
+  has_source = subst (λ (p : Plan). HasSource p.layout x.link (source_of x.beat))
+      (ap (λ (b : Bool). if b then port_plan plan else plan)
       (counted_together plan.layout.links x.link counted))
       (allowed_source (plan_at plan x.link) (scene plan past x) x x.beat lawful.1)
 
@@ -56,8 +56,8 @@ module _ (plan : Plan) (past : List Sighting) (x : Sighting) (is_plan : IsPlan p
       → ((number : ℕ) → x.link ≡ Port number → result ≡ Some (source_of x.beat)) → result ≡ Some (wide_at plan x)
   found_wide owners result same of_master of_port = go x.link refl has_source
     where
-      go : (link : Link) → x.link ≡ link → HasSource (shared_plan plan).layout link (source_of x.beat)
-          → result ≡ Some (wide_of (shared_plan plan) link (source_of x.beat))
+      go : (link : Link) → x.link ≡ link → HasSource plan.layout link (source_of x.beat)
+          → result ≡ Some (wide_of plan link (source_of x.beat))
       go (Master m) is has =
           (of_master m (plan.wide m (source_of x.beat)) is).1
           (subst (λ o. IsWideSource o m (source_of x.beat) (plan.wide m (source_of x.beat))) (sym same)

@@ -3,9 +3,9 @@ use Rattle.std.proofs.Common.{◌≡◌, ◌∙◌, ℕ, zero, suc, ◌+◌, ◌
 use Rattle.std.specs.Prelude.{◌==◌, if◌then◌else◌}
 use Rattle.std.specs.List.{list_any, range_with_len}
 use Rattle.std.proofs.lemmas.Bool.{cases_eq, or_cases, or_left, or_right, true≢false}
-use Rattle.check_map.specs.Owner.{IsOf, IsWideSource, Widens}
-use Rattle.check_map.specs.Sources.{AreLawfulOwners}
-use Rattle.check_map.specs.declared.sources.Owner.{Owner}
+use Rattle.tl_map.specs.Owner.{IsOf, IsWideSource, Widens}
+use Rattle.tl_map.specs.Owners.{AreLawfulOwners}
+use Rattle.tl_map.specs.declared.owners.Owner.{Owner}
 use Rattle.check_coverage.specs.Flights.{master_of, owns}
 
 -- ---- one owner

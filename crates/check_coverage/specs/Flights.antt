@@ -3,7 +3,7 @@
 use Rattle.std.specs.Prelude.{ℕ, ◌+◌, ◌≤◌, ◌*◌, ◌%◌, ◌^◌, ◌&&◌, ◌==◌, Bool, true, false, not, if◌then◌else◌, List, [], ◌∷◌, ◌++◌, map, filter, Option, Some, None}
 use Rattle.std.specs.List.{list_any, range_with_len}
 use Rattle.tl_types.specs.declared.limits.TheConstants.{MAX_SIZE}
-use Rattle.check_map.specs.declared.sources.Owner.{Owner}
+use Rattle.tl_map.specs.declared.owners.Owner.{Owner}
 use Rattle.check_beats.specs.declared.beat.AskHead.{AskHead}
 use Rattle.check_watch.specs.declared.beat.Beat.{Beat}
 use Rattle.check_watch.specs.declared.beat.Beat.TheVariants.{A, D}
@@ -13,9 +13,8 @@ use Rattle.check_watch.specs.declared.seen.Ended.{Ended}
 use Rattle.check_watch.specs.declared.seen.Ended.TheVariants as ends
 use Rattle.check_watch.specs.Plan.{Sighting, source_of, wide_of}
 use Rattle.check_watch.specs.Scene.{ended_by}
-use Rattle.check_sides.specs.declared.links.Links.{Links}
-use Rattle.check_sides.specs.declared.links.Links.TheVariants.{Both, Masters, Ports, Each}
-use Rattle.check_sides.specs.Groups.{shared_plan}
+use Rattle.check_watch.specs.declared.links.Links.{Links}
+use Rattle.check_watch.specs.declared.links.Links.TheVariants.{Both, Masters, Ports, Each}
 use Rattle.check_sides.specs.Lawful.{what_is_seen}
 use Rattle.check_sides.specs.Plan.{Plan, bus_of}
 use Rattle.check_rows.specs.Row.{SeenRow}
@@ -38,7 +37,7 @@ is_counted Each (Port p) = false
 
 -- the wide source of a beat
 abbrev pub wide_at : Plan → Sighting → ℕ
-wide_at plan x = wide_of (shared_plan plan) x.link (source_of x.beat)
+wide_at plan x = wide_of plan x.link (source_of x.beat)
 
 -- some source of the owner has this wide source
 abbrev pub owns : Owner → ℕ → Bool

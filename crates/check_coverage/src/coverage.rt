@@ -4,12 +4,11 @@ ghost use Rattle.std.specs.Ordering.{nat_cmp};
 ghost use Rattle.std.specs.BTreeMap.{get};
 ghost use Rattle.tl_text.specs.Text.{BeginsWith};
 ghost use Rattle.check_beats.specs.Bus.{beat_count_on_bus, bus_bytes};
-ghost use Rattle.check_map.specs.Owner.{IsWideSource};
+ghost use Rattle.tl_map.specs.Owner.{IsWideSource};
 ghost use Rattle.check_rows.specs.Row.{SeenRow};
 ghost use Rattle.check_sides.specs.Plan.{HasLink, Plan};
 ghost use Rattle.check_sides.specs.View.{Keeps, Suits};
 ghost use Rattle.check_unanswered.specs.Began.{beats_of, row_with};
-ghost use Rattle.check_watch.specs.Plan.{source_of};
 ghost use Rattle.check_watch.specs.declared.beat.Beat.TheVariants.{A, D};
 ghost use Rattle.check_coverage.specs.Bins.{ask_bins, begin_bins, contested_bins, first_bins, last_bins, mask_bins, of_found, reply_bins, step_of, with_one};
 ghost use Rattle.check_coverage.specs.Flights.{HasSize, InFlight, begun, end_of, is_counted, is_of, ends_an_ask, kept, master_of, with_begun};
@@ -24,11 +23,11 @@ use crate::lists::{
 };
 use crate::marks::Marks;
 use check_beats::{AskHead, Bus, ReplyHead, beat_count_on_bus};
-use check_map::SourceOwners;
 use check_rows::Row;
 use check_sides::{Beat, Ended, Link, Links, Watch};
 use std::alloc::{AllocError, Global};
 use std::collections::BTreeMap;
+use tl_map::SourceOwners;
 use tl_types::{MAX_SIZE, width};
 
 /// The most requests in flight that are told apart.
@@ -61,16 +60,6 @@ fn ends_an_ask(end: Ended) -> bool
     match end {
         Ended::Ask => true,
         Ended::Part | Ended::Reply => false,
-    }
-}
-
-/// The source of a beat.
-fn source_of(beat: &Beat) -> u16
-    ensures { result ≡ source_of beat.now }
-{
-    match beat {
-        Beat::A(beat) => beat.source,
-        Beat::D(beat) => beat.source,
     }
 }
 
@@ -397,7 +386,7 @@ impl Coverage {
             return Ok(());
         }
         let bus = watch.bus(row.link);
-        match wide_source(watch.sources(), row.link, source_of(&row.beat)) {
+        match wide_source(watch.sources(), row.link, row.beat.source()) {
             Some(wide) => self.note_beat(watch, wide, row.time, &row.beat, bus, end),
             None => Ok(()),
         }

@@ -2,7 +2,8 @@
 use Rattle.std.proofs.Common.{◌≡◌, ◌∙◌, ℕ, ◌<◌, List, length, map, take, get_or, Bool, true, false, Bor, Some, slice_get, option_map, refl, ap}
 use Rattle.std.proofs.lemmas.List.{take-map}
 use Rattle.std.proofs.lemmas.Option.{slice_get-get_or, slice_get-map}
-use Rattle.check_description.specs.Name.{StoodBefore, is_among}
+use Rattle.check_keys.specs.Known.{is_among}
+use Rattle.check_description.specs.Name.{StoodBefore}
 
 -- what contracts see of a name
 abbrev pub shown : Bor (List ℕ) → List ℕ

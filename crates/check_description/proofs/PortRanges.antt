@@ -5,9 +5,9 @@ use Rattle.std.specs.List.{AllByRecursion}
 use Rattle.std.proofs.lemmas.List.{length-map}
 use Rattle.std.proofs.lemmas.List.Elements.{All-from_recursion}
 use Rattle.std.proofs.lemmas.Option.{get_or_from_slice_get, slice_get_within}
-use Rattle.tl_map.specs.declared.map.Range.{Range}
-use Rattle.check_map.specs.Ranges.{AreRanges, IsLawfulRange}
-use Rattle.check_map.specs.declared.limits.TheConstants.{MAX_JUDGED_PORTS, MAX_RANGES_OF_PORT}
+use Rattle.tl_map.specs.declared.range.Range.{Range}
+use Rattle.tl_map.specs.Map.{AreRanges, IsLawfulRange}
+use Rattle.tl_map.specs.declared.limits.TheConstants.{MAX_JUDGED_PORTS, MAX_RANGES_OF_PORT}
 use Rattle.check_description.specs.Port.{Port, port_view}
 use Rattle.check_description.specs.Ranges.{AreRangesOfPort}
 use Rattle.check_description.specs.declared.port.Port as code

@@ -1,13 +1,13 @@
 -- Which description the parts of a file make, and the first fault of parts that make none. This project's own.
 use Rattle.std.specs.Prelude.{◌≡◌, ◌≢◌, List, map}
-use Rattle.tl_map.specs.declared.map.Range.{Range}
-use Rattle.check_map.specs.Ranges.{IsFirstAddressMapFault, IsLawfulAddressMap}
-use Rattle.check_map.specs.Sources.{AreLawfulOwners}
-use Rattle.check_map.specs.declared.map.AddressMapFault.{AddressMapFault}
-use Rattle.check_map.specs.declared.map.AddressMapFault.TheVariants.{Memory as MapMemory}
-use Rattle.check_map.specs.declared.sources.Owner.{Owner}
-use Rattle.check_map.specs.declared.sources.SourceOwnerFault.{SourceOwnerFault}
-use Rattle.check_map.specs.declared.sources.SourceOwnerFault.TheVariants.{Memory as SourceMemory}
+use Rattle.tl_map.specs.declared.range.Range.{Range}
+use Rattle.tl_map.specs.Map.{IsFirstAddressMapFault, IsLawfulAddressMap}
+use Rattle.tl_map.specs.Owners.{AreLawfulOwners}
+use Rattle.tl_map.specs.declared.address_map.AddressMapFault.{AddressMapFault}
+use Rattle.tl_map.specs.declared.address_map.AddressMapFault.TheVariants.{Memory as MapMemory}
+use Rattle.tl_map.specs.declared.owners.Owner.{Owner}
+use Rattle.tl_map.specs.declared.owners.SourceOwnerFault.{SourceOwnerFault}
+use Rattle.tl_map.specs.declared.owners.SourceOwnerFault.TheVariants.{Memory as SourceMemory}
 use Rattle.check_keys.specs.declared.fault.SystemFault.{SystemFault}
 use Rattle.check_keys.specs.declared.fault.SystemFault.TheVariants.{Map, Sources}
 use Rattle.check_description.specs.Port.{Port, port_view}

@@ -1,6 +1,6 @@
 -- The laws of ports, said on their own.
 use Rattle.std.specs.Prelude.{◌≡◌, ℕ, ◌+◌, ◌-◌, ◌^◌, ◌≤◌, false, List, [], ◌∷◌, ◌++◌, length, drop, replicate, None}
-use Rattle.tl_map.specs.declared.map.Range.{Range}
+use Rattle.tl_map.specs.declared.range.Range.{Range}
 use Rattle.tl_ops.specs.Store.{Store}
 use Rattle.tl_ops.specs.declared.kind.Kind.{Kind}
 use Rattle.check_memory.specs.Known.{known}

@@ -1,5 +1,6 @@
 pub mod Master
 pub mod File
+pub mod Unknown
 pub mod Name
 pub mod Description
 pub mod Kind

@@ -10,12 +10,12 @@ use Rattle.tl_text.specs.Reading.{◌>>=◌, each}
 use Rattle.check_keys.specs.Value.{value_at, number_at, number_if_any, tables_of, one_up_to}
 use Rattle.check_keys.specs.declared.fault.Key.TheVariants.{Master as MasterKey, Sources, First, Stride}
 use Rattle.check_keys.specs.declared.fault.SystemFault.{SystemFault}
-use Rattle.check_map.specs.Blocks.{AreBlocks, AreFew}
-use Rattle.check_map.specs.Sources.{IsFirstSourceOwnerFault}
-use Rattle.check_map.specs.declared.sources.Owner.{Owner}
-use Rattle.check_map.specs.declared.sources.SourceOwnerFault.{SourceOwnerFault}
-use Rattle.check_map.specs.declared.sources.SourceOwnerFault.TheVariants.{TooMany}
-use Rattle.check_map.specs.declared.limits.TheConstants.{MAX_JUDGED_MASTERS, MAX_JUDGED_SOURCES, MAX_WIDE}
+use Rattle.tl_map.specs.Blocks.{AreBlocks, AreFew}
+use Rattle.tl_map.specs.Owners.{IsFirstSourceOwnerFault}
+use Rattle.tl_map.specs.declared.owners.Owner.{Owner}
+use Rattle.tl_map.specs.declared.owners.SourceOwnerFault.{SourceOwnerFault}
+use Rattle.tl_map.specs.declared.owners.SourceOwnerFault.TheVariants.{TooMany}
+use Rattle.tl_map.specs.declared.limits.TheConstants.{MAX_JUDGED_MASTERS, MAX_JUDGED_SOURCES, MAX_WIDE}
 use Rattle.check_description.specs.declared.masters.Master as code_master
 
 -- a master: its name, how many sources it has, the wide source of its source 0 where the file says it, how far apart the

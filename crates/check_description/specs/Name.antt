@@ -1,16 +1,14 @@
--- The names of ports and masters, which are all different. This project's own.
-use Rattle.std.specs.Prelude.{◌≡◌, ◌<◌, ℕ, Bool, List, ◌++◌, take, slice_get, Some, IsTrue, IsSomeAnd, string_bytes, MatchResult}
-use Rattle.std.specs.List.{filter_map, list_any}
-use Rattle.std.specs.Str.{bytes_eq}
+-- The names of ports and masters, which are all different, and the first fault of a file that names none. This project's own.
+use Rattle.std.specs.Prelude.{◌≡◌, ◌<◌, ℕ, Bool, List, ◌++◌, take, slice_get, Option, None, Some, Ok, IsTrue, IsSomeAnd, string_bytes, MatchResult}
+use Rattle.std.specs.List.{filter_map}
+use Rattle.toml.specs.Data.{Members}
+use Rattle.check_keys.specs.Known.{is_among}
 use Rattle.check_keys.specs.declared.fault.SystemFault.{SystemFault}
 use Rattle.check_keys.specs.declared.fault.SystemFault.TheVariants.{TwoCalled}
 use Rattle.check_description.specs.Port.{Port}
-use Rattle.check_description.specs.File.{Parts, parts_of}
+use Rattle.check_description.specs.File.{Parts, document_of, parts_in, parts_of}
+use Rattle.check_description.specs.Unknown.{IsUnknownKey, Stray, stray_in_file}
 use Rattle.check_description.specs.Master.{Master}
-
--- the name is one of these
-abbrev pub is_among : List (List ℕ) → List ℕ → Bool
-is_among names name = list_any (bytes_eq name) names
 
 -- the name at this place is one of those before it
 abbrev pub StoodBefore : List (List ℕ) → ℕ → Type 0
@@ -41,7 +39,26 @@ abbrev pub IsNameFault : Parts → SystemFault → Type 0
 IsNameFault parts (TwoCalled name) = IsFirstNameTwice (names_of parts) (string_bytes name)
 IsNameFault parts fault = ⊥
 
--- the first fault of a file that names no parts: that on the way to them, or else a name that stands twice
+-- ---- files that name parts, and those that name none
+
+-- each key of the file's table is one that may stand there
+abbrev pub HasKnownKeys : List ℕ → Type 0
+HasKnownKeys file = (members : Members) → document_of file ≡ Ok members → stray_in_file members ≡ None
+
+-- the file names these parts, no two of which have the same name, and has no unknown key
+pub record NamesParts (file : List ℕ) (parts : Parts) : Type 0 where
+  pub known : HasKnownKeys file
+  pub are : parts_of file ≡ Ok parts
+  pub distinct : AreDistinct (names_of parts)
+
+-- the first fault of a table that names no parts: an unknown key, or else one on the way to the parts, or else a name that
+-- stands twice
+abbrev pub IsFaultAfter : Option Stray → Members → SystemFault → Type 0
+IsFaultAfter (Some stray) _ fault = IsUnknownKey stray fault
+IsFaultAfter None members fault =
+    MatchResult (parts_in members) (λ parts. IsNameFault parts fault) (λ first. fault ≡ first)
+
+-- the first fault of a file that names no parts: that it is no document, or else the first of its table
 abbrev pub IsFirstPartFault : List ℕ → SystemFault → Type 0
 IsFirstPartFault bytes fault =
-    MatchResult (parts_of bytes) (λ parts. IsNameFault parts fault) (λ first. fault ≡ first)
+    MatchResult (document_of bytes) (λ members. IsFaultAfter (stray_in_file members) members fault) (λ first. fault ≡ first)

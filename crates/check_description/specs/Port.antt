@@ -1,8 +1,8 @@
 -- The ports of a system file. This project's own.
 use Rattle.std.specs.Prelude.{ℕ, List, [], Option, None, Some, option_map, string_bytes, Result, Ok}
 use Rattle.toml.specs.Data.{Data, Members, get_member}
-use Rattle.tl_map.specs.declared.map.Range.{Range}
-use Rattle.check_map.specs.declared.limits.TheConstants.{MAX_JUDGED_PORTS}
+use Rattle.tl_map.specs.declared.range.Range.{Range}
+use Rattle.tl_map.specs.declared.limits.TheConstants.{MAX_JUDGED_PORTS}
 use Rattle.check_beats.specs.declared.bus.Bus.{Bus}
 use Rattle.tl_ops.specs.declared.sizes.SizeTable.{SizeTable}
 use Rattle.check_flight.specs.declared.order.Order.{Order}

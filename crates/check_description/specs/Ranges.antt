@@ -1,9 +1,9 @@
 -- The ranges of a port: its base and its length, or a list of both. This project's own.
 use Rattle.std.specs.Prelude.{ℕ, ◌<◌, ◌≤◌, Bool, ◌||◌, ℤ, List, [], ◌∷◌, length, All, Option, None, Some, is_some, Result, Ok}
 use Rattle.toml.specs.Data.{Data, Members, get_member}
-use Rattle.tl_map.specs.declared.map.Range.{Range}
-use Rattle.check_map.specs.Ranges.{IsLawfulRange}
-use Rattle.check_map.specs.declared.limits.TheConstants.{MAX_RANGES_OF_PORT}
+use Rattle.tl_map.specs.declared.range.Range.{Range}
+use Rattle.tl_map.specs.Map.{IsLawfulRange}
+use Rattle.tl_map.specs.declared.limits.TheConstants.{MAX_RANGES_OF_PORT}
 use Rattle.check_keys.specs.Key.{key_name}
 use Rattle.tl_text.specs.Reading.{◌>>=◌, each, unless}
 use Rattle.check_keys.specs.Value.{number_at, number_if_any, in_range, last_integer, array_of, pair_in_value, one_up_to}

@@ -2,7 +2,7 @@
 use Rattle.std.specs.Prelude.{ℕ, ◌^◌, Bool, true, false, not, nat_lt, List, [], length, unwrap_or, Result}
 use Rattle.tl_ops.specs.declared.kind.Kind.{Kind}
 use Rattle.tl_ops.specs.declared.kind.Kind.TheVariants.{NoDevice}
-use Rattle.tl_map.specs.declared.map.Range.{Range}
+use Rattle.tl_map.specs.declared.range.Range.{Range}
 use Rattle.check_memory.specs.Partial.{Partial, loaded}
 use Rattle.check_memory.specs.Place.{fill_of, tabulate}
 use Rattle.tl_ops.specs.Support.{row_of_kind}

@@ -1,6 +1,6 @@
 //! Descriptions: the ports and masters of a file, with their addresses and their wide sources.
 ghost use Rattle.std.specs.Prelude.{◌≡◌, ◌≢◌, IfErr, IfOk, OnOk, length, map};
-ghost use Rattle.check_map.specs.Ranges.{AreRanges, IsFirstAddressMapFault, IsLawfulAddressMap};
+ghost use Rattle.tl_map.specs.Map.{AreRanges, IsFirstAddressMapFault, IsLawfulAddressMap};
 ghost use Rattle.check_keys.specs.declared.fault.SystemFault.TheVariants.{Memory};
 ghost use Rattle.check_description.specs.Port.{port_view};
 ghost use Rattle.check_description.specs.Description.{IsFirstFaultOf, IsOfMap, Makes, described, ranges_of};
@@ -12,9 +12,9 @@ use crate::owners::sources_of;
 use crate::parts::Parts;
 use crate::port::Port;
 use check_keys::SystemFault;
-use check_map::{AddressMap, SourceOwners};
 use std::alloc::Global;
 use std::marker::Model;
+use tl_map::{AddressMap, SourceOwners};
 
 /// What a file describes: the ports, the masters, which port has which addresses, and which wide sources are whose.
 #[derive(Drop)]

@@ -1,8 +1,8 @@
 //! What a system file of the judge describes: its ports and masters, which addresses are whose, which wide sources, and the
 //! slave that each port is at reset.
 //!
-//! [`read_parts`] answers the [`Parts`] that a file names, no two of them with the same name, or its first fault on the
-//! way to them (`specs/File.antt`). [`read_ports`] reads the ports among them, each key in its order (`specs/Port.antt`).
+//! [`read_parts`] answers the [`Parts`] that a file names, no two of them with the same name, if each key of it is known
+//! (`specs/Unknown.antt`), or its first fault on the way to them (`specs/File.antt`, `specs/Name.antt`). [`read_ports`] reads the ports among them, each key in its order (`specs/Port.antt`).
 //! The files of the ports' images are [`Parts::images`]: the program reads them. [`slave_of`] makes of a port and the bytes
 //! of its image the `PortSlave` that it is before any request (`specs/Slave.antt`), and [`error_slave`] that of the error
 //! port. [`describe`] answers the [`Description`] that the parts make, or the first fault of their ranges and of their
@@ -29,6 +29,7 @@ mod ranges;
 mod read;
 mod sizes;
 mod slave;
+mod unknown;
 
 pub use description::{Described, Description, describe};
 pub use kind::PortKind;

@@ -11,8 +11,8 @@ use check_keys::{
     Key, SystemFault, array_of, bus_in_table, find_value, name_at, number_at, number_if_any,
     tables_of, value_at,
 };
-use check_map::{MAX_JUDGED_MASTERS, MAX_JUDGED_SOURCES, MAX_WIDE};
 use std::alloc::Global;
+use tl_map::{MAX_JUDGED_MASTERS, MAX_JUDGED_SOURCES, MAX_WIDE};
 use toml::Table;
 
 /// A master: its source `s` has the wide source `first + stride * s`, if it has a `first`.

@@ -4,7 +4,8 @@ ghost use Rattle.std.specs.List.{filter_map};
 ghost use Rattle.check_keys.specs.declared.fault.SystemFault.TheVariants.{Memory};
 ghost use Rattle.check_description.specs.Port.{port_view};
 ghost use Rattle.check_description.specs.File.{parts_view};
-ghost use Rattle.check_description.specs.Name.{AreDistinct, IsFirstTwice, IsNameFault, is_among as is_one_of, names_of as names_of_parts};
+ghost use Rattle.check_keys.specs.Known.{is_among as is_one_of};
+ghost use Rattle.check_description.specs.Name.{AreDistinct, IsFirstTwice, IsNameFault, names_of as names_of_parts};
 
 use crate::parts::Parts;
 use crate::port::Port;

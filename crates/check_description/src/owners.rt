@@ -1,14 +1,14 @@
 //! Which wide sources are each master's.
 ghost use Rattle.std.specs.Prelude.{◌≡◌, ◌≢◌, IfErr, IfOk, map, option_map};
-ghost use Rattle.check_map.specs.Sources.{AreLawfulOwners, IsFirstSourceOwnerFault};
+ghost use Rattle.tl_map.specs.Owners.{AreLawfulOwners, IsFirstSourceOwnerFault};
 ghost use Rattle.check_description.specs.Master.{HasOwners, IsBlockFault, IsFirstOwnerFault, IsInBlocks, counts_of as counts_of_masters, master_view, owner_of as owner_of_master, said_owners};
 ghost use Rattle.check_description.specs.Description.{IsOfSources};
 ghost use Rattle.check_keys.specs.declared.fault.SystemFault.TheVariants.{Memory};
 
 use crate::masters::Master;
 use check_keys::SystemFault;
-use check_map::{Owner, SourceOwners, blocks};
 use std::alloc::{AllocError, Global};
+use tl_map::{Owner, SourceOwners, blocks};
 
 /// The wide sources that a master says, if it says where they begin.
 fn owner_of(master: &Master) -> Option<Owner>

@@ -1,6 +1,6 @@
 //! What the tables of a system file name.
 ghost use Rattle.std.specs.Prelude.{◌≡◌, ◌≤◌, IfOk, length, map};
-ghost use Rattle.check_map.specs.declared.limits.TheConstants.{MAX_JUDGED_PORTS};
+ghost use Rattle.tl_map.specs.declared.limits.TheConstants.{MAX_JUDGED_PORTS};
 
 use crate::masters::Master;
 use crate::port::Port;

@@ -3,7 +3,7 @@ ghost use Rattle.std.specs.Prelude.{◌≡◌, ◌≤◌, IfOk, length, map};
 ghost use Rattle.toml.specs.View.{table_view};
 ghost use Rattle.tl_text.specs.Reading.{each};
 ghost use Rattle.check_keys.specs.Reading.{Gives};
-ghost use Rattle.check_map.specs.declared.limits.TheConstants.{MAX_JUDGED_PORTS};
+ghost use Rattle.tl_map.specs.declared.limits.TheConstants.{MAX_JUDGED_PORTS};
 ghost use Rattle.check_description.specs.Port.{port_of, port_tables, port_view, ports_of};
 
 use crate::contents::contents_at;
@@ -14,8 +14,8 @@ use crate::ranges::{first_length, ranges_at};
 use crate::sizes::sizes_at;
 use check_beats::Bus;
 use check_keys::{Key, SystemFault, array_of, bus_in_table, find_value, name_at, tables_of};
-use check_map::MAX_JUDGED_PORTS;
 use std::alloc::Global;
+use tl_map::MAX_JUDGED_PORTS;
 use toml::Table;
 
 /// The port that a table describes, in a system whose links have this bus.

@@ -2,7 +2,7 @@
 ghost use Rattle.std.specs.Prelude.{◌≡◌, ◌<◌, ◌≤◌, All, IfOk, length, map};
 ghost use Rattle.toml.specs.View.{table_view, view};
 ghost use Rattle.tl_text.specs.Reading.{each};
-ghost use Rattle.check_map.specs.Ranges.{IsLawfulRange};
+ghost use Rattle.tl_map.specs.Map.{IsLawfulRange};
 ghost use Rattle.check_keys.specs.Reading.{Gives};
 ghost use Rattle.check_keys.specs.Value.{pair_in_value as pair_in};
 ghost use Rattle.check_keys.specs.declared.fault.Key.TheVariants.{Ranges};
@@ -12,9 +12,8 @@ use check_keys::{
     Key, LAST_INTEGER, SystemFault, array_of, find_value, in_range, number_at, number_if_any,
     pair_in_value,
 };
-use check_map::MAX_RANGES_OF_PORT;
 use std::alloc::Global;
-use tl_map::Range;
+use tl_map::{MAX_RANGES_OF_PORT, Range};
 use toml::{Table, Value};
 
 /// How many bytes the first range has.

@@ -1,15 +1,16 @@
 //! Reads the parts that a file names.
-ghost use Rattle.std.specs.Prelude.{◌≡◌, ◌≢◌, IfErr, IfOk, Ok};
+ghost use Rattle.std.specs.Prelude.{◌≢◌, IfErr, IfOk};
 ghost use Rattle.toml.specs.View.{table_view};
 ghost use Rattle.check_keys.specs.Reading.{Gives};
 ghost use Rattle.check_keys.specs.declared.fault.SystemFault.TheVariants.{Memory};
-ghost use Rattle.check_description.specs.File.{document_of, parts_in, parts_of, parts_view};
-ghost use Rattle.check_description.specs.Name.{AreDistinct, IsFirstPartFault, names_of};
+ghost use Rattle.check_description.specs.File.{document_of, parts_in, parts_view};
+ghost use Rattle.check_description.specs.Name.{IsFirstPartFault, NamesParts};
 
 use crate::masters::read_masters;
 use crate::names::check_names;
 use crate::parts::Parts;
 use crate::ports::read_ports;
+use crate::unknown::check_keys;
 use check_beats::Bus;
 use check_keys::{SystemFault, bus_in_table};
 use std::alloc::Global;
@@ -47,14 +48,14 @@ fn read_tables(alloc: Global, table: &Table) -> Result<Parts, SystemFault>
     Ok(Parts { ports, masters })
 }
 
-/// The parts that a file names, or its first fault in the order of the checks: on the way to them, or a name that stands
-/// twice. Want of memory may be answered at any point.
+/// The parts that a file names, or its first fault in the order of the checks: that it is no document, a key that no table
+/// may have, one on the way to the parts, or a name that stands twice. Want of memory may be answered at any point.
 pub fn read_parts(alloc: Global, bytes: &[u8]) -> Result<Parts, SystemFault>
-    ensures named { IfOk result (λ parts. parts_of bytes.now ≡ Ok (parts_view parts)) }
-    ensures distinct { IfOk result (λ parts. AreDistinct (names_of (parts_view parts))) }
+    ensures named { IfOk result (λ parts. NamesParts bytes.now (parts_view parts)) }
     ensures fault { IfErr result (λ fault. fault ≢ Memory → IsFirstPartFault bytes.now fault) }
 {
     let table = read_document(alloc, bytes)?;
+    check_keys(alloc, &table)?;
     let parts = read_tables(alloc, &table)?;
     check_names(alloc, &parts)?;
     Ok(parts)

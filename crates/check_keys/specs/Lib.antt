@@ -3,3 +3,5 @@ pub mod Reading
 pub mod Value
 pub mod Name
 pub mod Bus
+pub mod Nearest
+pub mod Known

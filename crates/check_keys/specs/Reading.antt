@@ -1,9 +1,9 @@
 -- How checks of a system file follow one another: the first that fails is the answer. This project's own.
 use Rattle.std.specs.Prelude.{◌≡◌, ◌≢◌, Bool, List, [], ◌∷◌, ◌++◌, Option, None, Some, Result, Ok, Err, MatchResult, if◌then◌else◌}
-use Rattle.check_map.specs.declared.map.AddressMapFault.{AddressMapFault}
-use Rattle.check_map.specs.declared.map.AddressMapFault.TheVariants.{Memory as MapMemory}
-use Rattle.check_map.specs.declared.sources.SourceOwnerFault.{SourceOwnerFault}
-use Rattle.check_map.specs.declared.sources.SourceOwnerFault.TheVariants.{Memory as SourceMemory}
+use Rattle.tl_map.specs.declared.address_map.AddressMapFault.{AddressMapFault}
+use Rattle.tl_map.specs.declared.address_map.AddressMapFault.TheVariants.{Memory as MapMemory}
+use Rattle.tl_map.specs.declared.owners.SourceOwnerFault.{SourceOwnerFault}
+use Rattle.tl_map.specs.declared.owners.SourceOwnerFault.TheVariants.{Memory as SourceMemory}
 use Rattle.check_keys.specs.declared.fault.SystemFault.{SystemFault}
 use Rattle.check_keys.specs.declared.fault.SystemFault.TheVariants.{Map, Sources, Memory}
 

@@ -4,10 +4,11 @@ ghost use Rattle.check_keys.specs.Key.{key_name};
 ghost use Rattle.check_keys.specs.Reading.{map_fault, source_fault};
 ghost use Rattle.check_keys.specs.declared.fault.SystemFault.TheVariants.{Memory};
 
-use check_map::{AddressMapFault, SourceOwnerFault};
+use crate::known::UnknownKey;
 use std::alloc::{AllocError, AllocFailed};
 use std::fmt;
 use thiserror::Error;
+use tl_map::{AddressMapFault, SourceOwnerFault};
 
 /// A key of a system file.
 #[derive(Debug, Clone, Copy, PartialEq, Eq)]
@@ -78,6 +79,9 @@ pub enum SystemFault {
     WrongType(Key),
     #[error("system: {0} out of range")]
     OutOfRange(Key),
+    /// A key that its table may not have. The nearest that it may have is named.
+    #[error("system: unknown key {0}")]
+    UnknownKey(UnknownKey),
     #[error("system: two are called {0}")]
     TwoCalled(String),
     /// The file that a port's `image` names is not there, is a folder, or is refused.

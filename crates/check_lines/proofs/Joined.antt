@@ -15,9 +15,3 @@ field_and_four text a b c d e f first second third fourth last one two three fou
     five
     ∙ ap (λ l. l ++ f) (four ∙ ap (λ l. l ++ e) (three ∙ ap (λ l. l ++ d) (two ∙ ap (λ l. l ++ c) one)))
     ∙ simp append_assoc
-
--- four texts
-pub four : (text a b c d first second third last : List ℕ) → first ≡ text ++ a → second ≡ first ++ b → third ≡ second ++ c
-    → last ≡ third ++ d → last ≡ text ++ (a ++ b ++ c ++ d)
-four text a b c d first second third last one two three four_is =
-    four_is ∙ ap (λ l. l ++ d) (three ∙ ap (λ l. l ++ c) (two ∙ ap (λ l. l ++ b) one)) ∙ simp append_assoc

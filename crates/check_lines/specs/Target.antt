@@ -1,14 +1,9 @@
--- What a request asks for: `NAME ADDRESS SIZE`. Opcodes and parameters are those of the chapter "TL-UL and TL-UH
--- operations" of the TileLink specification; the words are this project's own.
-use Rattle.std.specs.Prelude.{ℕ, Bool, false, ◌==◌, ◌&&◌, List, ◌++◌, codes, filter, flat_map}
-use Rattle.std.specs.Fmt.{decimal, digits}
+-- The word of an operation by its codes. Opcodes and parameters are those of the chapter "TL-UL and TL-UH operations" of
+-- the TileLink specification; the words are this project's own.
+use Rattle.std.specs.Prelude.{ℕ, Bool, ◌==◌, ◌&&◌, List, filter, flat_map}
 use Rattle.tl_types.specs.Wire.{opcode_of, param_of}
 use Rattle.tl_types.specs.declared.operation.AskOp.{AskOp}
 use Rattle.tl_text.specs.Name.{all_operations, operation_word}
-
--- a word, an address and a size
-abbrev pub target_text : List ℕ → ℕ → ℕ → List ℕ
-target_text name address size = name ++ codes " 0x" ++ digits 16 false address ++ codes " " ++ decimal size
 
 -- the operation has this opcode and this parameter
 abbrev pub has_codes : ℕ → ℕ → AskOp → Bool

@@ -14,7 +14,8 @@ use Rattle.check_watch.specs.declared.fault.Fault.{Fault}
 use Rattle.check_watch.specs.declared.fault.Fault.TheVariants.{Form, NoSuchSource, SourceBusy, WrongPort, NoRequest, EarlyReply, WrongSize, WrongOpcode, UnknownData, NotSent, NotGiven, WrongReply}
 use Rattle.check_lines.specs.Names.{NamesView, name_of_link}
 use Rattle.check_lines.specs.Reply.{pattern_text}
-use Rattle.check_lines.specs.Target.{name_text, target_text}
+use Rattle.tl_script.specs.Trace.{target_text}
+use Rattle.check_lines.specs.Target.{name_text}
 use Rattle.check_lines.specs.declared.verdict.VerdictCounts.{VerdictCounts}
 use Rattle.check_rows.specs.declared.row.Row.{Row}
 use Rattle.check_unanswered.specs.declared.request.Began.{Began}

@@ -3,10 +3,11 @@ ghost use Rattle.std.specs.Prelude.{◌≡◌, ◌<◌, ◌≤◌, ◌+◌, ◌+
 ghost use Rattle.tl_text.specs.Text.{BeginsWith};
 ghost use Rattle.check_lines.specs.Verdict.{asked_text, began_text, incomplete_line, owner_text};
 
-use crate::target::{name_word, push_target};
+use crate::target::name_word;
 use check_unanswered::{Began, Left};
 use check_watch::{Beat, Origin};
 use std::alloc::AllocError;
+use tl_script::push_target;
 use tl_text::push_field;
 
 /// Appends what the first beat of a request asks for: its operation, its address and its size. A beat of a reply asks

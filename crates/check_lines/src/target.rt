@@ -1,10 +1,8 @@
-//! What a request asks for, as lines spell it.
-ghost use Rattle.std.specs.Prelude.{◌≡◌, ◌<◌, ◌≤◌, ◌+◌, ◌++◌, codes, length, vec_capacity, OnErr, OnOk};
-ghost use Rattle.tl_text.specs.Text.{BeginsWith};
-ghost use Rattle.check_lines.specs.Target.{name_text, target_text};
+//! The word of an operation by its opcode.
+ghost use Rattle.std.specs.Prelude.{◌≡◌};
+ghost use Rattle.check_lines.specs.Target.{name_text};
 
-use std::alloc::AllocError;
-use tl_text::{push_field, push_hex, word};
+use tl_text::word;
 use tl_types::read_op;
 
 /// The word of the operation that an opcode and a parameter stand for; no word if they stand for none.
@@ -15,19 +13,4 @@ pub fn name_word(opcode: u8, param: u8) -> &'static str
         Ok(op) => word(op),
         Err(_) => "",
     }
-}
-
-/// Appends the word of an operation, an address and a size.
-#[tactic(auto, using(tl_text::proofs::TextLemmas::begins))]
-pub fn push_target(text: &mut Vec<u8>, name: &str, address: u64, size: u8) -> Result<(), AllocError>
-    ensures ok { OnOk result (text.new.items ≡ text.old.items ++ target_text name.now address size) }
-    ensures err { OnErr result (BeginsWith text.old.items text.new.items) }
-    ensures room { vec_capacity text.old ≤ vec_capacity text.new }
-    ensures full { OnErr result (vec_capacity text.old
-        < length text.old.items + length (target_text name.now address size)) }
-{
-    text.extend_from_slice(name.as_bytes())?;
-    text.extend_from_slice(b" 0x")?;
-    push_hex(text, address)?;
-    push_field(text, b" ", u64::from(size))
 }

@@ -1,14 +1,13 @@
 //! The line of a reply that was seen at a link.
 ghost use Rattle.std.specs.Prelude.{◌≡◌, ◌++◌, OnErr, OnOk};
 ghost use Rattle.tl_text.specs.Text.{BeginsWith};
-ghost use Rattle.check_lines.specs.Trace.{AppendsLine, entry_line, exchange_text, origin_text, place_text};
+ghost use Rattle.check_lines.specs.Trace.{AppendsLine, entry_line, exchange_text};
 
 use crate::reply::push_pattern;
-use check_map::SourceOwners;
 use check_watch::{Link, SeenEntry};
 use std::alloc::AllocError;
-use tl_script::push_ask;
-use tl_text::push_field;
+use tl_map::SourceOwners;
+use tl_script::{push_ask, push_origin, push_place};
 
 /// Appends a request and the reply that was captured.
 #[tactic(auto, using(tl_text::proofs::TextLemmas::begins))]
@@ -19,27 +18,6 @@ fn push_exchange(text: &mut Vec<u8>, entry: &SeenEntry) -> Result<(), AllocError
     push_ask(text, &entry.ask)?;
     text.extend_from_slice(b" -> ")?;
     push_pattern(text, &entry.reply)
-}
-
-/// Appends a master and a source of its own.
-#[tactic(auto, using(tl_text::proofs::TextLemmas::begins))]
-fn push_origin(text: &mut Vec<u8>, master: usize, source: u16) -> Result<(), AllocError>
-    ensures ok { OnOk result (text.new.items ≡ text.old.items ++ origin_text master source) }
-    ensures err { OnErr result (BeginsWith text.old.items text.new.items) }
-{
-    push_field(text, b"m", master as u64)?;
-    push_field(text, b" s", u64::from(source))?;
-    text.extend_from_slice(b" ")
-}
-
-/// Appends the port that served a request, and its place in the port's list.
-#[tactic(auto, using(tl_text::proofs::TextLemmas::begins))]
-fn push_place(text: &mut Vec<u8>, port: usize, index: usize) -> Result<(), AllocError>
-    ensures ok { OnOk result (text.new.items ≡ text.old.items ++ place_text port index) }
-    ensures err { OnErr result (BeginsWith text.old.items text.new.items) }
-{
-    push_field(text, b" p", port as u64)?;
-    push_field(text, b" #", index as u64)
 }
 
 /// Appends the line of a request of a master from this source of its own, with the reply that was captured.

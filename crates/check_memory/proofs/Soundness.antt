@@ -18,7 +18,7 @@ use Rattle.tl_ops.specs.declared.kind.Kind.TheVariants.{Ram, Rom, Regs, ClearReg
 use Rattle.tl_ops.specs.Store.{shown}
 use Rattle.tl_ops.specs.Window.{new_window, put_window, merged, cleared, operand_of, combine_arith, combine_logic, not_byte}
 use Rattle.tl_ops.proofs.Kept.{length-new_window}
-use Rattle.tl_map.specs.declared.map.Range.{Range}
+use Rattle.tl_map.specs.declared.range.Range.{Range}
 use Rattle.check_memory.specs.Known.{IsBelow, known, all_known}
 use Rattle.check_memory.specs.Cells.{put_cell, clear_cell, put_cells, combined, combined_logic, new_cells}
 use Rattle.check_memory.specs.Partial.{Partial, holds, permits, window_of, after_partial, AreWithin}

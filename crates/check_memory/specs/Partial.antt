@@ -6,7 +6,7 @@ use Rattle.tl_types.specs.Request.{Request}
 use Rattle.tl_types.specs.declared.limits.TheConstants.{MAX_BYTES}
 use Rattle.tl_ops.specs.declared.kind.Kind.{Kind}
 use Rattle.tl_ops.specs.declared.sizes.SizeTable.{SizeTable}
-use Rattle.tl_map.specs.declared.map.Range.{Range}
+use Rattle.tl_map.specs.declared.range.Range.{Range}
 use Rattle.tl_ops.specs.Support.{allows}
 use Rattle.check_memory.specs.Known.{known, replaced}
 use Rattle.check_memory.specs.Cells.{new_cells, forgotten}

@@ -1,11 +1,10 @@
 -- The command line, whose two lists of words may lie anywhere: what holds of it wherever they lie.
-use Rattle.std.proofs.Common.{◌≡◌, ◌∙◌, codes, true, ℕ, List, [], ◌∷◌, refl, sym, subst, ap, map}
+use Rattle.std.proofs.Common.{◌≡◌, codes, true, ℕ, List, [], ◌∷◌, refl, sym, subst, ap, map}
 use Rattle.std.specs.Borrow.{Bor}
-use Rattle.clap.specs.Words.{App, HasMatchesOf, Text, fault_of, first_of, first_value, found_of, is_simple, is_simple_and_free, matches_of}
+use Rattle.clap.specs.Words.{App, Text, fault_of, is_simple, is_simple_and_free}
 use Rattle.clap.specs.declared.error.ErrorKind.{ErrorKind}
-use Rattle.clap.proofs.WalkLemmas.{first_value-rows}
-use Rattle.clap.specs.declared.parser.matches.ArgMatches.{ArgMatches}
-use Rattle.check_options.specs.Options.{AreRefusedAs, AskFor, AskedOptions, Asks, IsCommandLine, WordSlice, Refuses, asked_in, texts_of, with_rules}
+use Rattle.tl_cli.specs.Rules.{Refuses}
+use Rattle.check_options.specs.Options.{AreRefusedAs, AskFor, AskedOptions, Asks, IsCommandLine, WordSlice, asked_in, texts_of, with_rules}
 
 -- a word that lies at a place
 abbrev pub at : ℕ × ℕ → Text → Bor Text
@@ -100,9 +99,3 @@ is_free_line = wherever (λ (app : App). is_simple_and_free app ≡ true) (λ l 
 -- there is one
 pub some_line : IsCommandLine (with_rules (links_at (0, 0) (0, 0) (0, 0) (0, 0) (0, 0)) (orders_at (0, 0) (0, 0) (0, 0) (0, 0)))
 some_line = record { links = _; orders = _; links_listed = refl; orders_listed = refl; is = refl }
-
--- the first value of an option is what the words give it
-pub first_read : (app : App) (m : ArgMatches) (words : List Text) → IsCommandLine app → HasMatchesOf app words m
-    → (id : Text) → first_value (found_of m) id ≡ first_of id (matches_of app words)
-first_read app m words line has id =
-    first_value-rows (found_of m) id ∙ ap (first_of id) (has (is_simple_line app line)).0

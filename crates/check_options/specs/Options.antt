@@ -1,15 +1,16 @@
 -- The command line of tlcheck: the options and words that there are, what the words ask for, and the status that the
 -- program ends with if they ask for nothing. This project's own.
-use Rattle.std.specs.Prelude.{◌≡◌, List, [], ◌∷◌, Bool, true, false, Option, Some, None, Result, IfOk, codes, map, option_map, if◌then◌else◌, unwrap_or}
+use Rattle.std.specs.Prelude.{◌≡◌, List, [], ◌∷◌, Bool, false, Option, Some, None, Result, IfOk, codes, map, option_map, if◌then◌else◌}
 use Rattle.std.specs.Borrow.{Bor}
 use Rattle.std.specs.Str.{bytes_eq}
-use Rattle.clap.specs.Words.{App, FailsBy, Row, Rule, Text, fault_of, first_of, matches_of, new_app, new_rule, with_rule}
-use Rattle.clap.specs.declared.builder.action.ArgAction.TheVariants.{Set, SetTrue}
+use Rattle.clap.specs.Words.{App, FailsBy, Row, Rule, Text, fault_of, first_of, matches_of, new_rule, with_rule}
+use Rattle.clap.specs.declared.builder.action.ArgAction.TheVariants.{Set}
 use Rattle.clap.specs.declared.builder.value_parser.ValueParser.TheVariants as values
 use Rattle.clap.specs.declared.error.Error.{Error}
 use Rattle.clap.specs.declared.error.ErrorKind.{ErrorKind}
-use Rattle.check_sides.specs.declared.links.Links.{Links}
-use Rattle.check_sides.specs.declared.links.Links.TheVariants.{Both, Masters, Ports, Each}
+use Rattle.tl_cli.specs.Rules.{Refuses, file_of, flag_of, flag_rule, program_of, system_rule, value_of, valued_rule}
+use Rattle.check_watch.specs.declared.links.Links.{Links}
+use Rattle.check_watch.specs.declared.links.Links.TheVariants.{Both, Masters, Ports, Each}
 use Rattle.check_flight.specs.declared.order.Order.{Order}
 use Rattle.check_flight.specs.declared.order.Order.TheVariants.{Accept, Reply, Any}
 use Rattle.check_options.specs.declared.options.CheckOptions.{CheckOptions}
@@ -29,10 +30,6 @@ links_words = codes "both" ∷ codes "masters" ∷ codes "ports" ∷ codes "each
 
 abbrev pub order_words : List Text
 order_words = codes "accept" ∷ codes "reply" ∷ codes "any" ∷ []
-
--- an option or a word that has one value
-abbrev pub valued_rule : Text → Rule
-valued_rule id = record (new_rule id) { action = Some Set; value_names = 1 }
 
 -- `--links`, one of its words, and `both` if it is not given
 abbrev pub links_rule : WordSlice → Rule
@@ -54,10 +51,6 @@ order_rule names = record (new_rule (codes "order")) {
   defaults = codes "accept" ∷ [];
 }
 
--- a flag, by two dashes and its name
-abbrev pub flag_rule : Text → Rule
-flag_rule name = record (new_rule name) { long = Some name; action = Some SetTrue; parser = Some values.Bool }
-
 -- `--coverage`, with the name of a file
 abbrev pub coverage_rule : Rule
 coverage_rule = record (new_rule (codes "coverage")) {
@@ -66,17 +59,9 @@ coverage_rule = record (new_rule (codes "coverage")) {
   value_names = 1;
 }
 
--- SYSTEM, a word that there must be
-abbrev pub system_rule : Rule
-system_rule = record (new_rule (codes "system")) { action = Some Set; value_names = 1; required = true }
-
 -- CAPTURE, a word that there may be
 abbrev pub capture_rule : Rule
-capture_rule = record (new_rule (codes "capture")) { action = Some Set; value_names = 1 }
-
--- the program, which has a version
-abbrev pub program : App
-program = let plain = new_app (codes "tlcheck") in record plain { top = record plain.top { has_version = true } }
+capture_rule = valued_rule (codes "capture")
 
 -- one flag more
 abbrev pub with_flag : App → Text → App
@@ -94,7 +79,7 @@ with_files app = with_rule (with_rule (with_rule app coverage_rule) system_rule)
 
 -- these eight, and `--help` and `--version`, which clap adds
 abbrev pub with_rules : WordSlice → WordSlice → App
-with_rules links orders = with_files (with_flags (with_choices program links orders))
+with_rules links orders = with_files (with_flags (with_choices (program_of (codes "tlcheck")) links orders))
 
 -- the rule is that of `--links`, or of `--order`, wherever its list of words lies
 pub record IsLinksRule (rule : Rule) : Type 0 where
@@ -150,19 +135,6 @@ abbrev pub order_of : Text → Order
 order_of word =
     if bytes_eq word (codes "reply") then Reply else (if bytes_eq word (codes "any") then Any else Accept)
 
--- whether a flag with this value is set
-abbrev pub flag_of : Text → Bool
-flag_of word = bytes_eq word (codes "true")
-
--- the file that a word names, if it names one: `-` is standard input
-abbrev pub file_of : Option Text → Option Text
-file_of None = None
-file_of (Some word) = if bytes_eq word (codes "-") then None else Some word
-
--- the value that an option has among the matches, by clap's reading of words: the words give it, or it is its own
-abbrev pub value_of : List Row → Text → Text
-value_of rows id = unwrap_or (first_of id rows) []
-
 -- the options that matches ask for, and those that words ask for
 abbrev pub asked_from : List Row → AskedOptions
 asked_from rows = record {
@@ -208,8 +180,5 @@ abbrev pub AskFor : AskedOptions → List Text → Type 0
 AskFor asked words = (app : App) → IsCommandLine app → Asks asked words app
 
 -- the words are refused as this
-abbrev pub Refuses : ErrorKind → List Text → App → Type 0
-Refuses kind words app = fault_of app words ≡ kind ∷ []
-
 abbrev pub AreRefusedAs : ErrorKind → List Text → Type 0
 AreRefusedAs kind words = (app : App) → IsCommandLine app → Refuses kind words app

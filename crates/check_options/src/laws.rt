@@ -2,7 +2,7 @@
 //! for, or are refused as. What clap's rules say of a line is computed.
 ghost use Rattle.std.specs.Prelude.{[], ◌∷◌, codes, true, false, Some, None};
 ghost use Rattle.clap.specs.declared.error.ErrorKind.TheVariants.{ArgumentConflict, DisplayHelp, DisplayVersion, InvalidValue, MissingRequiredArgument, TooManyValues, UnknownArgument};
-ghost use Rattle.check_sides.specs.declared.links.Links.TheVariants.{Both, Masters, Ports, Each};
+ghost use Rattle.check_watch.specs.declared.links.Links.TheVariants.{Both, Masters, Ports, Each};
 ghost use Rattle.check_flight.specs.declared.order.Order.TheVariants.{Accept, Reply, Any};
 ghost use Rattle.check_options.specs.Options.{AskFor, AreRefusedAs, plain};
 

@@ -1,13 +1,18 @@
 //! The command line: `tlcheck [--links both|masters|ports|each] [--order accept|reply|any] [--trace] [--complete] [--quiet] [--coverage FILE] SYSTEM [CAPTURE]`.
-ghost use Rattle.std.specs.Prelude.{◌≡◌, IfOk, [], map, false, option_map, unwrap_or};
-ghost use Rattle.clap.specs.Words.{app_of, first_value, found_of, rule_of};
-ghost use Rattle.check_options.specs.Options.{AnswersCommandLine, IsCommandLine, IsLinksRule, IsOrderRule, capture_rule, coverage_rule, file_of, flag_of, flag_rule, links_of, order_of, program, system_rule, valued_rule, with_files, with_flags};
+ghost use Rattle.std.specs.Prelude.{◌≡◌, IfOk, map, false};
+ghost use Rattle.clap.specs.Words.{app_of, rule_of};
+ghost use Rattle.check_options.specs.Options.{AnswersCommandLine, IsCommandLine, IsLinksRule, IsOrderRule, capture_rule, coverage_rule, links_of, order_of, with_files, with_flags};
 
 use check_flight::Order;
 use check_sides::Links;
 use clap::builder::ValueParser;
-use clap::{Arg, ArgAction, ArgMatches, Command, Error, value_parser};
+use clap::{Arg, Command, Error};
 use std::alloc::{AllocError, Global};
+use std::convert::AsStr;
+use tl_cli::{flag, program, read_file, read_flag, system_word, value, valued};
+
+/// What help says first.
+const ABOUT: &str = "Judges whether a captured trace of a TileLink crossbar is lawful";
 
 /// What help says at its end.
 const AFTER_HELP: &str = "\
@@ -51,12 +56,12 @@ pub struct CheckOptions<'a> {
 ///
 /// Errors: help or the version that was asked for, an unknown option, a value that an option does not have or lacks, an
 /// option that is given twice, no SYSTEM, or a stray word; each is clap's own text.
-pub fn read_check_options<'a>(
+pub fn read_check_options<'a, S: AsStr>(
     alloc: Global,
-    words: &'a [&'a str],
+    words: &'a [S],
 ) -> Result<CheckOptions<'a>, Error>
     // The words are taken or refused as the command line says; the options are those that they ask for.
-    ensures answer { AnswersCommandLine (map (λ word. word.now) words.now) result }
+    ensures answer { AnswersCommandLine (map S.text words.now) result }
 {
     let matches = command(alloc)?.try_get_matches_from(words)?;
     Ok(CheckOptions {
@@ -69,13 +74,6 @@ pub fn read_check_options<'a>(
         system: value(&matches, "system"),
         capture: read_file(matches.get_str("capture")),
     })
-}
-
-/// The value of an option or a word: each that is read by this has a default, or must be given.
-fn value<'a>(matches: &ArgMatches<'a>, id: &str) -> &'a str
-    ensures { result.now ≡ unwrap_or (first_value (found_of matches.now) id.now) [] }
-{
-    matches.get_str(id).unwrap_or("")
 }
 
 /// The links that a word of `--links` names.
@@ -99,45 +97,6 @@ fn read_order(word: &str) -> Order
         "any" => Order::Any,
         _ => Order::Accept,
     }
-}
-
-/// Whether a flag is set, by its value.
-fn read_flag(word: &str) -> bool
-    ensures { result ≡ flag_of word.now }
-{
-    word == "true"
-}
-
-/// The file that a word names, if it names one.
-fn read_file<'a>(word: Option<&'a str>) -> Option<&'a str>
-    ensures { option_map (λ name. name.now) result
-        ≡ file_of (option_map (λ name. name.now) word.entry) }
-{
-    match word {
-        Some("-") => None,
-        name => name,
-    }
-}
-
-/// The program, with what its help says.
-fn program<'a>(alloc: Global) -> Command<'a>
-    ensures { app_of result ≡ program }
-{
-    Command::new(alloc, "tlcheck")
-        .version("0.1.0")
-        .about("Judges whether a captured trace of a TileLink crossbar is lawful")
-        .after_help(AFTER_HELP)
-}
-
-/// An option or a word that has one value: what is the same of each.
-fn valued<'a>(alloc: Global, id: &'a str, value: &'a str, help: &'a str) -> Arg<'a>
-    ensures rule { rule_of result ≡ valued_rule id.now }
-    ensures local { result.global ≡ false }
-{
-    Arg::new(alloc, id)
-        .action(ArgAction::Set)
-        .value_name(value)
-        .help(help)
 }
 
 /// `--links`.
@@ -169,18 +128,6 @@ fn order_option<'a>(alloc: Global) -> Arg<'a>
     .default_value("accept")
 }
 
-/// A flag, by two dashes and its name.
-fn flag<'a>(alloc: Global, name: &'a str, help: &'a str) -> Arg<'a>
-    ensures rule { rule_of result ≡ flag_rule name.now }
-    ensures local { result.global ≡ false }
-{
-    Arg::new(alloc, name)
-        .long(name)
-        .action(ArgAction::SetTrue)
-        .value_parser(value_parser!(bool))
-        .help(help)
-}
-
 /// `--coverage`.
 fn coverage_option<'a>(alloc: Global) -> Arg<'a>
     ensures rule { rule_of result ≡ coverage_rule }
@@ -188,14 +135,6 @@ fn coverage_option<'a>(alloc: Global) -> Arg<'a>
 {
     let help = "Write what the capture has covered to FILE";
     valued(alloc, "coverage", "FILE", help).long("coverage")
-}
-
-/// SYSTEM.
-fn system_word<'a>(alloc: Global) -> Arg<'a>
-    ensures rule { rule_of result ≡ system_rule }
-    ensures local { result.global ≡ false }
-{
-    valued(alloc, "system", "SYSTEM", "The file with the system").required(true)
 }
 
 /// CAPTURE.
@@ -231,7 +170,7 @@ fn add_files<'a>(alloc: Global, command: Command<'a>) -> Result<Command<'a>, All
 fn command<'a>(alloc: Global) -> Result<Command<'a>, AllocError>
     ensures { IfOk result (λ command. IsCommandLine (app_of command)) }
 {
-    let choices = program(alloc)
+    let choices = program(alloc, "tlcheck", ABOUT, AFTER_HELP)
         .arg(links_option(alloc))?
         .arg(order_option(alloc))?;
     add_files(alloc, add_flags(alloc, choices)?)

@@ -7,14 +7,14 @@ use Rattle.check_flight.specs.declared.answer.Answer.{Answer}
 use Rattle.check_flight.specs.Flight.{Turn}
 use Rattle.check_flight.specs.Flight.Turn.{Idle, Asking, Asked}
 use Rattle.check_watch.specs.Past.{State}
-use Rattle.check_watch.specs.Plan.{GroupPlan, LinkSide, side_of, link_number}
+use Rattle.check_watch.specs.Plan.{Plan, LinkSide, side_of, link_number}
 use Rattle.check_watch_laws.specs.Memories.{port_for}
 use Rattle.check_watch_laws.proofs.Memory.{owed}
 use Rattle.check_watch_laws.proofs.Turns.{link_on}
 use Rattle.check_order_laws.proofs.Openings.{open_if, open_in, replies_to}
 
 -- it is in flight, ended, and of this port
-pub record IsAskedAt (plan : GroupPlan) (s : State) (port wide : ℕ) (side : LinkSide) (turn : Turn) (ask : Request) : Type 0 where
+pub record IsAskedAt (plan : Plan) (s : State) (port wide : ℕ) (side : LinkSide) (turn : Turn) (ask : Request) : Type 0 where
   pub number : ℕ
   pub turn_is : turn ≡ Asked number ask
   pub goes : port_for plan (link_on side number) ask ≡ port
@@ -27,7 +27,7 @@ open_only true true ask other is = cc
 open_only true false ask other is = let same : ask ≡ other = cc in (refl, refl, same)
 open_only false replying ask other is = cc
 
-pub asked_if_open : (plan : GroupPlan) (s : State) (port wide : ℕ) (side : LinkSide) (turn : Turn) (ask : Request)
+pub asked_if_open : (plan : Plan) (s : State) (port wide : ℕ) (side : LinkSide) (turn : Turn) (ask : Request)
     → open_in plan s port wide side turn ≡ Some ask → IsAskedAt plan s port wide side turn ask
 asked_if_open plan s port wide side Idle ask is = cc
 asked_if_open plan s port wide side (Asking n) ask is = cc
@@ -44,7 +44,7 @@ asked_if_open plan s port wide side (Asked n first) ask is =
     }
 
 -- if its reply is known to have to fit something, that is owed
-pub one_owed : (plan : GroupPlan) (port wide : ℕ) (side : LinkSide) (number : ℕ) (ask : Request) (due : Option Answer)
+pub one_owed : (plan : Plan) (port wide : ℕ) (side : LinkSide) (number : ℕ) (ask : Request) (due : Option Answer)
     → (port_for plan (link_on side number) ask == port) ≡ true → (answer : Answer) × (due ≡ Some answer)
     → length (owed plan port wide side (Asked number ask) due) ≡ 1
 one_owed plan port wide side number ask due here has =

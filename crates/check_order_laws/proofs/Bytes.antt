@@ -15,7 +15,7 @@ use Rattle.check_contests.specs.Moments.{AreBytes}
 use Rattle.check_watch.specs.declared.beat.Beat.{Beat}
 use Rattle.check_watch.specs.declared.beat.Beat.TheVariants.{A, D}
 use Rattle.check_watch.specs.declared.beat.Link.{Link}
-use Rattle.check_watch.specs.Plan.{GroupLayout, Sighting, side_of, link_number, is_link, bus_in_group}
+use Rattle.check_watch.specs.Plan.{Layout, Sighting, side_of, link_number, is_link, bus_of}
 use Rattle.check_watch_laws.specs.Crossed.{asks_over, more_asks, asking_at}
 use Rattle.check_order_laws.specs.Looser.{HaveByteLanes}
 
@@ -80,7 +80,7 @@ small_asking bus (beat ∷ beats) all = go (small_asking bus beats all.1) (ends_
     go before false = bytes_append (asked_bytes (asking bus beats)) (ask_part bus beat.head beat.lanes)
         before (small_part bus beat.head beat.lanes all.0)
 
-pub small_over : (layout : GroupLayout) (link : Link) (past : List Sighting) → HaveByteLanes past
+pub small_over : (layout : Layout) (link : Link) (past : List Sighting) → HaveByteLanes past
     → AllByRecursion (λ (beat : AskBeat). AreSmall beat.lanes) (asks_over layout link past)
 small_over layout link [] bytes = tt
 small_over layout link (x ∷ past) bytes =
@@ -88,23 +88,23 @@ small_over layout link (x ∷ past) bytes =
   where
     by_beat : AllByRecursion (λ (b : AskBeat). AreSmall b.lanes) (asks_over layout link past) → (beat : Beat)
         → AllByRecursion (λ (b : AskBeat). AreSmall b.lanes)
-        (more_asks (bus_in_group layout link) x beat (asks_over layout link past))
-    by_beat before (A beat) = (small_take (bus_in_group layout link) x.lanes (small_lanes x.lanes bytes.0), before)
+        (more_asks (bus_of layout link) x beat (asks_over layout link past))
+    by_beat before (A beat) = (small_take (bus_of layout link) x.lanes (small_lanes x.lanes bytes.0), before)
     by_beat before (D beat) = before
 
     go : AllByRecursion (λ (b : AskBeat). AreSmall b.lanes) (asks_over layout link past) → (here : Bool)
         → AllByRecursion (λ (b : AskBeat). AreSmall b.lanes)
-        (if here then more_asks (bus_in_group layout link) x x.beat (asks_over layout link past) else asks_over layout link past)
+        (if here then more_asks (bus_of layout link) x x.beat (asks_over layout link past) else asks_over layout link past)
     go before true = by_beat before x.beat
     go before false = before
 
 -- what a beat ends has bytes
-pub small_ended : (layout : GroupLayout) (past : List Sighting) (x : Sighting) (beat : AskHead) → HaveByteLanes (x ∷ past)
+pub small_ended : (layout : Layout) (past : List Sighting) (x : Sighting) (beat : AskHead) → HaveByteLanes (x ∷ past)
     → AreBytes (asked_bytes (asking_at layout x.link past)
-    ++ ask_part (bus_in_group layout x.link) beat (take (bus_in_group layout x.link) x.lanes))
+    ++ ask_part (bus_of layout x.link) beat (take (bus_of layout x.link) x.lanes))
 small_ended layout past x beat bytes =
     bytes_append (asked_bytes (asking_at layout x.link past))
-    (ask_part (bus_in_group layout x.link) beat (take (bus_in_group layout x.link) x.lanes))
-    (small_asking (bus_in_group layout x.link) (asks_over layout x.link past) (small_over layout x.link past bytes.1))
-    (small_part (bus_in_group layout x.link) beat (take (bus_in_group layout x.link) x.lanes)
-    (small_take (bus_in_group layout x.link) x.lanes (small_lanes x.lanes bytes.0)))
+    (ask_part (bus_of layout x.link) beat (take (bus_of layout x.link) x.lanes))
+    (small_asking (bus_of layout x.link) (asks_over layout x.link past) (small_over layout x.link past bytes.1))
+    (small_part (bus_of layout x.link) beat (take (bus_of layout x.link) x.lanes)
+    (small_take (bus_of layout x.link) x.lanes (small_lanes x.lanes bytes.0)))

@@ -8,7 +8,7 @@ use Rattle.check_memory.specs.Laws.{IsLawfulAsk}
 use Rattle.check_watch.specs.declared.beat.Beat.{Beat}
 use Rattle.check_watch.specs.declared.beat.Beat.TheVariants.{A, D}
 use Rattle.check_watch.specs.Lawful.{IsLawfulGroup}
-use Rattle.check_watch.specs.Plan.{GroupPlan, Sighting, wide_of, bus_in_group}
+use Rattle.check_watch.specs.Plan.{Plan, Sighting, wide_of, bus_of}
 use Rattle.check_watch_laws.specs.Crossed.{AskSeen, AreWatched, ask_beat, ask_ended, asking_at, asks_over, more_asks}
 use Rattle.check_watch_laws.specs.Memories.{is_for, ask_answered}
 use Rattle.check_watch_laws.specs.Moments.{RequestMoment, moment_of, moments, moments_with}
@@ -32,7 +32,7 @@ carried_more (moment ∷ before) later all more = (all.0, carried_more before la
 abbrev AreCarriedAsks : List AskSeen → Type 0
 AreCarriedAsks seen = AllByRecursion (λ (one : AskSeen). IsCarriedAsk one.ask) seen
 
-accepted_so : (plan : GroupPlan) (port wide : ℕ) (seen : List AskSeen) → AreCarriedAsks seen
+accepted_so : (plan : Plan) (port wide : ℕ) (seen : List AskSeen) → AreCarriedAsks seen
     → AreCarried (map (moment_of Accepts wide) (filter (is_for plan port) seen))
 accepted_so plan port wide [] all = tt
 accepted_so plan port wide (one ∷ seen) all = go (accepted_so plan port wide seen all.1) (is_for plan port one)
@@ -49,7 +49,7 @@ answered_so wide (one ∷ seen) = (tt, answered_so wide seen)
 
 -- ---- the request that a beat ends
 
-ended_so : (plan : GroupPlan) (past : List Sighting) (x : Sighting) (beat : Beat)
+ended_so : (plan : Plan) (past : List Sighting) (x : Sighting) (beat : Beat)
     → AreWatched plan.layout (record x { beat = beat } ∷ past) → IsLawfulGroup plan (record x { beat = beat } ∷ past)
     → HaveByteLanes (record x { beat = beat } ∷ past)
     → AreCarriedAsks (ask_ended plan.layout past (record x { beat = beat }) beat)
@@ -60,7 +60,7 @@ ended_so plan past x (A beat) watched lawful bytes = go (ends_ask bus before bea
     now = record x { beat = A beat }
 
     bus : ℕ
-    bus = bus_in_group plan.layout x.link
+    bus = bus_of plan.layout x.link
 
     before : Option AskBegun
     before = asking_at plan.layout x.link past
@@ -88,7 +88,7 @@ ended_so plan past x (A beat) watched lawful bytes = go (ends_ask bus before bea
 
 -- ---- all beats
 
-pub are_carried : (plan : GroupPlan) (past : List Sighting) → AreWatched plan.layout past → IsLawfulGroup plan past
+pub are_carried : (plan : Plan) (past : List Sighting) → AreWatched plan.layout past → IsLawfulGroup plan past
     → HaveByteLanes past → (port : ℕ) → AreCarried (moments plan port past)
 are_carried plan [] watched lawful bytes port = tt
 are_carried plan (x ∷ past) watched lawful bytes port =

@@ -14,7 +14,7 @@ use Rattle.check_watch.specs.declared.beat.Beat.TheVariants.{A, D}
 use Rattle.check_watch.specs.declared.beat.Link.{Link}
 use Rattle.check_watch.specs.Lawful.{IsLawfulGroup}
 use Rattle.check_watch.specs.Past.{State, scene_found, scene_of, state, state_after}
-use Rattle.check_watch.specs.Plan.{GroupPlan, Sighting, LinkSide, side_of, link_number, wide_of, same_side, is_of, HasGroupLink, IsGroupLink}
+use Rattle.check_watch.specs.Plan.{Plan, Sighting, LinkSide, side_of, link_number, wide_of, same_side, is_of, HasLink, IsGroupLink}
 use Rattle.check_watch.specs.Scene.{ask_by, ask_if, turn_by, takes_effect, answered, flight_after}
 use Rattle.check_watch.proofs.InFlight.{ask_at, reply_at, of_is}
 use Rattle.check_watch_laws.specs.Crossed.{AreWatched}
@@ -23,27 +23,27 @@ use Rattle.check_watch_laws.proofs.Done.{are_replayed, ended_goes, orders, port_
 use Rattle.check_watch_laws.proofs.Taking.{takes}
 use Rattle.check_watch_laws.proofs.Turns.{link_on, own_link, same_side-refl}
 
-abbrev pub IsDueSoon : GroupPlan → LinkSide → Turn → Option Answer → Type 0
+abbrev pub IsDueSoon : Plan → LinkSide → Turn → Option Answer → Type 0
 IsDueSoon plan side Idle due = Unit {0}
 IsDueSoon plan side (Asking n) due = Unit {0}
 IsDueSoon plan side (Asked n ask) due =
     side ≡ side_for plan.layout (port_for plan (link_on side n) ask)
     → order_at plan (port_for plan (link_on side n) ask) ≡ Accept → (answer : Answer) × (due ≡ Some answer)
 
-abbrev pub AreDueSoon : GroupPlan → State → Type 0
+abbrev pub AreDueSoon : Plan → State → Type 0
 AreDueSoon plan s =
     (side : LinkSide) (wide : ℕ) → IsDueSoon plan side (s.flights side wide).turn (s.flights side wide).due
 
-stays : (plan : GroupPlan) (side : LinkSide) (turn : Turn) (due late : Option Answer) → IsDueSoon plan side turn due
+stays : (plan : Plan) (side : LinkSide) (turn : Turn) (due late : Option Answer) → IsDueSoon plan side turn due
     → IsDueSoon plan side turn (due_by due late)
 stays plan side Idle due late was = tt
 stays plan side (Asking n) due late was = tt
 stays plan side (Asked n ask) due None was = was
 stays plan side (Asked n ask) due (Some answer) was = λ here accept. (answer, refl)
 
-module _ (plan : GroupPlan) (s : State) (same_order : (port : ℕ) → order_at plan port ≡ (s.slaves port).order)
+module _ (plan : Plan) (s : State) (same_order : (port : ℕ) → order_at plan port ≡ (s.slaves port).order)
     (dues : AreDueSoon plan s) (link : Link) (known : ℕ) (lanes : List ℕ)
-    (has : HasGroupLink plan.layout link) (watched : IsGroupLink plan.layout.links link) where
+    (has : HasLink plan.layout link) (watched : IsGroupLink plan.layout.links link) where
   pub ask_due_soon : (beat : AskHead) → AreDueSoon plan (state_after plan s (ask_at link known lanes beat))
   ask_due_soon beat side wide = go (is_of plan (ask_at link known lanes beat) side wide) refl
     where
@@ -123,7 +123,7 @@ module _ (plan : GroupPlan) (s : State) (same_order : (port : ℕ) → order_at 
           (of_is plan (reply_at link known lanes beat) side wide is).0
           (by_end (ends_reply under.bus under.replying beat))
 
-pub are_due_soon : (plan : GroupPlan) (past : List Sighting) → AreWatched plan.layout past → IsLawfulGroup plan past
+pub are_due_soon : (plan : Plan) (past : List Sighting) → AreWatched plan.layout past → IsLawfulGroup plan past
     → AreDueSoon plan (state plan past)
 are_due_soon plan [] watched lawful = λ side wide. tt
 are_due_soon plan (x ∷ past) watched lawful = go (are_due_soon plan past watched.1 lawful.0) x.beat

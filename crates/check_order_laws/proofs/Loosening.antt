@@ -12,7 +12,7 @@ use Rattle.check_watch.specs.declared.beat.Beat.{Beat}
 use Rattle.check_watch.specs.declared.beat.Beat.TheVariants.{A, D}
 use Rattle.check_watch.specs.Allowed.{HasKnownLanes}
 use Rattle.check_watch.specs.Lawful.{IsLawfulGroup}
-use Rattle.check_watch.specs.Plan.{GroupPlan, IsGroupPlan, GroupLayout, Sighting, bus_in_group}
+use Rattle.check_watch.specs.Plan.{Plan, IsPlan, Layout, Sighting, bus_of}
 use Rattle.check_watch.proofs.Earlier.{earlier_is_lawful}
 use Rattle.check_watch_laws.specs.Crossed.{AreWatched}
 use Rattle.check_watch_laws.specs.Memories.{order_at, port_for, reset_of}
@@ -32,7 +32,7 @@ use Rattle.check_order_laws.proofs.Whenever.{accept_done, reply_done}
 
 -- ---- what is seen
 
-pub earlier_watched : (layout : GroupLayout) (later earlier : List Sighting) → AreWatched layout (later ++ earlier)
+pub earlier_watched : (layout : Layout) (later earlier : List Sighting) → AreWatched layout (later ++ earlier)
     → AreWatched layout earlier
 earlier_watched layout [] earlier are = are
 earlier_watched layout (x ∷ later) earlier are = earlier_watched layout later earlier are.1
@@ -45,11 +45,11 @@ pub same_lanes : (loose strict : PortSlave) → IsSameOrAny loose strict → may
 same_lanes loose strict (inl is) = ap (λ (s : PortSlave). may_be_unknown s) is
 same_lanes loose strict (inr is) = ap (λ (s : PortSlave). may_be_unknown s) is
 
-module _ (plan : GroupPlan) (before after : List PortSlave) where
-  abbrev one : GroupPlan
+module _ (plan : Plan) (before after : List PortSlave) where
+  abbrev one : Plan
   one = record plan { resets = before }
 
-  abbrev other : GroupPlan
+  abbrev other : Plan
   other = record plan { resets = after }
 
   pub same_seen : ((port : ℕ) → may_be_unknown (reset_of one port) ≡ may_be_unknown (reset_of other port))
@@ -61,7 +61,7 @@ module _ (plan : GroupPlan) (before after : List PortSlave) where
           → IsSeenWhole other past (record x { beat = beat }) beat
       go (A beat) was = was
       go (D beat) was = λ ask next.
-          subst (λ b. HasKnownLanes (bus_in_group plan.layout x.link) b ask beat x.known) (lanes (port_for plan x.link ask))
+          subst (λ b. HasKnownLanes (bus_of plan.layout x.link) b ask beat x.known) (lanes (port_for plan x.link ask))
           (was ask next)
 
   -- what is due at a port whose slave is the same
@@ -87,7 +87,7 @@ module _ (plan : GroupPlan) (before after : List PortSlave) where
   }
 
   -- the rules, by what is due at each port
-  pub rules_by_dues : (past : List Sighting) → IsGroupPlan one → AreWatched plan.layout past → IsLawfulGroup one past
+  pub rules_by_dues : (past : List Sighting) → IsPlan one → AreWatched plan.layout past → IsLawfulGroup one past
       → ((port : ℕ) → (history : List (Request × Pattern)) × IsDueAt other past port history)
       → KeepsRules other past
   rules_by_dues past is watched lawful dues = record {
@@ -133,7 +133,7 @@ module _ (plan : GroupPlan) (before after : List PortSlave) where
     looser_due past watched bytes lawful port (inl is) = same_due past port is (due_at one past watched lawful port)
     looser_due past watched bytes lawful port (inr is) = any_due past watched bytes lawful port is
 
-    pub loosened : (past : List Sighting) → IsGroupPlan one → AreWatched plan.layout past → HaveByteLanes past
+    pub loosened : (past : List Sighting) → IsPlan one → AreWatched plan.layout past → HaveByteLanes past
         → IsLawfulGroup one past → IsLawfulGroup other past
     loosened past is watched bytes lawful =
         rules_make_lawful other past (same_plan plan before after is) watched
@@ -147,7 +147,7 @@ module _ (plan : GroupPlan) (before after : List PortSlave) where
         rules_by_dues earlier is watched' lawful' (λ port.
         looser_due earlier watched' bytes' lawful' port (looser port)))
 
-pub any_is_looser : (loose strict : GroupPlan) (past : List Sighting) → IsLooser loose strict → IsGroupPlan strict → AreFresh strict
+pub any_is_looser : (loose strict : Plan) (past : List Sighting) → IsLooser loose strict → IsPlan strict → AreFresh strict
     → AreSoundSlaves strict → AreWatched strict.layout past → HaveByteLanes past → IsLawfulGroup strict past
     → IsLawfulGroup loose past
 any_is_looser loose strict past looser is fresh sound watched bytes lawful =

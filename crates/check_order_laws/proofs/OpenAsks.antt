@@ -11,7 +11,7 @@ use Rattle.check_watch.specs.declared.beat.Link.{Link}
 use Rattle.check_watch.specs.declared.beat.Link.TheVariants.{Port}
 use Rattle.check_watch.specs.Allowed.{OfAsked, IsAllowedAsk}
 use Rattle.check_watch.specs.Past.{State, scene_found, scene_of, state_after}
-use Rattle.check_watch.specs.Plan.{GroupPlan, Sighting, LinkSide, side_of, link_number, wide_of, is_link, is_of, HasGroupLink, IsGroupLink}
+use Rattle.check_watch.specs.Plan.{Plan, Sighting, LinkSide, side_of, link_number, wide_of, is_link, is_of, HasLink, IsGroupLink}
 use Rattle.check_watch.specs.Scene.{ask_by, ask_if, turn_by, takes_effect, flight_after, under_after}
 use Rattle.check_watch.proofs.InFlight.{ask_at, of_is}
 use Rattle.check_watch_laws.specs.Memories.{side_for, port_for}
@@ -26,9 +26,9 @@ use Rattle.check_watch_laws.proofs.UnderWay.{RepliesAnswer}
 use Rattle.check_order_laws.proofs.InTurn.{open_after, open_more, none_open, open_here, AreInTurn}
 use Rattle.check_order_laws.proofs.Openings.{unseen_by, AreOpen, open_if, open_ask, open_in, replies_to, asked_only, seen_there, side_there, taken_there, other_open}
 
-module _ (plan : GroupPlan) (s : State) (past : List Sighting) (linked : LinksAre plan s past) (busy : AsksFly plan s)
+module _ (plan : Plan) (s : State) (past : List Sighting) (linked : LinksAre plan s past) (busy : AsksFly plan s)
     (replies : RepliesAnswer plan s) (opens : AreOpen plan s past) (link : Link) (known : ℕ) (lanes : List ℕ)
-    (has : HasGroupLink plan.layout link) (watched : IsGroupLink plan.layout.links link) (beat : AskHead)
+    (has : HasLink plan.layout link) (watched : IsGroupLink plan.layout.links link) (beat : AskHead)
     (allowed : IsAllowedAsk plan.layout link (scene_of plan s link (A beat)) beat known lanes) where
   abbrev own : ℕ
   own = wide_of plan link beat.source

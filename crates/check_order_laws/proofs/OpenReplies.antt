@@ -12,7 +12,7 @@ use Rattle.check_watch.specs.declared.beat.Link.{Link}
 use Rattle.check_watch.specs.declared.beat.Link.TheVariants.{Port}
 use Rattle.check_watch.specs.Allowed.{IsAllowedReply}
 use Rattle.check_watch.specs.Past.{State, scene_found, scene_of, state_after}
-use Rattle.check_watch.specs.Plan.{GroupPlan, Sighting, LinkSide, side_of, link_number, wide_of, same_side, is_link, is_of, HasGroupLink, IsGroupLink}
+use Rattle.check_watch.specs.Plan.{Plan, Sighting, LinkSide, side_of, link_number, wide_of, same_side, is_link, is_of, HasLink, IsGroupLink}
 use Rattle.check_watch.specs.Scene.{ask_if, takes_effect, begins_reply, flight_after, under_after}
 use Rattle.check_watch.proofs.InFlight.{reply_at, of_is}
 use Rattle.check_watch_laws.specs.Memories.{side_for, port_for}
@@ -29,9 +29,9 @@ use Rattle.check_watch_laws.proofs.UnderWay.{first_source}
 use Rattle.check_order_laws.proofs.InTurn.{open_after, open_more, none_open, open_here, AreInTurn}
 use Rattle.check_order_laws.proofs.Openings.{unseen_late, AreOpen, open_if, open_ask, open_in, not_open, replies_to, side_there, taken_there, other_open}
 
-module _ (plan : GroupPlan) (s : State) (past : List Sighting) (linked : LinksAre plan s past) (steps : AreInStep plan s past)
+module _ (plan : Plan) (s : State) (past : List Sighting) (linked : LinksAre plan s past) (steps : AreInStep plan s past)
     (opens : AreOpen plan s past) (link : Link) (known : ℕ) (lanes : List ℕ)
-    (has : HasGroupLink plan.layout link) (watched : IsGroupLink plan.layout.links link) (beat : ReplyHead)
+    (has : HasLink plan.layout link) (watched : IsGroupLink plan.layout.links link) (beat : ReplyHead)
     (allowed : IsAllowedReply plan.layout link (scene_of plan s link (D beat)) beat known lanes) where
   abbrev own : ℕ
   own = wide_of plan link beat.source

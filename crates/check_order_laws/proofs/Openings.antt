@@ -11,7 +11,7 @@ use Rattle.check_watch.specs.declared.beat.Link.{Link}
 use Rattle.check_watch.specs.declared.beat.Link.TheVariants.{Port}
 use Rattle.check_watch.specs.Allowed.{OfAsked}
 use Rattle.check_watch.specs.Past.{State}
-use Rattle.check_watch.specs.Plan.{GroupPlan, Sighting, LinkSide, side_of, link_number, wide_of, same_side, HasGroupLink, IsGroupLink}
+use Rattle.check_watch.specs.Plan.{Plan, Sighting, LinkSide, side_of, link_number, wide_of, same_side, HasLink, IsGroupLink}
 use Rattle.check_watch.specs.Scene.{ask_if, takes_effect}
 use Rattle.check_watch_laws.specs.Memories.{side_for, port_for}
 use Rattle.check_watch_laws.specs.Moments.{Act, moments}
@@ -22,24 +22,24 @@ use Rattle.check_order_laws.proofs.InTurn.{open_after, none_open, open_there}
 -- ---- what is open
 
 -- the reply that is under way at a link is one of this wide source
-abbrev pub replies_to : GroupPlan → Link → ℕ → Option ReplyBegun → Bool
+abbrev pub replies_to : Plan → Link → ℕ → Option ReplyBegun → Bool
 replies_to plan link wide None = false
 replies_to plan link wide (Some begun) = wide_of plan link begun.first.source == wide
 
 abbrev pub open_if : Bool → Bool → Request → Option Request
 open_if here replying ask = if here then (if replying then None else Some ask) else None
 
-abbrev pub open_ask : GroupPlan → State → ℕ → ℕ → Link → Request → Option Request
+abbrev pub open_ask : Plan → State → ℕ → ℕ → Link → Request → Option Request
 open_ask plan s port wide link ask =
     open_if (port_for plan link ask == port)
     (replies_to plan link wide (s.links (side_of link) (link_number link)).replying) ask
 
-abbrev pub open_in : GroupPlan → State → ℕ → ℕ → LinkSide → Turn → Option Request
+abbrev pub open_in : Plan → State → ℕ → ℕ → LinkSide → Turn → Option Request
 open_in plan s port wide side Idle = None
 open_in plan s port wide side (Asking n) = None
 open_in plan s port wide side (Asked n ask) = open_ask plan s port wide (link_on side n) ask
 
-abbrev pub AreOpen : GroupPlan → State → List Sighting → Type 0
+abbrev pub AreOpen : Plan → State → List Sighting → Type 0
 AreOpen plan s past =
     (port wide : ℕ) → open_after none_open (moments plan port past) wide
     ≡ open_in plan s port wide (side_for plan.layout port) (s.flights (side_for plan.layout port) wide).turn
@@ -68,7 +68,7 @@ both_so false b left right = cc
 
 -- ---- a beat of a link
 
-module _ (plan : GroupPlan) (link : Link) (has : HasGroupLink plan.layout link) (watched : IsGroupLink plan.layout.links link)
+module _ (plan : Plan) (link : Link) (has : HasLink plan.layout link) (watched : IsGroupLink plan.layout.links link)
     (found own : ℕ) (done : Option Request)
     (at_port : (p : ℕ) → link ≡ Port p → found ≡ p)
     (unseen : takes_effect plan.layout link found ≡ false → done ≡ None) where

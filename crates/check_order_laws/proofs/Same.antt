@@ -2,17 +2,17 @@
 use Rattle.std.proofs.Common.{◌≡◌, ℕ, List, refl}
 use Rattle.check_flight.specs.PortSlave.{PortSlave}
 use Rattle.check_watch.specs.declared.beat.Link.{Link}
-use Rattle.check_watch.specs.Plan.{GroupPlan, IsGroupPlan, Sighting, LinkSide}
+use Rattle.check_watch.specs.Plan.{Plan, IsPlan, Sighting, LinkSide}
 use Rattle.check_watch_laws.specs.Crossings.{MessagesCross}
 use Rattle.check_watch_laws.specs.Memories.{exchanges_at}
 use Rattle.check_watch_laws.specs.Messages.{AreMessages, AsksAt, RepliesAt, TakeTurns}
 use Rattle.check_watch_laws.specs.Moments.{moments}
 
-module _ (plan : GroupPlan) (before after : List PortSlave) where
-  abbrev one : GroupPlan
+module _ (plan : Plan) (before after : List PortSlave) where
+  abbrev one : Plan
   one = record plan { resets = before }
 
-  abbrev other : GroupPlan
+  abbrev other : Plan
   other = record plan { resets = after }
 
   pub same_moments : (port : ℕ) (past : List Sighting) → moments one port past ≡ moments other port past
@@ -22,7 +22,7 @@ module _ (plan : GroupPlan) (before after : List PortSlave) where
       → exchanges_at one port wide past ≡ exchanges_at other port wide past
   same_exchanges port wide past = refl
 
-  pub same_plan : IsGroupPlan one → IsGroupPlan other
+  pub same_plan : IsPlan one → IsPlan other
   same_plan is = record { owners = is.owners; wide = is.wide; route = is.route }
 
   asks_at : (past : List Sighting) (wide : ℕ) (link : Link) → AsksAt other past wide link → AsksAt one past wide link

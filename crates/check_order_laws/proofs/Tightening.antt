@@ -16,7 +16,7 @@ use Rattle.check_flight.specs.Order.{is_due_at_reply}
 use Rattle.check_flight.specs.PortSlave.{PortSlave}
 use Rattle.check_watch.specs.Lawful.{IsLawfulGroup}
 use Rattle.check_watch.specs.Past.{state}
-use Rattle.check_watch.specs.Plan.{GroupPlan, IsGroupPlan, Sighting, LinkSide, side_of, link_number}
+use Rattle.check_watch.specs.Plan.{Plan, IsPlan, Sighting, LinkSide, side_of, link_number}
 use Rattle.check_watch.proofs.Earlier.{earlier_is_lawful}
 use Rattle.check_watch_laws.specs.Crossed.{AreWatched}
 use Rattle.check_watch_laws.specs.Memories.{AreEntries, entries_of, exchanges_at, order_at, port_for, reset_of, side_for}
@@ -44,7 +44,7 @@ use Rattle.check_order_laws.proofs.Uncontested.{KeepsBut, beside_all, nothing_lo
 -- ---- a request that is open at a port of which nobody knows the order
 
 -- nothing is owed of it: what its reply has to fit is known as it is answered, and not before
-module _ (plan : GroupPlan) (past : List Sighting) (watched : AreWatched plan.layout past) (lawful : IsLawfulGroup plan past)
+module _ (plan : Plan) (past : List Sighting) (watched : AreWatched plan.layout past) (lawful : IsLawfulGroup plan past)
     (port : ℕ) (any : order_at plan port ≡ Any) (wide : ℕ) where
   abbrev side : LinkSide
   side = side_for plan.layout port
@@ -101,7 +101,7 @@ module _ (plan : GroupPlan) (past : List Sighting) (watched : AreWatched plan.la
 
 -- ---- moments up to an earlier one
 
-more_moments : (plan : GroupPlan) (port : ℕ) (later earlier : List Sighting)
+more_moments : (plan : Plan) (port : ℕ) (later earlier : List Sighting)
     → (more : List RequestMoment) × (moments plan port earlier ++ more ≡ moments plan port (later ++ earlier))
 more_moments plan port [] earlier = ([], append-nil (moments plan port earlier))
 more_moments plan port (x ∷ later) earlier =
@@ -111,7 +111,7 @@ more_moments plan port (x ∷ later) earlier =
       sym (append_assoc (moments plan port earlier) before.0 now) ∙ ap (λ l. l ++ now) before.1,
     )
 
-earlier_uncontested : (plan : GroupPlan) (port : ℕ) (later earlier : List Sighting)
+earlier_uncontested : (plan : Plan) (port : ℕ) (later earlier : List Sighting)
     → NothingIsContested plan port (later ++ earlier) → NothingIsContested plan port earlier
 earlier_uncontested plan port later earlier none before rest is =
     let more = more_moments plan port later earlier in
@@ -120,11 +120,11 @@ earlier_uncontested plan port later earlier none before rest is =
 
 -- ---- the way back
 
-module _ (plan : GroupPlan) (before after : List PortSlave) where
-  abbrev loose : GroupPlan
+module _ (plan : Plan) (before after : List PortSlave) where
+  abbrev loose : Plan
   loose = record plan { resets = before }
 
-  abbrev strict : GroupPlan
+  abbrev strict : Plan
   strict = record plan { resets = after }
 
   -- at a port of which nobody knew the order
@@ -198,7 +198,7 @@ module _ (plan : GroupPlan) (before after : List PortSlave) where
             (sym (is ∙ ap (λ o. record (reset_of strict port) { order = o }) (sym order)))
             (due_at loose past watched lawful port)
 
-    pub tightened : (past : List Sighting) → IsGroupPlan loose → AreWatched plan.layout past
+    pub tightened : (past : List Sighting) → IsPlan loose → AreWatched plan.layout past
         → ((port : ℕ) → order_at loose port ≢ order_at strict port → NothingIsContested strict port past)
         → IsLawfulGroup loose past → IsLawfulGroup strict past
     tightened past is watched none lawful =
@@ -215,7 +215,7 @@ module _ (plan : GroupPlan) (before after : List PortSlave) where
         rules_by_dues plan before after earlier is watched' lawful' (λ port.
         tight_due earlier watched' lawful' none' port (looser port)))
 
-pub uncontested_is_tight : (loose strict : GroupPlan) (past : List Sighting) → IsLooser loose strict → IsGroupPlan strict
+pub uncontested_is_tight : (loose strict : Plan) (past : List Sighting) → IsLooser loose strict → IsPlan strict
     → AreFresh strict → AreWatched strict.layout past → DifferByAccept loose strict past
     → IsLawfulGroup loose past → IsLawfulGroup strict past
 uncontested_is_tight loose strict past looser is fresh watched differ lawful =
@@ -223,7 +223,7 @@ uncontested_is_tight loose strict past looser is fresh watched differ lawful =
     (same_plan strict strict.resets loose.resets is) watched (λ port other. (differ port other).1)
     (subst (λ p. IsLawfulGroup p past) looser.same lawful)
 
-pub uncontested_is_same : (loose strict : GroupPlan) (past : List Sighting) → IsLooser loose strict → IsGroupPlan strict
+pub uncontested_is_same : (loose strict : Plan) (past : List Sighting) → IsLooser loose strict → IsPlan strict
     → AreFresh strict → AreSoundSlaves strict → AreWatched strict.layout past → HaveByteLanes past
     → DifferByAccept loose strict past → (IsLawfulGroup loose past ↔ IsLawfulGroup strict past)
 uncontested_is_same loose strict past looser is fresh sound watched bytes differ = (

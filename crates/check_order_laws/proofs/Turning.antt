@@ -4,7 +4,7 @@ use Rattle.check_watch.specs.declared.beat.Beat.{Beat}
 use Rattle.check_watch.specs.declared.beat.Beat.TheVariants.{A, D}
 use Rattle.check_watch.specs.Lawful.{IsLawfulGroup, IsAllowed}
 use Rattle.check_watch.specs.Past.{scene_of, state, state_after}
-use Rattle.check_watch.specs.Plan.{GroupPlan, Sighting}
+use Rattle.check_watch.specs.Plan.{Plan, Sighting}
 use Rattle.check_watch_laws.specs.Crossed.{AreWatched}
 use Rattle.check_watch_laws.specs.Moments.{moments, moments_with}
 use Rattle.check_watch_laws.proofs.Flights.{in_step}
@@ -16,7 +16,7 @@ use Rattle.check_order_laws.proofs.Openings.{AreOpen}
 use Rattle.check_order_laws.proofs.OpenAsks.{ask_opens, ask_in_turn}
 use Rattle.check_order_laws.proofs.OpenReplies.{reply_opens, reply_in_turn}
 
-pub are_open : (plan : GroupPlan) (past : List Sighting) → AreWatched plan.layout past → IsLawfulGroup plan past
+pub are_open : (plan : Plan) (past : List Sighting) → AreWatched plan.layout past → IsLawfulGroup plan past
     → AreOpen plan (state plan past) past
 are_open plan [] watched lawful = λ port wide. refl
 are_open plan (x ∷ past) watched lawful = go (are_open plan past watched.1 lawful.0) x.beat lawful.1
@@ -31,7 +31,7 @@ are_open plan (x ∷ past) watched lawful = go (are_open plan past watched.1 law
         reply_opens plan (state plan past) past (links_are plan past) (in_step plan past lawful.0) opens
         x.link x.known x.lanes watched.0.link watched.0.watched beat allowed
 
-pub come_in_turn : (plan : GroupPlan) (past : List Sighting) → AreWatched plan.layout past → IsLawfulGroup plan past → (port : ℕ)
+pub come_in_turn : (plan : Plan) (past : List Sighting) → AreWatched plan.layout past → IsLawfulGroup plan past → (port : ℕ)
     → AreInTurn none_open (moments plan port past)
 come_in_turn plan [] watched lawful port = tt
 come_in_turn plan (x ∷ past) watched lawful port =

@@ -12,7 +12,7 @@ use Rattle.check_flight.specs.declared.order.Order.TheVariants.{Accept, Reply}
 use Rattle.check_flight.specs.Flight.{Flight}
 use Rattle.check_watch.specs.Lawful.{IsLawfulGroup}
 use Rattle.check_watch.specs.Past.{state}
-use Rattle.check_watch.specs.Plan.{GroupPlan, Sighting, LinkSide}
+use Rattle.check_watch.specs.Plan.{Plan, Sighting, LinkSide}
 use Rattle.check_watch_laws.specs.Crossed.{AreWatched}
 use Rattle.check_watch_laws.specs.Memories.{AreEntries, entries_of, exchanges_at, order_at, port_for, reset_of, side_for}
 use Rattle.check_watch_laws.specs.Moments.{moments}
@@ -45,7 +45,7 @@ below_itself Device sound = tt
 
 -- ---- at a port
 
-module _ (plan : GroupPlan) (past : List Sighting) (watched : AreWatched plan.layout past) (lawful : IsLawfulGroup plan past)
+module _ (plan : Plan) (past : List Sighting) (watched : AreWatched plan.layout past) (lawful : IsLawfulGroup plan past)
     (port : ℕ) where
   abbrev side : LinkSide
   side = side_for plan.layout port

@@ -9,7 +9,7 @@ use Rattle.check_memory.specs.declared.slave.Slave.TheVariants.{Memory, Device}
 use Rattle.check_contests.specs.Moments.{AreBytes}
 use Rattle.check_flight.specs.declared.order.Order.TheVariants.{Any}
 use Rattle.check_flight.specs.PortSlave.{PortSlave}
-use Rattle.check_watch.specs.Plan.{GroupPlan, Sighting}
+use Rattle.check_watch.specs.Plan.{Plan, Sighting}
 use Rattle.check_watch_laws.specs.Memories.{reset_of}
 
 -- ---- systems
@@ -19,7 +19,7 @@ abbrev pub IsSameOrAny : PortSlave → PortSlave → Type 0
 IsSameOrAny loose strict = (loose ≡ strict) ⊎ (loose ≡ record strict { order = Any })
 
 -- a plan is another one, but for the orders of some slaves that nobody knows
-pub record IsLooser (loose strict : GroupPlan) : Type 0 where
+pub record IsLooser (loose strict : Plan) : Type 0 where
   pub same : loose ≡ record strict { resets = loose.resets }
   pub slaves : (port : ℕ) → IsSameOrAny (reset_of loose port) (reset_of strict port)
 
@@ -36,7 +36,7 @@ IsSoundSlave (Memory memory) = IsSoundMemory memory
 IsSoundSlave Device = Unit {0}
 
 -- so it is of each slave at reset
-abbrev pub AreSoundSlaves : GroupPlan → Type 0
+abbrev pub AreSoundSlaves : Plan → Type 0
 AreSoundSlaves plan = (port : ℕ) → IsSoundSlave (reset_of plan port).kept
 
 -- each lane has a byte

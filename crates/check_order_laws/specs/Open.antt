@@ -7,7 +7,7 @@ use Rattle.check_contests.specs.Laws.{AreUncontested}
 use Rattle.check_memory.specs.declared.slave.Slave.{Slave}
 use Rattle.check_memory.specs.declared.slave.Slave.TheVariants.{Memory, Device}
 use Rattle.check_flight.specs.declared.order.Order.TheVariants.{Accept}
-use Rattle.check_watch.specs.Plan.{GroupPlan, Sighting}
+use Rattle.check_watch.specs.Plan.{Plan, Sighting}
 use Rattle.check_watch_laws.specs.Memories.{order_at, reset_of}
 use Rattle.check_watch_laws.specs.Moments.{RequestMoment, moments}
 use Rattle.check_watch_laws.specs.Moments.Act.{Accepts}
@@ -28,7 +28,7 @@ AreApart (Memory memory) moments =
 AreApart Device moments = Unit {0}
 
 -- so it is at each moment of a port
-abbrev pub NothingIsContested : GroupPlan → ℕ → List Sighting → Type 0
+abbrev pub NothingIsContested : Plan → ℕ → List Sighting → Type 0
 NothingIsContested plan port past =
     (before later : List RequestMoment) → before ++ later ≡ moments plan port past
     → AreApart (reset_of plan port).kept before
@@ -37,7 +37,7 @@ NothingIsContested plan port past =
 
 -- if two systems say another order of a port, by one its requests take effect as they are accepted, and none of them is
 -- contested
-abbrev pub DifferByAccept : GroupPlan → GroupPlan → List Sighting → Type 0
+abbrev pub DifferByAccept : Plan → Plan → List Sighting → Type 0
 DifferByAccept loose strict past =
     (port : ℕ) → order_at loose port ≢ order_at strict port
     → (order_at strict port ≡ Accept) × NothingIsContested strict port past

@@ -6,18 +6,17 @@ use Rattle.check_keys.specs.declared.fault.SystemFault.{SystemFault}
 use Rattle.check_keys.specs.declared.fault.SystemFault.TheVariants.{ImageTooLong, ImageUnreadable}
 use Rattle.check_description.specs.Port.{Port}
 use Rattle.check_description.specs.Ranges.{first_length}
-use Rattle.check_description.specs.File.{Parts, parts_of}
-use Rattle.check_description.specs.Name.{AreDistinct, IsFirstPartFault, names_of}
+use Rattle.check_description.specs.File.{Parts}
+use Rattle.check_description.specs.Name.{IsFirstPartFault, NamesParts}
 use Rattle.check_description.specs.declared.read.TheConstants.{MAX_SYSTEM}
 use Rattle.check_program.specs.declared.fault.CheckFault.{CheckFault}
 use Rattle.check_program.specs.declared.fault.CheckFault.TheVariants.{System, Capture, Read, Write, Memory}
 
--- the reader gave bytes that name these parts, no two of the same name, and had no others
+-- the reader gave bytes that name these parts, and had no others
 pub record GivesParts (old new : Option (List ℕ)) (parts : Parts) : Type 0 where
   pub file : List ℕ
   pub read : ReadsAll old new file
-  pub named : parts_of file ≡ Ok parts
-  pub distinct : AreDistinct (names_of parts)
+  pub named : NamesParts file parts
 
 -- the fault is the first of what was read: of all that the reader had, or of a byte more than a file may have
 pub record HasPartFault (old new : Option (List ℕ)) (fault : SystemFault) : Type 0 where

@@ -17,7 +17,6 @@ use check_beats::Bus;
 use check_coverage::Coverage;
 use check_description::{Parts, describe};
 use check_lines::{Names, push_incomplete, push_lawful, push_unlawful};
-use check_map::{MAX_JUDGED_MASTERS, MAX_JUDGED_PORTS};
 use check_review::Judge;
 use check_rows::Buses;
 use check_sides::Watch;
@@ -26,6 +25,7 @@ use check_text::{Verdict, judge_capture};
 use check_unanswered::Pending;
 use std::alloc::{AllocError, Global};
 use std::io::{Read, Write};
+use tl_map::{MAX_JUDGED_MASTERS, MAX_JUDGED_PORTS};
 use tl_streams::{LimitedWriter, write_all};
 
 /// The line of a verdict, with these names of links.

@@ -15,7 +15,7 @@ use check_start::Terms;
 use std::alloc::Global;
 use std::io::{Eprint, Read, Write};
 use std::process::ExitCode;
-use tl_streams::fail;
+use tl_cli::fail;
 
 /// The status of a capture that is not lawful, or incomplete.
 const UNLAWFUL: u8 = 3;

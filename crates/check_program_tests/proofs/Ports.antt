@@ -3,10 +3,10 @@ use Rattle.std.proofs.Common.{◌≡◌, ℕ, ◌<◌, ◌≤◌, List, length, 
 use Rattle.std.proofs.lemmas.List.{length-map}
 use Rattle.std.proofs.lemmas.List.Elements.{All-map, All-weaker}
 use Rattle.std.proofs.lemmas.Option.{slice_get_within, get_or_from_slice_get}
-use Rattle.tl_map.specs.declared.map.Range.{Range}
-use Rattle.check_map.specs.Ranges.{AreRanges, IsLawfulRange, lists_in}
-use Rattle.check_map.specs.declared.limits.TheConstants.{MAX_JUDGED_PORTS, MAX_RANGES_OF_PORT}
-use Rattle.check_map.proofs.Overlaps.{row_of}
+use Rattle.tl_map.specs.declared.range.Range.{Range}
+use Rattle.tl_map.specs.Map.{AreRanges, IsLawfulRange, lists_in}
+use Rattle.tl_map.specs.declared.limits.TheConstants.{MAX_JUDGED_PORTS, MAX_RANGES_OF_PORT}
+use Rattle.tl_map.proofs.Overlaps.{row_of}
 use Rattle.check_program_tests.specs.Port.{IsPort}
 
 of_all : {A : Type 0} (P : A → Type 0) (xs : List A) (i : ℕ) (x : A) → slice_get xs i ≡ Some x → All P xs → P x

@@ -13,10 +13,20 @@ use Rattle.check_unanswered.specs.Began.{row_with}
 use Rattle.check_review.specs.declared.stop.Refusal.{Refusal}
 use Rattle.check_review.specs.declared.stop.Refusal.TheVariants as refusal
 use Rattle.check_review.specs.declared.stop.Unlawful.{Unlawful}
+use Rattle.check_review.specs.declared.tally.Tally.{Tally}
 use Rattle.check_review.specs.Order.{sightings_of}
+use Rattle.check_review.specs.Steps.{SameAsked}
 use Rattle.check_review.specs.Told.{AppendsTold}
 use Rattle.check_review.specs.Verdict.{IsUnlawfulAfter, MayWantAfter, MayWantAmong, OfUnlawful, StopsAt, StopsTelling}
 use Rattle.check_review.specs.View.{HasLanes}
+
+pub same_then : (a b c : Tally) → SameAsked a b → SameAsked b c → SameAsked a c
+same_then a b c before after = record {
+  layout = after.layout ∙ before.layout;
+  trace = after.trace ∙ before.trace;
+  asked = after.asked ∙ before.asked;
+  covered = after.covered ∙ before.covered;
+}
 
 -- what follows from what is said of the unlawful row
 pub of_unlawful : (P Q : Unlawful → Type 0) (why : Refusal) → ((found : Unlawful) → P found → Q found)

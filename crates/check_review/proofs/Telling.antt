@@ -5,20 +5,18 @@ use Rattle.check_watch.specs.declared.beat.Beat.{Beat}
 use Rattle.check_watch.specs.declared.beat.Beat.TheVariants.{A, D}
 use Rattle.check_watch.specs.declared.beat.Link.{Link}
 use Rattle.check_watch.specs.declared.beat.Link.TheVariants.{Master, Port}
-use Rattle.check_watch.specs.Plan.{Sighting}
-use Rattle.check_map.specs.declared.sources.Owner.{Owner}
-use Rattle.check_map.specs.Sources.{AreLawfulOwners}
-use Rattle.check_map.proofs.Kept.{one_owner}
+use Rattle.check_watch.specs.Plan.{Sighting, Layout, Plan, HasSource, source_of}
+use Rattle.tl_map.specs.declared.owners.Owner.{Owner}
+use Rattle.tl_map.specs.Owners.{AreLawfulOwners}
+use Rattle.tl_map.proofs.Kept.{one_owner}
 use Rattle.check_watch.specs.declared.seen.Seen.{Seen}
 use Rattle.check_watch.specs.declared.seen.Seen.TheVariants.{Part, WholeAsk, WholeReply}
-use Rattle.check_sides.specs.Plan.{IsPlan, Layout, Plan}
-use Rattle.check_watch.specs.Plan.{GroupLayout, GroupPlan, HasSource, source_of}
-use Rattle.check_sides.specs.Groups.{is_alone, plan_at, port_plan, shared_plan}
-use Rattle.check_sides.specs.declared.links.Links.{Links}
-use Rattle.check_sides.specs.declared.links.Links.TheVariants.{Both, Masters, Ports, Each}
+use Rattle.check_sides.specs.Plan.{IsPlan}
+use Rattle.check_sides.specs.Groups.{is_alone, plan_at, port_plan}
+use Rattle.check_watch.specs.declared.links.Links.{Links}
+use Rattle.check_watch.specs.declared.links.Links.TheVariants.{Both, Masters, Ports, Each}
 use Rattle.check_watch.specs.Scene.{Scene}
-use Rattle.check_sides.specs.Lawful.{scene}
-use Rattle.check_sides.specs.Lawful.{what_is_seen}
+use Rattle.check_sides.specs.Lawful.{scene, what_is_seen}
 use Rattle.check_watch.specs.Lawful.{IsAllowed, IsAllowedBeat}
 use Rattle.check_rows.specs.Row.{SeenRow}
 use Rattle.check_coverage.specs.Flights.{is_counted}
@@ -30,16 +28,16 @@ use Rattle.check_review.proofs.Watched.{seen_one, seen_other}
 -- ---- the line of a beat
 
 -- the source of a lawful beat is one that its link has
-source_of_beat : (plan : GroupPlan) (here : Scene) (x : Sighting) (beat : Beat) → IsAllowedBeat plan here x beat
+source_of_beat : (plan : Plan) (here : Scene) (x : Sighting) (beat : Beat) → IsAllowedBeat plan here x beat
     → HasSource plan.layout x.link (source_of beat)
 source_of_beat plan here x (A beat) allowed = allowed.source
 source_of_beat plan here x (D beat) allowed = allowed.source
 
-has_source : (plan : GroupPlan) (here : Scene) (x : Sighting) → IsAllowed plan here x
+has_source : (plan : Plan) (here : Scene) (x : Sighting) → IsAllowed plan here x
     → HasSource plan.layout x.link (source_of x.beat)
 has_source plan here x allowed = source_of_beat plan here x x.beat allowed
 
-has_owner : (layout : GroupLayout) (link : Link) (source : ℕ) → HasSource layout link source
+has_owner : (layout : Layout) (link : Link) (source : ℕ) → HasSource layout link source
     → HasOwner layout.owners link source
 has_owner layout (Master m) source has = tt
 has_owner layout (Port p) source has = let is = has.1 in let owned = is.1 in (owned.0, owned.1.0, owned.1.1)
@@ -60,8 +58,8 @@ counted_of_owner plan past x allowed counted =
     let here : HasSource (plan_at plan x.link).layout x.link (source_of x.beat) =
     has_source (plan_at plan x.link) (scene plan past x) x allowed in
     let P : Bool → Type 0 = λ alone.
-    HasSource (if alone then port_plan plan else shared_plan plan).layout x.link (source_of x.beat) in
-    has_owner (shared_plan plan).layout x.link (source_of x.beat)
+    HasSource (if alone then port_plan plan else plan).layout x.link (source_of x.beat) in
+    has_owner plan.layout x.link (source_of x.beat)
     (subst P (counted_together plan.layout.links x.link counted) here)
 
 pub line_is_told : (owners : List Owner) (link : Link) (source : ℕ) (entry : SeenEntry) (old new : List ℕ)

@@ -4,3 +4,4 @@ pub mod Told
 pub mod Verdict
 pub mod Covered
 pub mod View
+pub mod Steps

@@ -1,15 +1,14 @@
 -- What is told of beats that crossed: a line for each whole reply that is counted, in the order in which the replies
 -- end. Lists of sightings have the latest first. This project's own.
 use Rattle.std.specs.Prelude.{◌≡◌, ℕ, Bool, true, false, ◌&&◌, List, [], ◌∷◌, ◌++◌}
-use Rattle.check_map.specs.declared.sources.Owner.{Owner}
+use Rattle.tl_map.specs.declared.owners.Owner.{Owner}
 use Rattle.check_watch.specs.declared.beat.Link.{Link}
-use Rattle.check_watch.specs.Plan.{Sighting}
+use Rattle.check_watch.specs.Plan.{Sighting, source_of}
 use Rattle.check_watch.specs.declared.seen.Seen.{Seen}
 use Rattle.check_watch.specs.declared.seen.Seen.TheVariants.{Part, WholeAsk, WholeReply}
 use Rattle.check_sides.specs.Plan.{Plan}
-use Rattle.check_watch.specs.Plan.{source_of}
 use Rattle.check_sides.specs.Lawful.{what_is_seen}
-use Rattle.check_sides.specs.declared.links.Links.{Links}
+use Rattle.check_watch.specs.declared.links.Links.{Links}
 use Rattle.check_lines.specs.Trace.{HasOwner, IsLine}
 use Rattle.check_coverage.specs.Flights.{is_counted}
 

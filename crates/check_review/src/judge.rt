@@ -8,9 +8,10 @@ ghost use Rattle.check_rows.specs.Moment.{HasFault, IsLink, IsMoment, Takes};
 ghost use Rattle.check_rows.specs.Row.{SeenRow, seen_row};
 ghost use Rattle.check_unanswered.specs.View.{Holds};
 ghost use Rattle.check_coverage.specs.View.{Covers};
-ghost use Rattle.check_review.specs.Covered.{AppendsCoverage, CoversStop, HasCovered, IsCoveredBefore, IsCoveredFile};
-ghost use Rattle.check_review.specs.View.{HasTold, Judges, TellsOn, TellsStop, is_asked, is_covered, is_traced, wants};
-ghost use Rattle.check_review.specs.Verdict.{HasCounts, HasLeft, IsFirstUnlawful, IsLawfulFile, IsStop, IsToldBefore, IsToldFile, MayWantMemory, OfUnlawful};
+ghost use Rattle.check_review.specs.Covered.{AppendsCoverage, HasCovered, IsCoveredBefore, IsCoveredFile};
+ghost use Rattle.check_review.specs.Steps.{SameAsked, TakesRow};
+ghost use Rattle.check_review.specs.View.{HasTold, Judges, TellsOn, is_asked, is_covered, is_traced, wants};
+ghost use Rattle.check_review.specs.Verdict.{HasCounts, HasLeft, IsFirstUnlawful, IsLawfulFile, IsToldBefore, IsToldFile, MayWantMemory, OfUnlawful};
 
 use crate::stop::{Ending, Refusal, Stop, stop_of};
 use crate::tally::Tally;
@@ -131,26 +132,8 @@ impl Judge {
         requires lanes { bus_bytes row.now.bus ≤ length lanes.now }
         requires bus { bus_of self.old.tally.watch.layout row.now.link ≤ bus_bytes row.now.bus }
         requires later { self.old.moment.time < row.now.time }
-        ensures layout { self.new.tally.watch.layout ≡ self.old.tally.watch.layout }
-        ensures trace { is_traced self.new ≡ is_traced self.old }
-        ensures asked { is_asked self.new ≡ is_asked self.old }
-        ensures covered { is_covered self.new ≡ is_covered self.old }
-        ensures keeps { (plan : Plan) (file : List SeenRow) → Judges plan file self.old
-            → OnOk result (Judges plan (file ++ seen_row row.now lanes.now ∷ []) self.new) }
-        ensures told { (plan : Plan) (file : List SeenRow) (so_far : List ℕ)
-            → HasTold plan file self.old so_far
-            → OnOk result (TellsOn plan (file ++ seen_row row.now lanes.now ∷ []) self.new so_far
-            text.old.items text.new.items) }
-        ensures stop { (plan : Plan) (file : List SeenRow) → Judges plan file self.old
-            → IfErr result (IsStop plan file (seen_row row.now lanes.now)) }
-        ensures stop_told { (plan : Plan) (file : List SeenRow) (so_far : List ℕ)
-            → HasTold plan file self.old so_far
-            → IfErr result (TellsStop (is_traced self.old) plan file so_far
-            text.old.items text.new.items) }
-        ensures stop_covered { (plan : Plan) (file : List SeenRow) → Judges plan file self.old
-            → IfErr result (CoversStop plan file self.new.tally) }
-        ensures memory { (plan : Plan) (file : List SeenRow) → Judges plan file self.old
-            → IfErr result (λ stop. stop ≡ Stop.Memory → MayWantMemory (wants self.old.tally) plan file) }
+        ensures same { SameAsked self.old.tally self.new.tally }
+        ensures row { TakesRow (seen_row row.now lanes.now) self.old self.new text.old.items text.new.items result }
     {
         // asked for its clause that they are a moment
         let _rows = self.moment.len();
@@ -173,26 +156,8 @@ impl Judge {
         requires link { IsLink row.now.link }
         requires lanes { bus_bytes row.now.bus ≤ length lanes.now }
         requires bus { bus_of self.old.tally.watch.layout row.now.link ≤ bus_bytes row.now.bus }
-        ensures layout { self.new.tally.watch.layout ≡ self.old.tally.watch.layout }
-        ensures trace { is_traced self.new ≡ is_traced self.old }
-        ensures asked { is_asked self.new ≡ is_asked self.old }
-        ensures covered { is_covered self.new ≡ is_covered self.old }
-        ensures keeps { (plan : Plan) (file : List SeenRow) → Judges plan file self.old
-            → OnOk result (Judges plan (file ++ seen_row row.now lanes.now ∷ []) self.new) }
-        ensures told { (plan : Plan) (file : List SeenRow) (so_far : List ℕ)
-            → HasTold plan file self.old so_far
-            → OnOk result (TellsOn plan (file ++ seen_row row.now lanes.now ∷ []) self.new so_far
-            text.old.items text.new.items) }
-        ensures stop { (plan : Plan) (file : List SeenRow) → Judges plan file self.old
-            → IfErr result (IsStop plan file (seen_row row.now lanes.now)) }
-        ensures stop_told { (plan : Plan) (file : List SeenRow) (so_far : List ℕ)
-            → HasTold plan file self.old so_far
-            → IfErr result (TellsStop (is_traced self.old) plan file so_far
-            text.old.items text.new.items) }
-        ensures stop_covered { (plan : Plan) (file : List SeenRow) → Judges plan file self.old
-            → IfErr result (CoversStop plan file self.new.tally) }
-        ensures memory { (plan : Plan) (file : List SeenRow) → Judges plan file self.old
-            → IfErr result (λ stop. stop ≡ Stop.Memory → MayWantMemory (wants self.old.tally) plan file) }
+        ensures same { SameAsked self.old.tally self.new.tally }
+        ensures row { TakesRow (seen_row row.now lanes.now) self.old self.new text.old.items text.new.items result }
     {
         match self.put(row, lanes) {
             Ok(true) => Ok(()),
@@ -208,10 +173,7 @@ impl Judge {
         requires lanes { bus_bytes row.now.bus ≤ length lanes.now }
         requires bus { bus_of self.old.tally.watch.layout row.now.link ≤ bus_bytes row.now.bus }
         requires later { self.old.moment.time < row.now.time }
-        ensures layout { self.new.tally.watch.layout ≡ self.old.tally.watch.layout }
-        ensures trace { is_traced self.new ≡ is_traced self.old }
-        ensures asked { is_asked self.new ≡ is_asked self.old }
-        ensures covered { is_covered self.new ≡ is_covered self.old }
+        ensures same { SameAsked self.old.tally self.new.tally }
         ensures told { (plan : Plan) (file : List SeenRow) (so_far text : List ℕ) → HasTold plan file self.old so_far
             → IfOk result (λ taken. taken ≡ true
             → TellsOn plan (file ++ seen_row row.now lanes.now ∷ []) self.new so_far text text) }
@@ -239,10 +201,7 @@ impl Judge {
         requires link { IsLink row.now.link }
         requires lanes { bus_bytes row.now.bus ≤ length lanes.now }
         requires bus { bus_of self.old.tally.watch.layout row.now.link ≤ bus_bytes row.now.bus }
-        ensures layout { self.new.tally.watch.layout ≡ self.old.tally.watch.layout }
-        ensures trace { is_traced self.new ≡ is_traced self.old }
-        ensures asked { is_asked self.new ≡ is_asked self.old }
-        ensures covered { is_covered self.new ≡ is_covered self.old }
+        ensures same { SameAsked self.old.tally self.new.tally }
         ensures told { (plan : Plan) (file : List SeenRow) (so_far text : List ℕ) → HasTold plan file self.old so_far
             → IfOk result (λ taken. taken ≡ true
             → TellsOn plan (file ++ seen_row row.now lanes.now ∷ []) self.new so_far text text) }

@@ -3,7 +3,7 @@ ghost use Rattle.std.specs.Prelude.{◌≡◌, ◌≤◌, ℕ, ◌&&◌, false, 
 ghost use Rattle.check_watch.specs.Plan.{Sighting, seen_at, source_of};
 ghost use Rattle.check_sides.specs.Lawful.{IsLawful};
 ghost use Rattle.check_sides.specs.Pending.{IsChange};
-ghost use Rattle.check_sides.specs.Plan.{Plan, HasLink, IsWatched, bus_of};
+ghost use Rattle.check_sides.specs.Plan.{CanCross, Plan, HasLink, bus_of};
 ghost use Rattle.check_sides.specs.View.{Keeps};
 ghost use Rattle.check_rows.specs.Row.{SeenRow};
 ghost use Rattle.check_unanswered.specs.Began.{beats_of, row_with};
@@ -13,6 +13,7 @@ ghost use Rattle.check_coverage.specs.View.{Covers};
 ghost use Rattle.check_coverage.specs.Flights.{ends_a_reply, ends_an_ask, is_counted};
 ghost use Rattle.check_review.specs.Count.{one_more};
 ghost use Rattle.check_review.specs.Order.{sightings_of};
+ghost use Rattle.check_review.specs.Steps.{SameAsked, TellsRow};
 ghost use Rattle.check_review.specs.Told.{AppendsTold, AppendsToldOf, IsCountedOfOwner};
 ghost use Rattle.check_review.specs.View.{HasLanes, Kept, Tallied, wants};
 ghost use Rattle.check_review.specs.Verdict.{IsUnlawfulAfter, IsWhatIsLeft, MayWantAfter, MayWantAmong, OfUnlawful, StopsTelling};
@@ -38,16 +39,6 @@ pub fn count_end(links: Links, link: Link, end: Ended, requests: &mut u64, answe
         Ended::Part => {}
         Ended::Ask => *requests = requests.wrapping_add(1),
         Ended::Reply => *answered = answered.wrapping_add(1),
-    }
-}
-
-/// The source of a beat.
-fn source_of(beat: &Beat) -> u16
-    ensures { result ≡ source_of beat.now }
-{
-    match beat {
-        Beat::A(beat) => beat.source,
-        Beat::D(beat) => beat.source,
     }
 }
 
@@ -122,7 +113,7 @@ impl Tally {
         match seen {
             Seen::Part | Seen::WholeAsk => Ok(()),
             Seen::WholeReply(entry) => {
-                push_answer(text, self.watch.sources(), link, source_of(beat), entry)
+                push_answer(text, self.watch.sources(), link, beat.source(), entry)
             }
         }
     }
@@ -130,13 +121,9 @@ impl Tally {
     /// Takes the beat of a row after those before it, if it is lawful, and tells nothing: whether it is. Most beats of
     /// a file are, and if nothing is told of them nobody asks for their replies.
     fn take_row(&mut self, alloc: Global, row: &Row, lanes: &[u8]) -> Result<bool, AllocError>
-        requires known { HasLink self.old.watch.layout row.now.link }
-        requires watched { IsWatched self.old.watch.layout.links row.now.link }
-        requires lanes { bus_of self.old.watch.layout row.now.link ≤ length lanes.now }
-        ensures layout { self.new.watch.layout ≡ self.old.watch.layout }
-        ensures trace { self.new.trace ≡ self.old.trace }
+        requires { CanCross self.old.watch.layout row.now.link lanes.now }
+        ensures same { SameAsked self.old self.new }
         ensures pending { self.new.pending ≡ self.old.pending }
-        ensures covered { is_some self.new.coverage ≡ is_some self.old.coverage }
         ensures keeps { (plan : Plan) (before : List SeenRow) → Tallied plan before self.old
             → IfOk result (λ taken. taken ≡ true → Tallied plan (row_with row.now lanes.now ∷ before) self.new) }
         ensures refused { IfOk result (λ taken. taken ≡ false → self.new ≡ self.old) }
@@ -164,25 +151,10 @@ impl Tally {
         lanes: &[u8],
         text: &mut Vec<u8>,
     ) -> Result<(), Refusal>
-        requires known { HasLink self.old.watch.layout row.now.link }
-        requires watched { IsWatched self.old.watch.layout.links row.now.link }
-        requires lanes { bus_of self.old.watch.layout row.now.link ≤ length lanes.now }
-        ensures layout { self.new.watch.layout ≡ self.old.watch.layout }
-        ensures trace { self.new.trace ≡ self.old.trace }
+        requires { CanCross self.old.watch.layout row.now.link lanes.now }
+        ensures same { SameAsked self.old self.new }
         ensures pending { self.new.pending ≡ self.old.pending }
-        ensures covered { is_some self.new.coverage ≡ is_some self.old.coverage }
-        ensures keeps { (plan : Plan) (before : List SeenRow) → Tallied plan before self.old
-            → OnOk result (Tallied plan (row_with row.now lanes.now ∷ before) self.new) }
-        ensures told { (plan : Plan) (before : List SeenRow) → Tallied plan before self.old
-            → OnOk result (AppendsTold self.old.trace plan (sightings_of plan.layout before)
-            (sightings_of plan.layout (row_with row.now lanes.now ∷ before)) text.old.items text.new.items) }
-        ensures fault { (plan : Plan) (before : List SeenRow) → Tallied plan before self.old
-            → IfErr result (OfUnlawful (IsUnlawfulAfter plan before (row_with row.now lanes.now))) }
-        ensures quiet { IfErr result (OfUnlawful (λ _. text.new.items ≡ text.old.items)) }
-        ensures uncovered { IfErr result (OfUnlawful (λ _. self.new.coverage ≡ self.old.coverage)) }
-        ensures memory { (plan : Plan) (before : List SeenRow) → Tallied plan before self.old
-            → IfErr result (λ why. why ≡ Refusal.Memory
-            → MayWantAfter (wants self.old) plan before (row_with row.now lanes.now)) }
+        ensures row { TellsRow (row_with row.now lanes.now) self.old self.new text.old.items text.new.items result }
     {
         let seen = match self
             .watch
@@ -214,25 +186,10 @@ impl Tally {
         lanes: &[u8],
         text: &mut Vec<u8>,
     ) -> Result<(), Refusal>
-        requires known { HasLink self.old.watch.layout row.now.link }
-        requires watched { IsWatched self.old.watch.layout.links row.now.link }
-        requires lanes { bus_of self.old.watch.layout row.now.link ≤ length lanes.now }
-        ensures layout { self.new.watch.layout ≡ self.old.watch.layout }
-        ensures trace { self.new.trace ≡ self.old.trace }
+        requires { CanCross self.old.watch.layout row.now.link lanes.now }
+        ensures same { SameAsked self.old self.new }
         ensures pending { self.new.pending ≡ self.old.pending }
-        ensures covered { is_some self.new.coverage ≡ is_some self.old.coverage }
-        ensures keeps { (plan : Plan) (before : List SeenRow) → Tallied plan before self.old
-            → OnOk result (Tallied plan (row_with row.now lanes.now ∷ before) self.new) }
-        ensures told { (plan : Plan) (before : List SeenRow) → Tallied plan before self.old
-            → OnOk result (AppendsTold self.old.trace plan (sightings_of plan.layout before)
-            (sightings_of plan.layout (row_with row.now lanes.now ∷ before)) text.old.items text.new.items) }
-        ensures fault { (plan : Plan) (before : List SeenRow) → Tallied plan before self.old
-            → IfErr result (OfUnlawful (IsUnlawfulAfter plan before (row_with row.now lanes.now))) }
-        ensures quiet { IfErr result (OfUnlawful (λ _. text.new.items ≡ text.old.items)) }
-        ensures uncovered { IfErr result (OfUnlawful (λ _. self.new.coverage ≡ self.old.coverage)) }
-        ensures memory { (plan : Plan) (before : List SeenRow) → Tallied plan before self.old
-            → IfErr result (λ why. why ≡ Refusal.Memory
-            → MayWantAfter (wants self.old) plan before (row_with row.now lanes.now)) }
+        ensures row { TellsRow (row_with row.now lanes.now) self.old self.new text.old.items text.new.items result }
     {
         if self.trace {
             return self.tell_row(alloc, row, lanes, text);
@@ -298,10 +255,7 @@ impl Tally {
         text: &mut Vec<u8>,
     ) -> Result<(), Refusal>
         requires { bus_of self.old.watch.layout row.now.link ≤ length lanes.now }
-        ensures layout { self.new.watch.layout ≡ self.old.watch.layout }
-        ensures trace { self.new.trace ≡ self.old.trace }
-        ensures asked { is_some self.new.pending ≡ is_some self.old.pending }
-        ensures covered { is_some self.new.coverage ≡ is_some self.old.coverage }
+        ensures same { SameAsked self.old self.new }
         ensures keeps { (plan : Plan) (before : List SeenRow) → Kept plan before self.old
             → OnOk result (Kept plan (row_with row.now lanes.now ∷ before) self.new) }
         ensures told { (plan : Plan) (before : List SeenRow) → Kept plan before self.old
@@ -330,10 +284,7 @@ impl Tally {
     /// the requests in flight, and tells nothing: whether it did.
     fn pass_row(&mut self, alloc: Global, row: &Row, lanes: &[u8]) -> Result<bool, AllocError>
         requires { bus_of self.old.watch.layout row.now.link ≤ length lanes.now }
-        ensures layout { self.new.watch.layout ≡ self.old.watch.layout }
-        ensures trace { self.new.trace ≡ self.old.trace }
-        ensures asked { is_some self.new.pending ≡ is_some self.old.pending }
-        ensures covered { is_some self.new.coverage ≡ is_some self.old.coverage }
+        ensures same { SameAsked self.old self.new }
         ensures keeps { (plan : Plan) (before : List SeenRow) → Kept plan before self.old
             → IfOk result (λ passed. passed ≡ true → Kept plan (row_with row.now lanes.now ∷ before) self.new) }
         ensures refused { IfOk result (λ passed. passed ≡ false → self.new ≡ self.old) }
@@ -356,10 +307,7 @@ impl Tally {
     /// which has room for a fault.
     pub fn pass_rows(&mut self, alloc: Global, moment: &Moment) -> Result<bool, AllocError>
         requires { All (HasLanes self.old.watch.layout) moment.now.rows }
-        ensures layout { self.new.watch.layout ≡ self.old.watch.layout }
-        ensures trace { self.new.trace ≡ self.old.trace }
-        ensures asked { is_some self.new.pending ≡ is_some self.old.pending }
-        ensures covered { is_some self.new.coverage ≡ is_some self.old.coverage }
+        ensures same { SameAsked self.old self.new }
         ensures keeps { (plan : Plan) (before : List SeenRow) → Kept plan before self.old
             → IfOk result (λ passed. passed ≡ true → Kept plan (reverse moment.now.rows ++ before) self.new) }
         ensures told { (plan : Plan) (before : List SeenRow) (text : List ℕ) → Kept plan before self.old
@@ -385,10 +333,7 @@ impl Tally {
         text: &mut Vec<u8>,
     ) -> Result<(), Refusal>
         requires { All (HasLanes self.old.watch.layout) moment.now.rows }
-        ensures layout { self.new.watch.layout ≡ self.old.watch.layout }
-        ensures trace { self.new.trace ≡ self.old.trace }
-        ensures asked { is_some self.new.pending ≡ is_some self.old.pending }
-        ensures covered { is_some self.new.coverage ≡ is_some self.old.coverage }
+        ensures same { SameAsked self.old self.new }
         ensures keeps { (plan : Plan) (before : List SeenRow) → Kept plan before self.old
             → OnOk result (Kept plan (reverse moment.now.rows ++ before) self.new) }
         ensures told { (plan : Plan) (before : List SeenRow) → Kept plan before self.old

@@ -9,9 +9,9 @@ use crate::fault::RowFault;
 use crate::row::Row;
 use arrayvec::ArrayVec;
 use check_beats::MAX_LANES;
-use check_map::{MAX_JUDGED_MASTERS, MAX_JUDGED_PORTS};
 use check_watch::{Beat, Link};
 use std::marker::Model;
+use tl_map::{MAX_JUDGED_MASTERS, MAX_JUDGED_PORTS};
 
 /// The most beats of one time: one for each channel of each link.
 const MAX_ROWS: usize = 2 * (MAX_JUDGED_MASTERS + MAX_JUDGED_PORTS);

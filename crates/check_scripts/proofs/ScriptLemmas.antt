@@ -1,5 +1,5 @@
 -- The tables of a script, and its masters, read as those of a system file.
-use Rattle.std.proofs.Common.{◌≡◌, ◌∙◌, ℕ, suc, ◌<◌, ◌≤◌, nat_lt, Bool, true, false, List, [], ◌∷◌, length, map, Option, Some, None, Result, Ok, Err, ok_or, refl, ap, arith}
+use Rattle.std.proofs.Common.{◌≡◌, ◌∙◌, ℕ, suc, ◌<◌, ◌≤◌, nat_lt, Bool, true, false, List, [], ◌∷◌, length, map, Option, Some, None, Result, Ok, Err, ok_or, refl, sym, ap, arith}
 use Rattle.std.specs.Prelude.{if◌then◌else◌}
 use Rattle.std.specs.List.{AllByRecursion, filter_map, list_any}
 use Rattle.std.specs.Str.{is_utf8}
@@ -8,12 +8,15 @@ use Rattle.std.proofs.lemmas.List.{length-map}
 use Rattle.std.proofs.lemmas.List.Elements.{recursion_from_All}
 use Rattle.toml.specs.Data.{Data, Items, Members, get_member, as_table, as_array}
 use Rattle.toml.specs.Parse.{parse_document}
-use Rattle.tl_map.specs.Map.{IsLawfulMap}
 use Rattle.tl_map.specs.Range.{IsEmpty}
-use Rattle.tl_map.specs.Sources.{AreLawfulCounts}
+use Rattle.tl_map.specs.Blocks.{counts_in}
+use Rattle.tl_map.proofs.BlockFacts.{one_list}
+use Rattle.tl_map.proofs.Counted.{counts_are}
+use Rattle.tl_script.specs.Sources.{AreLawfulCounts}
 use Rattle.tl_ops.specs.Store.{Store}
 use Rattle.tl_script.specs.Master.{ScriptMaster as OldMaster, jobs_from, lines_at as old_lines_at, master_of as old_master_of, script_masters as old_masters_of}
 use Rattle.tl_script.specs.Port.{port_of as old_port_of, script_port_tables as old_port_tables, script_ports as old_ports_of}
+use Rattle.tl_script.specs.Map.{AreLawfulRanges}
 use Rattle.tl_script.specs.Key.{script_key_name as old_key_name}
 use Rattle.tl_script.specs.Script.{ScriptParts as OldParts, Spells as OldSpells, counts_of as old_counts_of, script_document as old_document_of, parts_in as old_parts_in, script_parts as old_parts_of, script_ranges as old_ranges_of}
 use Rattle.tl_script.specs.System.{System as OldSystem, range_of}
@@ -27,7 +30,7 @@ use Rattle.tl_script.specs.declared.fault.ScriptFault.TheVariants.{Missing as Ol
 use Rattle.check_description.specs.File.{Parts, document_of, parts_in, parts_of}
 use Rattle.check_scripts.specs.Instance.{ArePortsOf, DescribesTheSame, IsAbsent, IsPlainMaster, IsPlainPort, NamesTheSame, SaysNothingNew, plain_master}
 use Rattle.check_keys.specs.Key.{key_name}
-use Rattle.check_map.specs.declared.sources.Owner.{Owner}
+use Rattle.tl_map.specs.declared.owners.Owner.{Owner}
 use Rattle.check_description.specs.Master.{HasOwners, IsInBlocks, Master, counts_of, said_owners, first_at, has_first, master_of, master_tables, masters_of, stride_at}
 use Rattle.check_keys.specs.Name.{name_at}
 use Rattle.check_description.specs.Port.{Port, port_tables, ports_of, tables_by}
@@ -39,7 +42,7 @@ use Rattle.check_keys.specs.declared.fault.Key.{Key}
 use Rattle.check_keys.specs.declared.fault.Key.TheVariants.{Bus, Port as PortKey, Master as MasterKey, Sources}
 use Rattle.check_keys.specs.declared.fault.SystemFault.{SystemFault}
 use Rattle.check_keys.specs.declared.fault.SystemFault.TheVariants.{Missing, NotToml, TooLong, WrongType}
-use Rattle.check_map.specs.declared.limits.TheConstants.{MAX_JUDGED_MASTERS, MAX_JUDGED_PORTS, MAX_JUDGED_SOURCES}
+use Rattle.tl_map.specs.declared.limits.TheConstants.{MAX_JUDGED_MASTERS, MAX_JUDGED_PORTS, MAX_JUDGED_SOURCES}
 use Rattle.check_description.specs.declared.read.TheConstants.{MAX_SYSTEM}
 use Rattle.check_scripts.proofs.Ports.{ReadsPorts, each_first, each_none, number_at_same, number_at_within, ok_or_same, ports_same}
 
@@ -145,12 +148,12 @@ master_same members master plain some is =
     rw (plain.name, sources, plain.stride, plain.bus) refl
 
 -- how many sources the masters of a script have
-abbrev pub counts_in : List OldMaster → List ℕ
-counts_in masters = map (λ (master : OldMaster). master.sources) masters
+abbrev pub said_counts : List OldMaster → List ℕ
+said_counts masters = map (λ (master : OldMaster). master.sources) masters
 
 masters_same : (tables : List Members) (masters : List OldMaster) → AllByRecursion IsPlainMaster tables
-    → AllByRecursion (λ count. 0 < count) (counts_in masters) → steps.each old_master_of tables ≡ Ok masters
-    → steps.each (master_of Eight false) tables ≡ Ok (map plain_master (counts_in masters))
+    → AllByRecursion (λ count. 0 < count) (said_counts masters) → steps.each old_master_of tables ≡ Ok masters
+    → steps.each (master_of Eight false) tables ≡ Ok (map plain_master (said_counts masters))
 masters_same [] [] plain some is = refl
 masters_same [] (master ∷ masters) plain some is = absurd cc
 masters_same (table ∷ tables) [] plain some is =
@@ -194,8 +197,8 @@ masters_read fields tables masters tables_are none read = rw (tables_are, none) 
 
 pub masters_of_same : (members : Members) (masters : List OldMaster) → length masters ≤ MAX_JUDGED_MASTERS
     → ((tables : List Members) → master_tables members ≡ Ok tables → AllByRecursion IsPlainMaster tables)
-    → AllByRecursion (λ count. 0 < count) (counts_in masters) → old_masters_of members ≡ Ok masters
-    → masters_of Eight members ≡ Ok (map plain_master (counts_in masters))
+    → AllByRecursion (λ count. 0 < count) (said_counts masters) → old_masters_of members ≡ Ok masters
+    → masters_of Eight members ≡ Ok (map plain_master (said_counts masters))
 unfolding old_masters_of
 masters_of_same members masters few plain some is =
     let value = taken (old_value_at OldMasterKey members)
@@ -212,7 +215,7 @@ masters_of_same members masters few plain some is =
     let tables_are = tables_read members value.0 tables.0
     (value_at_same OldMasterKey MasterKey members value.0 refl value.1)
     (tables_of_same OldMasterKey MasterKey value.0 tables.0 tables.1) same.1 not_more in
-    masters_read members tables.0 (map plain_master (counts_in masters)) tables_are
+    masters_read members tables.0 (map plain_master (said_counts masters)) tables_are
     (none_has_first tables.0 (plain tables.0 tables_are))
     (masters_same tables.0 masters (plain tables.0 tables_are) some read)
 
@@ -301,30 +304,6 @@ unfolding old_ports_of port_tables
 ports_of_read members stores few plain some is =
     ports_of_same (get_member (key_name PortKey) members) stores few plain some is
 
--- the system has the parts' slaves and counts
-made_of : (jobs : Result (List (List Job)) ScriptFault) (parts : OldParts) (system : OldSystem)
-    → (steps.◌>>=◌ jobs (λ js. Ok (record {
-      slots = parts.slots;
-      stores = parts.stores;
-      counts = old_counts_of parts;
-      ranges = old_ranges_of parts;
-      jobs = js;
-    }))) ≡ Ok system
-    → (parts.stores ≡ system.stores) × (old_counts_of parts ≡ system.counts) × (old_ranges_of parts ≡ system.ranges)
-made_of (Err e) parts system is = absurd cc
-made_of (Ok js) parts system is =
-    let same : record {
-      slots = parts.slots;
-      stores = parts.stores;
-      counts = old_counts_of parts;
-      ranges = old_ranges_of parts;
-      jobs = js;
-    } ≡ system = cc in (
-      ap (λ (s : OldSystem). s.stores) same,
-      ap (λ (s : OldSystem). s.counts) same,
-      ap (λ (s : OldSystem). s.ranges) same,
-    )
-
 no_names : (counts : List ℕ) → filter_map (λ (master : Master). master.name) (map plain_master counts) ≡ []
 no_names [] = refl
 no_names (count ∷ counts) = no_names counts
@@ -337,7 +316,7 @@ record ReadsScript (bytes : List ℕ) (parts : OldParts) : Type 0 where
   pub names : filter_map (λ (port : Port). port.name) ports ≡ []
   pub some : 0 < length (old_counts_of parts)
 
-parts_of_same : (bytes : List ℕ) (parts : OldParts) → SaysNothingNew bytes → IsLawfulMap (old_ranges_of parts)
+parts_of_same : (bytes : List ℕ) (parts : OldParts) → SaysNothingNew bytes → AreLawfulRanges (old_ranges_of parts)
     → AreLawfulCounts (old_counts_of parts) → old_parts_of bytes ≡ Ok parts → ReadsScript bytes parts
 parts_of_same bytes parts plain ranges counts is =
     let document = taken (old_document_of bytes) old_parts_in parts is in
@@ -372,15 +351,19 @@ parts_of_same bytes parts plain ranges counts is =
 pub names_same : NamesTheSame
 names_same bytes script spelled plain =
     let parts = spelled.parts in
-    let made = made_of (jobs_from 0 parts.masters) parts script spelled.makes.made in
+    let counts : counts_in script.owners ≡ old_counts_of parts =
+    counts_are (old_counts_of parts) script.owners spelled.makes.blocks in
+    let stores : script.stores ≡ parts.stores = ap (λ (s : OldSystem). s.stores) spelled.makes.made in
     let read = parts_of_same bytes parts plain spelled.makes.ranges spelled.makes.counts spelled.named in
+    let some = read.some in
+    let counted = spelled.makes.blocks.counted in
     record {
       parts = record { ports = read.ports; masters = map plain_master (old_counts_of parts) };
       named = read.read;
-      slaves = rw (← made.0) read.slaves;
-      masters = ap (λ counts. map plain_master counts) made.1;
+      slaves = rw stores read.slaves;
+      masters = ap (λ counts. map plain_master counts) (sym counts);
       names = rw (read.names, no_names (old_counts_of parts)) refl;
-      some = rw (← made.1) read.some;
+      some = omega (arith, some, counted);
     }
 
 -- what some parts name is what they are
@@ -407,10 +390,17 @@ system_same bytes script parts system spelled plain read makes =
     let named = names_same bytes script spelled plain in
     let same : parts ≡ named.parts = same_parts (parts_of bytes) parts named.parts read named.named in
     let ports : system.ports ≡ named.parts.ports = makes.ports ∙ ap (λ (p : Parts). p.ports) same in
-    let masters : parts.masters ≡ map plain_master script.counts =
+    let masters : parts.masters ≡ map plain_master (counts_in script.owners) =
     ap (λ (p : Parts). p.masters) same ∙ named.masters in
+    let counted = length-map script.owners (λ (owner : Owner). owner.count) in
+    let some = named.some in
+    let blocks = blocks_of parts.masters (counts_in script.owners) system.owners (omega (arith, some, counted)) masters
+    makes.owners in
+    let counts : counts_in script.owners ≡ old_counts_of spelled.parts =
+    counts_are (old_counts_of spelled.parts) script.owners spelled.makes.blocks in
     record {
       slaves = rw ports named.slaves;
       masters = makes.masters ∙ masters;
-      owners = blocks_of parts.masters script.counts system.owners named.some masters makes.owners;
+      owners = one_list (counts_in script.owners) system.owners script.owners blocks.blocks
+          (rw counts spelled.makes.blocks);
     }

@@ -2,6 +2,7 @@
 use Rattle.std.specs.Prelude.{◌≡◌, ◌<◌, ℕ, List, [], ◌∷◌, length, map, None, Ok}
 use Rattle.std.specs.List.{AllByRecursion}
 use Rattle.toml.specs.Data.{Members, get_member}
+use Rattle.tl_map.specs.Blocks.{counts_in}
 use Rattle.tl_ops.specs.Store.{Store}
 use Rattle.tl_script.specs.Script.{Spells}
 use Rattle.tl_script.specs.System.{System, range_of}
@@ -13,7 +14,7 @@ use Rattle.check_description.specs.Laws.{IsPlainMemory, store_at_reset}
 use Rattle.check_description.specs.Port.{Port, port_tables}
 use Rattle.check_description.specs.Description.{Description, Makes}
 use Rattle.check_description.specs.File.{Parts, document_of, parts_of}
-use Rattle.check_description.specs.Master.{IsInBlocks, Master, master_tables}
+use Rattle.check_description.specs.Master.{Master, master_tables}
 use Rattle.check_description.specs.Name.{names_of}
 
 -- ---- files that say nothing that a script does not
@@ -77,18 +78,18 @@ pub record NamesSame (script : System) (bytes : List ℕ) : Type 0 where
   pub parts : Parts
   pub named : parts_of bytes ≡ Ok parts
   pub slaves : ArePortsOf script.stores parts.ports
-  pub masters : parts.masters ≡ map plain_master script.counts
+  pub masters : parts.masters ≡ map plain_master (counts_in script.owners)
   pub names : names_of parts ≡ []
-  pub some : 0 < length script.counts
+  pub some : 0 < length script.owners
 
 abbrev pub NamesTheSame : Type 0
 NamesTheSame = (bytes : List ℕ) (script : System) → Spells bytes script → SaysNothingNew bytes → NamesSame script bytes
 
--- the system has the script's slaves, and its masters have the blocks of the script's counts
+-- the system has the script's slaves, and its masters have the script's owners
 pub record IsSameSystem (script : System) (system : Description) : Type 0 where
   pub slaves : ArePortsOf script.stores system.ports
-  pub masters : system.masters ≡ map plain_master script.counts
-  pub owners : IsInBlocks script.counts system.owners
+  pub masters : system.masters ≡ map plain_master (counts_in script.owners)
+  pub owners : system.owners ≡ script.owners
 
 abbrev pub DescribesTheSame : Type 0
 DescribesTheSame =

@@ -7,7 +7,7 @@ pub fn a_script_names_the_same_parts()
     ensures { NamesTheSame }
 {}
 
-/// The system that such a script describes has the script's slaves and ranges, and its masters have tlx's blocks.
+/// The system that such a script describes has the script's slaves and ranges, and its masters have the script's owners.
 pub fn a_script_describes_the_same_system()
     ensures { DescribesTheSame }
 {}

@@ -2,7 +2,7 @@
 use Rattle.std.proofs.Common.{◌≡◌, ◌∙◌, ℕ, ◌<◌, Bool, false, List, refl, sym, subst}
 use Rattle.std.specs.Prelude.{IsTrue}
 use Rattle.tl_types.specs.Fault.{IsFirstOf}
-use Rattle.tl_map.specs.declared.map.Range.{Range}
+use Rattle.tl_map.specs.declared.range.Range.{Range}
 use Rattle.check_beats.specs.Form.{FitsAsk, FitsReply, IsKnown}
 use Rattle.check_beats.specs.State.{ends_reply, first_ask, first_reply}
 use Rattle.check_beats.specs.declared.beat.AskHead.{AskHead}
@@ -13,10 +13,10 @@ use Rattle.check_flight.proofs.Known.{stays_answering}
 use Rattle.check_watch.specs.declared.beat.Beat.TheVariants.{D}
 use Rattle.check_watch.specs.declared.beat.Link.TheVariants.{Port}
 use Rattle.check_watch.specs.declared.fault.Reason.{Reason}
-use Rattle.check_watch.specs.declared.links.GroupLinks.TheVariants.{Both, Ports}
+use Rattle.check_watch.specs.declared.links.Links.TheVariants.{Both, Ports}
 use Rattle.check_watch.specs.Allowed.{BeginsFree, BeginsPlaced, IsAnswer, IsAllowedReply, IsMust, OfAsked}
 use Rattle.check_watch.specs.Faults.{HasAnswerReason, HasEndReason, IsFirstReplyReason, reason_rank}
-use Rattle.check_watch.specs.Plan.{GroupLayout, HasSource}
+use Rattle.check_watch.specs.Plan.{Layout, HasSource}
 use Rattle.check_watch.specs.Scene.{Scene}
 use Rattle.check_watch.proofs.Judging.{AskUpTo}
 use Rattle.check_watch.proofs.Replying.{first_answer, first_end}
@@ -25,7 +25,7 @@ use Rattle.check_sides.specs.View.{Beyond, IsOwnPort, PortView, captured_in, due
 apart : Ports ≡ Both → ⊥
 apart is = cc
 
-module _ (layout : GroupLayout) (map : List (List Range)) (port : ℕ) (own : IsOwnPort layout map) where
+module _ (layout : Layout) (map : List (List Range)) (port : ℕ) (own : IsOwnPort layout map) where
   -- every source is the link's
   pub own_source : (source : ℕ) → source < 65536 → HasSource layout (Port port) source
   own_source source small = (source, (refl, own.anybody source small))

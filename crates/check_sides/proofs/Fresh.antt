@@ -5,12 +5,12 @@ use Rattle.check_beats.specs.declared.bus.Bus.{Bus}
 use Rattle.check_flight.specs.PortSlave.{PortSlave}
 use Rattle.check_flight.specs.Side.{bus_at}
 use Rattle.check_watch.specs.Past.{slave_at}
-use Rattle.check_watch.specs.Plan.{IsGroupPlan}
+use Rattle.check_watch.specs.Plan.{IsPlan}
 use Rattle.check_watch.specs.View as group_view
-use Rattle.check_sides.specs.declared.links.Links.{Links}
-use Rattle.check_sides.specs.declared.links.Links.TheVariants.{Both, Masters, Ports, Each}
-use Rattle.check_sides.specs.Groups.{are_apart, shared_past, shared_plan, port_plan}
-use Rattle.check_sides.specs.Plan.{Plan, IsPlan}
+use Rattle.check_watch.specs.declared.links.Links.{Links}
+use Rattle.check_watch.specs.declared.links.Links.TheVariants.{Both, Masters, Ports, Each}
+use Rattle.check_sides.specs.Groups.{are_apart, shared_past, port_plan}
+use Rattle.check_sides.specs.Plan.{Plan}
 use Rattle.check_sides.specs.View.{HaveBuses, Keeps, KeepsPort, PortView, View, flight_in, fresh_link, fresh_links}
 
 pub shared_none : (links : Links) → shared_past links [] ≡ []
@@ -46,17 +46,14 @@ pub fresh_buses : (buses : List Bus) (slaves : List PortSlave) → HaveBuses (fr
 fresh_buses buses slaves port link is =
     ap (λ (l : PortView). l.under.bus) (sym (link_fresh buses slaves port link is))
 
-pub shared_is_plan : (plan : Plan) → IsPlan plan → IsGroupPlan (shared_plan plan)
-shared_is_plan plan is = record { owners = is.owners; wide = is.wide; route = is.route }
-
 pub fresh_keeps : (plan : Plan) (view : View) → IsPlan plan → view.layout ≡ plan.layout
-    → group_view.KeepsGroup (shared_plan plan) [] view.shared
+    → group_view.KeepsGroup plan [] view.shared
     → (IsTrue (are_apart plan.layout.links) → view.ports ≡ fresh_links plan.layout.port_buses plan.resets)
     → Keeps plan [] view
 fresh_keeps plan view lawful layout shared ports = record {
   suits = record { lawful = lawful; layout = layout };
   lawful = tt;
-  shared = subst (λ p. group_view.KeepsGroup (shared_plan plan) p view.shared) (sym (shared_none plan.layout.links)) shared;
+  shared = subst (λ p. group_view.KeepsGroup plan p view.shared) (sym (shared_none plan.layout.links)) shared;
   ports = λ apart port link found. fresh_port port link
       (ap (λ l. slice_get l port) (sym (ports apart)) ∙ found);
 }

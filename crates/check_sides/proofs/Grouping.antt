@@ -5,11 +5,11 @@ use Rattle.std.proofs.lemmas.Bool.{eqb-false}
 use Rattle.check_watch.specs.declared.beat.Link.{Link}
 use Rattle.check_watch.specs.declared.beat.Link.TheVariants.{Master, Port}
 use Rattle.check_watch.specs.declared.beat.Beat.{Beat}
-use Rattle.check_watch.specs.Plan.{GroupPlan, Sighting, link_number, seen_at}
-use Rattle.check_sides.specs.declared.links.Links.{Links}
-use Rattle.check_sides.specs.declared.links.Links.TheVariants.{Both, Masters, Ports, Each}
-use Rattle.check_sides.specs.Groups.{are_apart, is_alone, shared_plan, shared_past, port_plan, port_past, plan_at, past_at}
-use Rattle.check_sides.specs.Plan.{Plan}
+use Rattle.check_watch.specs.Plan.{IsGroupLink, Plan, Sighting, link_number, seen_at}
+use Rattle.check_watch.specs.declared.links.Links.{Links}
+use Rattle.check_watch.specs.declared.links.Links.TheVariants.{Both, Masters, Ports, Each}
+use Rattle.check_sides.specs.Groups.{are_apart, is_alone, shared_past, port_plan, port_past, plan_at, past_at}
+use Rattle.check_sides.specs.Plan.{IsWatched}
 
 module _ (beat : Beat) (known : ℕ) (lanes : List ℕ) (past : List Sighting) where
   abbrev pub at : Link → Sighting
@@ -65,12 +65,23 @@ apart_from Masters link is = cc
 apart_from Ports link is = cc
 apart_from Each link is = refl
 
+-- a link that is watched, and is not judged by itself, is one of those that are judged together
+pub in_group_watched : (links : Links) (link : Link) → is_alone links link ≡ false → IsWatched links link
+    → IsGroupLink links link
+in_group_watched Both link is has = tt
+in_group_watched Masters (Master m) is has = tt
+in_group_watched Masters (Port p) is has = has
+in_group_watched Ports (Master m) is has = has
+in_group_watched Ports (Port p) is has = tt
+in_group_watched Each (Master m) is has = tt
+in_group_watched Each (Port p) is has = cc
+
 -- ---- what is said of the group of a link
 
-module _ (plan : Plan) (past : List Sighting) (link : Link) (P : GroupPlan → List Sighting → Type 0) where
+module _ (plan : Plan) (past : List Sighting) (link : Link) (P : Plan → List Sighting → Type 0) where
   abbrev said_by : Bool → Type 0
   said_by alone =
-      P (if alone then port_plan plan else shared_plan plan)
+      P (if alone then port_plan plan else plan)
       (if alone then port_past (link_number link) past else shared_past plan.layout.links past)
 
   pub of_group : (alone : Bool) → is_alone plan.layout.links link ≡ alone → said_by alone

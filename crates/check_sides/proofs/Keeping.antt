@@ -1,24 +1,30 @@
 -- What is kept of all links, after one beat more.
 use Rattle.std.proofs.Common.{◌≡◌, ◌∙◌, ℕ, zero, suc, ◌<◌, ◌≤◌, ◌⊎◌, inl, inr, Bool, true, false, List, [], ◌∷◌, length, Some, slice_get, get_or, refl, ap, sym, subst, arith, eqb-true, length-set}
-use Rattle.std.specs.Prelude.{◌==◌, IsTrue, slice_set, ◌↔◌}
+use Rattle.std.specs.Prelude.{◌==◌, IsTrue, Option, Result, slice_set}
 use Rattle.std.proofs.lemmas.Bool.{eqb-false}
 use Rattle.tl_types.proofs.Lists.{slice_get-set_same, slice_get-set_other}
-use Rattle.tl_map.specs.declared.map.Range.{Range}
-use Rattle.check_map.specs.Owner.{IsOwned}
+use Rattle.tl_map.specs.declared.range.Range.{Range}
+use Rattle.tl_map.specs.Owner.{IsOwned}
 use Rattle.check_flight.specs.Side.{bus_at}
 use Rattle.check_watch.specs.declared.beat.Beat.{Beat}
 use Rattle.check_watch.specs.declared.beat.Link.{Link}
 use Rattle.check_watch.specs.declared.beat.Link.TheVariants.{Port}
+use Rattle.check_watch.specs.declared.fault.StepError.{StepError}
+use Rattle.check_watch.specs.declared.seen.Ended.{Ended}
+use Rattle.check_watch.specs.declared.seen.Seen.{Seen}
 use Rattle.check_watch.specs.Lawful as group_lawful
 use Rattle.check_watch.specs.Lawful.{IsAllowed}
 use Rattle.check_watch.specs.Past.{scene_in_group}
 use Rattle.check_watch.specs.Plan.{Sighting, seen_at}
+use Rattle.check_watch.specs.Steps.{IsGroupStep, IsGroupTake, IsStepBy, IsTakeBy}
 use Rattle.check_watch.specs.View as group_view
 use Rattle.check_watch.specs.View.{GroupView}
-use Rattle.check_sides.specs.Groups.{are_apart, everybody, is_alone, shared_past, shared_plan, port_plan, port_past, past_at}
-use Rattle.check_sides.specs.Lawful.{IsFirstRequest, IsLawful, SlaveMayNeedMemory, MayNeedMemory}
+use Rattle.check_sides.specs.Groups.{are_apart, everybody, is_alone, shared_past, port_plan, port_past, past_at}
+use Rattle.check_sides.specs.Lawful.{IsFirstRequest, IsLawful, IsNewcomer, SlaveMayNeedMemory, MayNeedMemory}
 use Rattle.check_sides.specs.Plan.{HasLink, Layout, Plan, bus_of}
+use Rattle.check_sides.specs.Steps.{IsAloneStep, IsAloneTake, IsStepAfter, IsTakeAfter, MayNeedAlone}
 use Rattle.check_sides.specs.View.{IsOwnPort, IsSized, Keeps, KeepsPort, PortView, View}
+use Rattle.check_sides.proofs.Outcomes.{step_as, take_as}
 use Rattle.check_sides.proofs.Grouping.{apart_from, in_group, of_group, port_more, port_other, port_same, shared_more, shared_same}
 
 owns_all : (source : ℕ) → source < 65536 → IsOwned (everybody ∷ []) source
@@ -35,6 +41,12 @@ stands_at : {X : Type 0} (xs : List X) (k : ℕ) (x : X) → k < length xs → x
 stands_at [] k x inside read = absurd (omega (arith, inside))
 stands_at (y ∷ xs) zero x inside read = ap Some (sym read)
 stands_at (y ∷ xs) (suc k) x inside read = stands_at xs k x (omega (arith, inside)) read
+
+-- at a port's link that is judged by itself: its slave serves a request, or a source is new
+pub needed_alone : (plan : Plan) (past : List Sighting) (x : Sighting) → is_alone plan.layout.links x.link ≡ true
+    → (SlaveMayNeedMemory plan past x ⊎ IsFirstRequest (past_at plan.layout.links x.link past) x.beat) → MayNeedMemory plan past x
+needed_alone plan past x alone (inl served) = inl served
+needed_alone plan past x alone (inr first) = inr (alone, first)
 
 -- ---- a port's link that is judged by itself, as the fields have it and as it is seen
 
@@ -92,18 +104,13 @@ module _ (plan : Plan) (past : List Sighting) (view : View) (port : ℕ) (beat :
     in_group plan past (Port port) (λ p l. IsAllowed p (scene_in_group p l at_alone) at_alone) true alone lawful.1,
   )
 
-  pub alone_there : (link : PortView) → slice_get view.ports port ≡ Some link → (P : Type 0)
-      → (P ↔ group_lawful.IsLawfulGroup (port_plan plan) (at_alone ∷ port_past port past))
-      → (P ↔ IsLawful plan (at_alone ∷ past))
-  alone_there link found P is = (λ p. alone_lawful (is.0 p), λ lawful. is.1 (alone_allowed link found lawful))
-
   pub alone_kept : (link new : PortView) → slice_get view.ports port ≡ Some link
       → KeepsPort (port_plan plan) port (at_alone ∷ port_past port past) new
       → Keeps plan (at_alone ∷ past) (record view { ports = slice_set view.ports port new })
   alone_kept link new found here = record {
     suits = record { lawful = keeps.suits.lawful; layout = keeps.suits.layout };
     lawful = alone_lawful here.lawful;
-    shared = subst (λ p. group_view.KeepsGroup (shared_plan plan) p view.shared)
+    shared = subst (λ p. group_view.KeepsGroup plan p view.shared)
         (sym (shared_same beat known lanes past plan.layout.links (Port port) alone)) keeps.shared;
     ports = λ apart other one is. each apart other one is (port == other) refl;
   }
@@ -126,11 +133,32 @@ module _ (plan : Plan) (past : List Sighting) (view : View) (port : ℕ) (beat :
           subst (λ p. KeepsPort (port_plan plan) other p one) (sym (port_other beat known lanes past port other differ))
           (keeps.ports apart other one (sym (slice_get-set_other view.ports port other new differ) ∙ is))
 
+  module _ (link new : PortView) (found : slice_get view.ports port ≡ Some link) where
+    abbrev after_alone : View
+    after_alone = record view { ports = slice_set view.ports port new }
+
+    pub alone_step : (r : Result Seen StepError) → IsAloneStep (port_plan plan) port (port_past port past) at_alone new r
+        → IsStepAfter plan past at_alone after_alone r
+    alone_step r is =
+        step_as _ (λ lawful. lawful) (λ lawful. lawful) (λ kept. kept) (needed_alone plan past at_alone alone) _ r
+        (of_group plan past (Port port)
+        (λ p l. IsStepBy (IsLawful plan (at_alone ∷ past)) (Keeps plan (at_alone ∷ past) after_alone)
+        (group_lawful.seen_in_group p l at_alone) (group_lawful.IsFirstGroupFault p l at_alone) (MayNeedAlone p l at_alone) r)
+        true alone (step_as _ alone_lawful (alone_allowed link found) (alone_kept link new found) (λ need. need) _ r is))
+
+    pub alone_take : {E : Type 0} (r : Result (Option Ended) E)
+        → IsAloneTake (port_plan plan) port (port_past port past) at_alone new r → IsTakeAfter plan past at_alone after_alone r
+    alone_take r is =
+        take_as _ (λ lawful. lawful) (λ lawful. lawful) (λ kept. kept) (needed_alone plan past at_alone alone) r
+        (of_group plan past (Port port)
+        (λ p l. IsTakeBy (IsLawful plan (at_alone ∷ past)) (Keeps plan (at_alone ∷ past) after_alone)
+        (group_lawful.seen_in_group p l at_alone) (MayNeedAlone p l at_alone) r)
+        true alone (take_as _ alone_lawful (alone_allowed link found) (alone_kept link new found) (λ need. need) r is))
+
 -- one port's link is written, and keeps its bus
 pub sized_with : (view : View) (port : ℕ) (link new : PortView) → IsSized view → slice_get view.ports port ≡ Some link
     → new.under.bus ≡ link.under.bus → IsSized (record view { ports = slice_set view.ports port new })
 sized_with view port link new sized found same = record {
-  together = sized.together;
   ports = λ apart. rw (length-set view.ports port new) (sized.ports apart);
   buses = λ other one is. each other one is (port == other) refl;
 }
@@ -152,7 +180,7 @@ sized_with view port link new sized found same = record {
 
 module _ (plan : Plan) (past : List Sighting) (view : View) (x : Sighting) (keeps : Keeps plan past view)
     (shared : is_alone plan.layout.links x.link ≡ false) where
-  pub shared_lawful : group_lawful.IsLawfulGroup (shared_plan plan) (x ∷ shared_past plan.layout.links past)
+  pub shared_lawful : group_lawful.IsLawfulGroup plan (x ∷ shared_past plan.layout.links past)
       → IsLawful plan (x ∷ past)
   shared_lawful here = (
     keeps.lawful,
@@ -160,33 +188,41 @@ module _ (plan : Plan) (past : List Sighting) (view : View) (x : Sighting) (keep
   )
 
   pub shared_allowed : IsLawful plan (x ∷ past)
-      → group_lawful.IsLawfulGroup (shared_plan plan) (x ∷ shared_past plan.layout.links past)
+      → group_lawful.IsLawfulGroup plan (x ∷ shared_past plan.layout.links past)
   shared_allowed lawful = (
     keeps.shared.lawful,
     in_group plan past x.link (λ p l. IsAllowed p (scene_in_group p l x) x) false shared lawful.1,
   )
 
   pub shared_kept : (new : GroupView) (layout : Layout) → layout ≡ plan.layout
-      → group_view.KeepsGroup (shared_plan plan) (x ∷ shared_past plan.layout.links past) new
+      → group_view.KeepsGroup plan (x ∷ shared_past plan.layout.links past) new
       → Keeps plan (x ∷ past) (record { layout = layout; shared = new; ports = view.ports })
   shared_kept new layout is here = record {
     suits = record { lawful = keeps.suits.lawful; layout = is };
     lawful = shared_lawful here.lawful;
-    shared = subst (λ p. group_view.KeepsGroup (shared_plan plan) p new)
+    shared = subst (λ p. group_view.KeepsGroup plan p new)
         (sym (shared_more x.beat x.known x.lanes past plan.layout.links x.link shared)) here;
     ports = λ apart port one found. subst (λ p. KeepsPort (port_plan plan) port p one)
         (sym (port_same x.beat x.known x.lanes past plan.layout.links x.link port shared apart))
         (keeps.ports apart port one found);
   }
 
-  pub lawful_there : (P : Type 0) → (P ↔ group_lawful.IsLawfulGroup (shared_plan plan)
-      (x ∷ shared_past plan.layout.links past)) → (P ↔ IsLawful plan (x ∷ past))
-  lawful_there P is = (λ p. shared_lawful (is.0 p), λ lawful. is.1 (shared_allowed lawful))
+  module _ (new : GroupView) (layout : Layout) (same : layout ≡ plan.layout) where
+    abbrev after_shared : View
+    after_shared = record { layout = layout; shared = new; ports = view.ports }
 
--- ---- what may need memory
+    pub shared_step : (r : Result Seen StepError) → IsGroupStep plan (shared_past plan.layout.links past) x new r
+        → IsStepAfter plan past x after_shared r
+    shared_step r is =
+        of_group plan past x.link
+        (λ p l. IsStepBy (IsLawful plan (x ∷ past)) (Keeps plan (x ∷ past) after_shared) (group_lawful.seen_in_group p l x)
+        (group_lawful.IsFirstGroupFault p l x) (group_lawful.GroupMayNeedMemory p l x ⊎ IsNewcomer plan past x) r) false shared
+        (step_as _ shared_lawful shared_allowed (shared_kept new layout same) (λ need. inl need) _ r is)
 
--- at a port's link that is judged by itself: its slave serves a request, or a source is new
-pub needed_alone : (plan : Plan) (past : List Sighting) (x : Sighting) → is_alone plan.layout.links x.link ≡ true
-    → (SlaveMayNeedMemory plan past x ⊎ IsFirstRequest (past_at plan.layout.links x.link past) x.beat) → MayNeedMemory plan past x
-needed_alone plan past x alone (inl served) = inl served
-needed_alone plan past x alone (inr first) = inr (alone, first)
+    pub shared_take : {E : Type 0} (r : Result (Option Ended) E)
+        → IsGroupTake plan (shared_past plan.layout.links past) x new r → IsTakeAfter plan past x after_shared r
+    shared_take r is =
+        of_group plan past x.link
+        (λ p l. IsTakeBy (IsLawful plan (x ∷ past)) (Keeps plan (x ∷ past) after_shared) (group_lawful.seen_in_group p l x)
+        (group_lawful.GroupMayNeedMemory p l x ⊎ IsNewcomer plan past x) r) false shared
+        (take_as _ shared_lawful shared_allowed (shared_kept new layout same) (λ need. inl need) r is)

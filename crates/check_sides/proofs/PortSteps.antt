@@ -10,7 +10,7 @@ use Rattle.check_watch.specs.declared.beat.Beat.TheVariants.{A, D}
 use Rattle.check_watch.specs.declared.beat.Link.TheVariants.{Port}
 use Rattle.check_watch.specs.Lawful.{IsLawfulGroup}
 use Rattle.check_watch.specs.Past.{scene_found, state, scene_in_group}
-use Rattle.check_watch.specs.Plan.{GroupPlan, Sighting, seen_at, source_of}
+use Rattle.check_watch.specs.Plan.{Plan, Sighting, seen_at, source_of}
 use Rattle.check_watch.specs.Plan.LinkSide.{AtMasters, AtPorts}
 use Rattle.check_watch.specs.Scene.{Scene, accepted, flight_after, once_answered, under_after}
 use Rattle.check_sides.specs.View.{Beyond, IsAfter, KeepsPort, PortView, flight_in, port_scene}
@@ -23,7 +23,7 @@ if_here {X} k p q = go (k == k) refl
     go true is = refl
     go false is = absurd (eqb-false k k is refl)
 
-module _ (plan : GroupPlan) (port : ℕ) (past : List Sighting) (view : PortView) (known : ℕ) (lanes : List ℕ)
+module _ (plan : Plan) (port : ℕ) (past : List Sighting) (view : PortView) (known : ℕ) (lanes : List ℕ)
     (keeps : KeepsPort plan port past view) where
   abbrev pub beyond_of : ℕ → Beyond
   beyond_of source = record {

@@ -12,7 +12,7 @@ use Rattle.check_watch.specs.declared.fault.Reason.TheVariants.{WrongReply}
 use Rattle.check_watch.specs.Faults.{IsFirstReplyReason, IsWrongReply, reason_of}
 use Rattle.check_watch.specs.Lawful.{IsFirstGroupFault, IsFirstReason, TellsReplies}
 use Rattle.check_watch.specs.Past.{scene_in_group}
-use Rattle.check_watch.specs.Plan.{GroupPlan, Sighting}
+use Rattle.check_watch.specs.Plan.{Plan, Sighting}
 use Rattle.check_watch.specs.Scene.{Scene}
 use Rattle.check_sides.specs.View.{KeepsPort, PortView, port_scene}
 use Rattle.check_sides.proofs.PortSteps.{at_port, beyond_of, carried, found}
@@ -32,7 +32,7 @@ wrong_reason here beat known lanes faults.UnknownData is = absurd is
 wrong_reason here beat known lanes faults.NotSent is = absurd is
 wrong_reason here beat known lanes faults.NotGiven is = absurd is
 
-module _ (plan : GroupPlan) (port : ℕ) (past : List Sighting) (view : PortView) (known : ℕ) (lanes : List ℕ)
+module _ (plan : Plan) (port : ℕ) (past : List Sighting) (view : PortView) (known : ℕ) (lanes : List ℕ)
     (keeps : KeepsPort plan port past view) (fault : Fault) where
   abbrev x_of : Beat → Sighting
   x_of beat = at_port plan port past view known lanes keeps beat

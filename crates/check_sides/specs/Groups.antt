@@ -2,16 +2,13 @@
 -- link is a group by itself, and the masters' links are one. Lists of sightings have the latest first. It is this
 -- project's own.
 use Rattle.std.specs.Prelude.{ℕ, Bool, true, false, if◌then◌else◌, List, [], ◌∷◌, filter}
-use Rattle.check_map.specs.declared.sources.Owner.{Owner}
+use Rattle.tl_map.specs.declared.owners.Owner.{Owner}
 use Rattle.check_watch.specs.declared.beat.Link.{Link}
 use Rattle.check_watch.specs.declared.beat.Link.TheVariants.{Master, Port}
-use Rattle.check_watch.specs.declared.links.GroupLinks.{GroupLinks as Together}
-use Rattle.check_watch.specs.declared.links.GroupLinks.TheVariants as together
-use Rattle.check_watch.specs.Plan.{GroupLayout, GroupPlan, Sighting, link_number, is_link}
+use Rattle.check_watch.specs.declared.links.Links.{Links}
+use Rattle.check_watch.specs.declared.links.Links.TheVariants.{Both, Masters, Ports, Each}
+use Rattle.check_watch.specs.Plan.{Plan, Sighting, link_number, is_link}
 use Rattle.check_watch.specs.Plan.LinkSide.{AtPorts}
-use Rattle.check_sides.specs.declared.links.Links.{Links}
-use Rattle.check_sides.specs.declared.links.Links.TheVariants.{Both, Masters, Ports, Each}
-use Rattle.check_sides.specs.Plan.{Layout, Plan}
 
 -- the link is a port's that is judged by itself
 abbrev pub is_alone : Links → Link → Bool
@@ -28,42 +25,7 @@ are_apart Masters = false
 are_apart Ports = false
 are_apart Each = true
 
--- ---- the links that are judged together
-
-abbrev pub together_of : Links → Together
-together_of Both = together.Both
-together_of Masters = together.Masters
-together_of Ports = together.Ports
-together_of Each = together.Masters
-
--- the same system, where these links are watched
-abbrev pub layout_with : Links → GroupLayout → Layout
-layout_with links layout = record {
-  links = links;
-  owners = layout.owners;
-  ports = layout.ports;
-  master_buses = layout.master_buses;
-  port_buses = layout.port_buses;
-}
-
--- the same system, for the links that are judged together
-abbrev pub shared_layout : Layout → GroupLayout
-shared_layout layout = record {
-  links = together_of layout.links;
-  owners = layout.owners;
-  ports = layout.ports;
-  master_buses = layout.master_buses;
-  port_buses = layout.port_buses;
-}
-
--- by which plan they are judged
-abbrev pub shared_plan : Plan → GroupPlan
-shared_plan plan = record {
-  layout = shared_layout plan.layout;
-  resets = plan.resets;
-  wide = plan.wide;
-  route = plan.route;
-}
+-- ---- the links that are judged together, by the plan of the system
 
 abbrev pub is_at_master : Link → Bool
 is_at_master (Master m) = true
@@ -83,10 +45,10 @@ abbrev pub everybody : Owner
 everybody = record { first = 0; count = 65536; stride = 1 }
 
 -- by which plan it is judged: that of ports whose requests are anybody's, with slaves of their own from reset on
-abbrev pub port_plan : Plan → GroupPlan
+abbrev pub port_plan : Plan → Plan
 port_plan plan = record {
   layout = record {
-    links = together.Ports;
+    links = Ports;
     owners = everybody ∷ [];
     ports = plan.layout.ports;
     master_buses = plan.layout.master_buses;
@@ -103,8 +65,8 @@ port_past port past = filter (λ (x : Sighting). is_link x.link AtPorts port) pa
 
 -- ---- the group of a link
 
-abbrev pub plan_at : Plan → Link → GroupPlan
-plan_at plan link = if is_alone plan.layout.links link then port_plan plan else shared_plan plan
+abbrev pub plan_at : Plan → Link → Plan
+plan_at plan link = if is_alone plan.layout.links link then port_plan plan else plan
 
 abbrev pub past_at : Links → Link → List Sighting → List Sighting
 past_at links link past = if is_alone links link then port_past (link_number link) past else shared_past links past

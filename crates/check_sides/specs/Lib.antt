@@ -4,3 +4,4 @@ pub mod Lawful
 pub mod Flights
 pub mod View
 pub mod Pending
+pub mod Steps

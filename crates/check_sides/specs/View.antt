@@ -2,8 +2,8 @@
 use Rattle.std.specs.Prelude.{◌≡◌, ℕ, ◌<◌, ◌≤◌, if◌then◌else◌, ◌==◌, List, [], map, Option, Some, None, IsTrue, IsSomeAnd, length, slice_get}
 use Rattle.std.specs.List.{zip}
 use Rattle.tl_types.specs.Request.{Request}
-use Rattle.tl_map.specs.declared.map.Range.{Range}
-use Rattle.check_map.specs.Owner.{IsOwned}
+use Rattle.tl_map.specs.declared.range.Range.{Range}
+use Rattle.tl_map.specs.Owner.{IsOwned}
 use Rattle.check_cells.specs.Pattern.{Pattern}
 use Rattle.check_beats.specs.Bus.{bus_bytes}
 use Rattle.check_beats.specs.State.{Under, nothing_under}
@@ -16,18 +16,17 @@ use Rattle.check_flight.specs.PortSlave.{PortSlave, accepting, due_answering, ma
 use Rattle.check_flight.specs.Side.{bus_at}
 use Rattle.check_watch.specs.declared.beat.Beat.{Beat}
 use Rattle.check_watch.specs.declared.beat.Link.TheVariants.{Port}
-use Rattle.check_watch.specs.declared.links.GroupLinks.TheVariants as together
+use Rattle.check_watch.specs.declared.links.Links.TheVariants.{Ports}
 use Rattle.check_watch.specs.Lawful as group_lawful
 use Rattle.check_watch.specs.Past as group
-use Rattle.check_watch.specs.Plan.{GroupLayout, GroupPlan, Sighting, source_of}
+use Rattle.check_watch.specs.Plan.{IsPlan, Layout, Plan, Sighting, source_of}
 use Rattle.check_watch.specs.Plan.LinkSide.{AtPorts}
 use Rattle.check_watch.specs.Scene.{Scene, accepted, ask_if, begins_reply, captured, flight_after, once_answered, under_after}
 use Rattle.check_watch.specs.View as group_view
 use Rattle.check_watch.specs.View.{GroupView}
 use Rattle.check_sides.specs.Flights.{flight_of, flight_kept}
-use Rattle.check_sides.specs.Groups.{are_apart, together_of, shared_plan, shared_past, port_plan, port_past}
+use Rattle.check_sides.specs.Groups.{are_apart, shared_past, port_plan, port_past}
 use Rattle.check_sides.specs.Lawful.{IsAskOf, IsLawful, IsNew}
-use Rattle.check_sides.specs.Plan.{Layout, Plan, IsPlan}
 
 -- ---- a port's link that is judged by itself
 
@@ -38,8 +37,8 @@ pub record PortView : Type 0 where
   pub slave : PortSlave
 
 -- a layout is that of such a link, where the ports have these ranges
-pub record IsOwnPort (layout : GroupLayout) (map : List (List Range)) : Type 0 where
-  pub watched : layout.links ≡ together.Ports
+pub record IsOwnPort (layout : Layout) (map : List (List Range)) : Type 0 where
+  pub watched : layout.links ≡ Ports
   pub anybody : (source : ℕ) → source < 65536 → IsOwned layout.owners source
   pub ranges : layout.ports ≡ map
 
@@ -53,7 +52,7 @@ abbrev pub flight_in : PortView → ℕ → Flight
 flight_in view source = flight_of view.flights source
 
 -- what a beat finds there
-abbrev pub port_scene : GroupLayout → ℕ → Beyond → PortView → Beat → Scene
+abbrev pub port_scene : Layout → ℕ → Beyond → PortView → Beat → Scene
 port_scene layout port beyond view beat =
     once_answered layout (Port port) (record {
       under = view.under;
@@ -84,7 +83,7 @@ abbrev pub captured_in : PortView → ReplyHead → ℕ → List ℕ → Pattern
 captured_in view beat known lanes = captured view.under (flight_in view beat.source).turn beat known lanes
 
 -- one beat changes this, and something is kept of each source that has made a request
-pub record IsAfter (layout : GroupLayout) (port : ℕ) (beyond : Beyond) (old new : PortView) (beat : Beat) (known : ℕ)
+pub record IsAfter (layout : Layout) (port : ℕ) (beyond : Beyond) (old new : PortView) (beat : Beat) (known : ℕ)
     (lanes : List ℕ) : Type 0 where
   pub under : new.under ≡ under_after old.under beat known lanes
   pub flights : (source : ℕ) → flight_in new source ≡ (if source_of beat == source
@@ -96,7 +95,7 @@ pub record IsAfter (layout : GroupLayout) (port : ℕ) (beyond : Beyond) (old ne
       → (flight_kept old.flights source ≡ None) × (IsAskOf beat source → ⊥)
 
 -- the beats of a port's link are lawful, and this is kept of them: something of each source that has made a request
-pub record KeepsPort (plan : GroupPlan) (port : ℕ) (past : List Sighting) (view : PortView) : Type 0 where
+pub record KeepsPort (plan : Plan) (port : ℕ) (past : List Sighting) (view : PortView) : Type 0 where
   pub lawful : group_lawful.IsLawfulGroup plan past
   pub under : (group.state plan past).links AtPorts port ≡ view.under
   pub flights : (source : ℕ) → (group.state plan past).flights AtPorts source ≡ flight_in view source
@@ -116,9 +115,8 @@ abbrev pub HaveBuses : List PortView → List Bus → Type 0
 HaveBuses links buses =
     (port : ℕ) (link : PortView) → slice_get links port ≡ Some link → link.under.bus ≡ bus_at buses port
 
--- both are of the same system, and each port's link that is judged by itself has its place and its bus
+-- each port's link that is judged by itself has its place and its bus
 pub record IsSized (view : View) : Type 0 where
-  pub together : view.shared.layout.links ≡ together_of view.layout.links
   pub ports : IsTrue (are_apart view.layout.links) → length view.layout.ports ≤ length view.ports
   pub buses : HaveBuses view.ports view.layout.port_buses
 
@@ -139,7 +137,7 @@ pub record Suits (plan : Plan) (view : View) : Type 0 where
 pub record Keeps (plan : Plan) (past : List Sighting) (view : View) : Type 0 where
   pub suits : Suits plan view
   pub lawful : IsLawful plan past
-  pub shared : group_view.KeepsGroup (shared_plan plan) (shared_past plan.layout.links past) view.shared
+  pub shared : group_view.KeepsGroup plan (shared_past plan.layout.links past) view.shared
   pub ports : IsTrue (are_apart plan.layout.links) → (port : ℕ) (link : PortView)
       → slice_get view.ports port ≡ Some link
       → KeepsPort (port_plan plan) port (port_past port past) link

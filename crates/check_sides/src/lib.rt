@@ -16,7 +16,6 @@
 #![tactic(auto)]
 
 mod flights;
-mod links;
 mod pending;
 mod port;
 mod port_steps;
@@ -24,7 +23,6 @@ mod steps;
 mod watch;
 
 pub use check_watch::{
-    Beat, Change, Ended, Fault, Link, Origin, Reason, Seen, SeenEntry, StepError,
+    Beat, Change, Ended, Fault, Link, Links, Origin, Reason, Seen, SeenEntry, StepError,
 };
-pub use links::Links;
 pub use watch::Watch;

@@ -1,6 +1,6 @@
 //! The judge of one port's link that is judged by itself: which beats are lawful there.
 ghost use Rattle.std.specs.Prelude.{◌≡◌, ◌≤◌, ◌∷◌, ℕ, List, length, false, IsTrue, IfSome, IfNone, option_map};
-ghost use Rattle.tl_map.specs.declared.map.Range.{Range};
+ghost use Rattle.tl_map.specs.declared.range.Range.{Range};
 ghost use Rattle.check_beats.specs.Bus.{bus_bytes};
 ghost use Rattle.check_beats.specs.Form.{FitsAsk, FitsReply};
 ghost use Rattle.check_beats.specs.State.{ends_reply, first_ask, first_reply};
@@ -11,7 +11,7 @@ ghost use Rattle.check_watch.specs.declared.fault.Reason.TheVariants.{WrongReply
 ghost use Rattle.check_watch.specs.Allowed.{IsAllowedAsk, IsAllowedReply, IsMust};
 ghost use Rattle.check_watch.specs.Faults.{HasEndReason, IsFirstAskReason, IsFirstReplyReason, IsWrongReply};
 ghost use Rattle.check_watch.specs.Lawful.{IsFirstGroupFault, IsFirstReason, IsLawfulGroup, seen_in_group};
-ghost use Rattle.check_watch.specs.Plan.{GroupLayout, GroupPlan, Sighting, seen_at};
+ghost use Rattle.check_watch.specs.Plan.{Layout, Plan, Sighting, seen_at};
 ghost use Rattle.check_watch.specs.Scene.{seen};
 ghost use Rattle.check_watch.specs.View.{FitsBeat};
 ghost use Rattle.check_sides.specs.View.{Beyond, IsOwnPort, KeepsPort, captured_in, due_in, fresh_link, port_scene};
@@ -20,10 +20,10 @@ use crate::flights::Flights;
 use check_beats::{AskHead, Bus, ReplyHead, UnderWay};
 use check_cells::Pattern;
 use check_flight::{Answer, PortSlave};
-use check_map::AddressMap;
 use check_watch::{Beat, Fault, Reason, Seen, SeenEntry, answer_reason, due_reason, fault_of};
 use std::alloc::Global;
 use std::marker::Model;
+use tl_map::AddressMap;
 
 /// What a judge keeps of one port's link that it judges by itself. What is in flight there is the link's own, and so is
 /// the slave.
@@ -106,10 +106,10 @@ impl PortLink {
         beat: &AskHead,
         known: u64,
     ) -> Option<Reason>
-        ensures reason { (layout : GroupLayout) (beyond : Beyond) (lanes : List ℕ) → IsOwnPort layout map.now
+        ensures reason { (layout : Layout) (beyond : Beyond) (lanes : List ℕ) → IsOwnPort layout map.now
             → IfSome result (IsFirstAskReason layout (Port port)
             (port_scene layout port beyond self.now (A beat.now)) beat.now known lanes) }
-        ensures allowed { (layout : GroupLayout) (beyond : Beyond) (lanes : List ℕ) → IsOwnPort layout map.now
+        ensures allowed { (layout : Layout) (beyond : Beyond) (lanes : List ℕ) → IsOwnPort layout map.now
             → IfNone result (IsAllowedAsk layout (Port port)
             (port_scene layout port beyond self.now (A beat.now)) beat.now known lanes) }
         ensures fits { IfNone result
@@ -158,10 +158,10 @@ impl PortLink {
         lanes: &[u8],
     ) -> Option<Reason>
         requires lanes { self.now.under.bus ≤ length lanes.now }
-        ensures reason { (layout : GroupLayout) (beyond : Beyond) (map : List (List Range))
+        ensures reason { (layout : Layout) (beyond : Beyond) (map : List (List Range))
             → IsOwnPort layout map → IfSome result (IsFirstReplyReason layout (Port port)
             (port_scene layout port beyond self.now (D beat.now)) beat.now known lanes.now) }
-        ensures allowed { (layout : GroupLayout) (beyond : Beyond) (map : List (List Range))
+        ensures allowed { (layout : Layout) (beyond : Beyond) (map : List (List Range))
             → IsOwnPort layout map → IfNone result (IsAllowedReply layout (Port port)
             (port_scene layout port beyond self.now (D beat.now)) beat.now known lanes.now) }
         ensures fits { IfNone result (FitsReply (first_reply self.now.under.replying) beat.now) }
@@ -191,10 +191,10 @@ impl PortLink {
         lanes: &[u8],
     ) -> Option<Reason>
         requires lanes { self.now.under.bus ≤ length lanes.now }
-        ensures reason { (plan : GroupPlan) (past : List Sighting) → IsOwnPort plan.layout map.now
+        ensures reason { (plan : Plan) (past : List Sighting) → IsOwnPort plan.layout map.now
             → KeepsPort plan port past self.now
             → IfSome result (IsFirstReason plan past (seen_at (Port port) beat.now known lanes.now)) }
-        ensures allowed { (plan : GroupPlan) (past : List Sighting) → IsOwnPort plan.layout map.now
+        ensures allowed { (plan : Plan) (past : List Sighting) → IsOwnPort plan.layout map.now
             → KeepsPort plan port past self.now
             → IfNone result (IsLawfulGroup plan (seen_at (Port port) beat.now known lanes.now ∷ past)) }
         ensures fits { IfNone result (FitsBeat self.now.under beat.now) }
@@ -208,7 +208,7 @@ impl PortLink {
     /// The wrong reply that a beat ends: what the slave expects, and what was captured.
     fn wrong_reply(&self, port: usize, beat: &ReplyHead, known: u64, lanes: &[u8]) -> Fault
         requires lanes { self.now.under.bus ≤ length lanes.now }
-        ensures { (layout : GroupLayout) (beyond : Beyond)
+        ensures { (layout : Layout) (beyond : Beyond)
             → IsFirstReplyReason layout (Port port)
             (port_scene layout port beyond self.now (D beat.now)) beat.now known lanes.now WrongReply
             → IsWrongReply (port_scene layout port beyond self.now (D beat.now))
@@ -239,7 +239,7 @@ impl PortLink {
         reason: Reason,
     ) -> Fault
         requires lanes { self.now.under.bus ≤ length lanes.now }
-        ensures { (plan : GroupPlan) (past : List Sighting) → KeepsPort plan port past self.now
+        ensures { (plan : Plan) (past : List Sighting) → KeepsPort plan port past self.now
             → IsFirstReason plan past (seen_at (Port port) beat.now known lanes.now) reason
             → IsFirstGroupFault plan past (seen_at (Port port) beat.now known lanes.now) result }
     {
@@ -256,7 +256,7 @@ impl PortLink {
     fn seen_reply(&self, port: usize, beat: &ReplyHead, known: u64, lanes: &[u8]) -> Seen
         requires fits { FitsReply (first_reply self.now.under.replying) beat.now }
         requires lanes { self.now.under.bus ≤ length lanes.now }
-        ensures { (layout : GroupLayout) (beyond : Beyond)
+        ensures { (layout : Layout) (beyond : Beyond)
             → result ≡ seen layout (Port port)
             (port_scene layout port beyond self.now (D beat.now)) (D beat.now) known lanes.now }
     {
@@ -286,7 +286,7 @@ impl PortLink {
     pub(crate) fn seen(&self, port: usize, beat: &Beat, known: u64, lanes: &[u8]) -> Seen
         requires fits { FitsBeat self.now.under beat.now }
         requires lanes { self.now.under.bus ≤ length lanes.now }
-        ensures { (plan : GroupPlan) (past : List Sighting) → KeepsPort plan port past self.now
+        ensures { (plan : Plan) (past : List Sighting) → KeepsPort plan port past self.now
             → result ≡ seen_in_group plan past (seen_at (Port port) beat.now known lanes.now) }
     {
         match beat {

@@ -1,5 +1,5 @@
 //! Steps at a port's link that is judged by itself: a beat is judged, and then it is taken.
-ghost use Rattle.std.specs.Prelude.{◌≡◌, ◌≤◌, ◌↔◌, ◌⊎◌, ◌∷◌, ℕ, List, length, Some, None, Err, IsTrue, IfOk, OnOk, OnErr, IfErr, IsOk, IsSome, IsSomeAnd, OnSome, IfSome, IfNone};
+ghost use Rattle.std.specs.Prelude.{◌≡◌, ◌≤◌, ◌⊎◌, ◌∷◌, ℕ, List, length, if◌then◌else◌, Some, None, IsTrue, IfOk, OnOk, OnErr, IsSomeAnd, IfNone};
 ghost use Rattle.check_beats.specs.Form.{FitsAsk, FitsReply};
 ghost use Rattle.check_beats.specs.State.{ask_of, ends_ask, ends_reply, first_ask, first_reply};
 ghost use Rattle.check_flight.specs.Flight.Turn.{Asked};
@@ -7,19 +7,19 @@ ghost use Rattle.check_flight.specs.Flight.{flight_due};
 ghost use Rattle.check_flight.specs.PortSlave.{accepting, answering, due_accepting, due_answering, may_need_to_accept};
 ghost use Rattle.check_watch.specs.declared.beat.Beat.TheVariants.{A, D};
 ghost use Rattle.check_watch.specs.declared.beat.Link.TheVariants.{Port};
-ghost use Rattle.check_watch.specs.Lawful.{IsFirstGroupFault, IsLawfulGroup, OfFault, GroupMayNeedMemory, seen_in_group};
-ghost use Rattle.check_watch.specs.Plan.{GroupLayout, GroupPlan, Sighting, seen_at};
+ghost use Rattle.check_watch.specs.Lawful.{IsLawfulGroup, seen_in_group};
+ghost use Rattle.check_watch.specs.Plan.{Layout, Plan, Sighting, seen_at};
 ghost use Rattle.check_watch.specs.Scene.{ask_by, ended_by};
 ghost use Rattle.check_watch.specs.View.{FitsBeat};
 ghost use Rattle.check_sides.specs.Flights.{IsChanged, IsPut, flight_kept};
-ghost use Rattle.check_sides.specs.Lawful.{IsFirstRequest};
+ghost use Rattle.check_sides.specs.Steps.{IsAloneStep, IsAloneTake, MayNeedAlone};
 ghost use Rattle.check_sides.specs.View.{Beyond, IsAfter, IsOwnPort, KeepsPort, MayNeedToAnswer, answered_in};
 
 use crate::port::PortLink;
 use check_beats::{AskHead, ReplyHead};
-use check_map::AddressMap;
 use check_watch::{Beat, Ended, Seen, StepError};
 use std::alloc::{AllocError, Global};
+use tl_map::AddressMap;
 
 impl PortLink {
     /// The request that a beat ends is in flight from then on, and the slave accepts it. If there is no memory, nothing is
@@ -50,20 +50,20 @@ impl PortLink {
             .accept(alloc, port, &self.under, beat, lanes, &mut self.slave)
     }
 
-    /// Takes a beat of a request: whether it ends it. If there is no memory, nothing is changed.
+    /// Takes a beat of a request: what it ends. If there is no memory, nothing is changed.
     fn admit_ask(
         &mut self,
         alloc: Global,
         port: usize,
         beat: &AskHead,
         lanes: &[u8],
-    ) -> Result<bool, AllocError>
+    ) -> Result<Ended, AllocError>
         requires fits { FitsAsk self.old.under.bus (first_ask self.old.under.asking) beat.now }
         requires lanes { self.old.under.bus ≤ length lanes.now }
-        ensures after { (layout : GroupLayout) (beyond : Beyond) (known : ℕ)
+        ensures after { (layout : Layout) (beyond : Beyond) (known : ℕ)
             → OnOk result (IsAfter layout port beyond self.old self.new (A beat.now) known lanes.now) }
-        ensures ends { IfOk result (λ ends.
-            ends ≡ ends_ask self.old.under.bus self.old.under.asking beat.now) }
+        ensures ends { let under = self.old.under in
+            IfOk result (λ e. e ≡ (if ends_ask under.bus under.asking beat.now then Ended.Ask else Ended.Part)) }
         ensures needed { OnErr result ((flight_kept self.old.flights beat.now.source ≡ None)
             ⊎ IsSomeAnd (ask_by self.old.under beat.now lanes.now)
             (λ ask. IsTrue (may_need_to_accept self.old.slave ask))) }
@@ -74,11 +74,11 @@ impl PortLink {
         if !self.under.ends_ask(beat) {
             self.flights.begin(source, port)?;
             self.under.take_ask_part(beat, lanes);
-            return Ok(false);
+            return Ok(Ended::Part);
         }
         self.accept(alloc, port, beat, lanes)?;
         self.under.take_ask_end();
-        Ok(true)
+        Ok(Ended::Ask)
     }
 
     /// The slave answers the request in flight of a source, if its reply begins. If there is no memory, nothing is changed.
@@ -97,7 +97,7 @@ impl PortLink {
         Ok(())
     }
 
-    /// Takes a beat of a reply: whether it ends it. If there is no memory, nothing is changed.
+    /// Takes a beat of a reply: what it ends. If there is no memory, nothing is changed.
     fn admit_reply(
         &mut self,
         alloc: Global,
@@ -105,13 +105,13 @@ impl PortLink {
         beat: &ReplyHead,
         known: u64,
         lanes: &[u8],
-    ) -> Result<bool, AllocError>
+    ) -> Result<Ended, AllocError>
         requires fits { FitsReply (first_reply self.old.under.replying) beat.now }
         requires lanes { self.old.under.bus ≤ length lanes.now }
-        ensures after { (layout : GroupLayout) (beyond : Beyond)
+        ensures after { (layout : Layout) (beyond : Beyond)
             → OnOk result (IsAfter layout port beyond self.old self.new (D beat.now) known lanes.now) }
-        ensures ends { IfOk result (λ ends.
-            ends ≡ ends_reply self.old.under.bus self.old.under.replying beat.now) }
+        ensures ends { let under = self.old.under in
+            IfOk result (λ e. e ≡ (if ends_reply under.bus under.replying beat.now then Ended.Reply else Ended.Part)) }
         ensures needed { OnErr result (MayNeedToAnswer self.old beat.now.source) }
         ensures err { OnErr result (self.new ≡ self.old) }
         ensures bus { self.new.under.bus ≡ self.old.under.bus }
@@ -120,11 +120,11 @@ impl PortLink {
         self.answer_first(alloc, port, source)?;
         if !self.under.ends_reply(beat) {
             self.under.take_reply_part(beat, known, lanes);
-            return Ok(false);
+            return Ok(Ended::Part);
         }
         self.under.take_reply_end();
         self.flights.clear(source);
-        Ok(true)
+        Ok(Ended::Reply)
     }
 
     /// Takes one beat more, which is lawful: what it ends. If there is no memory, nothing is changed.
@@ -138,30 +138,23 @@ impl PortLink {
     ) -> Result<Ended, AllocError>
         requires fits { FitsBeat self.old.under beat.now }
         requires lanes { self.old.under.bus ≤ length lanes.now }
-        ensures keeps { (plan : GroupPlan) (past : List Sighting) → KeepsPort plan port past self.old
+        ensures keeps { (plan : Plan) (past : List Sighting) → KeepsPort plan port past self.old
             → IsLawfulGroup plan (seen_at (Port port) beat.now known lanes.now ∷ past)
             → OnOk result
             (KeepsPort plan port (seen_at (Port port) beat.now known lanes.now ∷ past) self.new) }
-        ensures ended { (plan : GroupPlan) (past : List Sighting) → KeepsPort plan port past self.old
+        ensures ended { (plan : Plan) (past : List Sighting) → KeepsPort plan port past self.old
             → IsLawfulGroup plan (seen_at (Port port) beat.now known lanes.now ∷ past)
             → IfOk result (λ e.
             e ≡ ended_by (seen_in_group plan past (seen_at (Port port) beat.now known lanes.now))) }
-        ensures needed { (plan : GroupPlan) (past : List Sighting) → KeepsPort plan port past self.old
+        ensures needed { (plan : Plan) (past : List Sighting) → KeepsPort plan port past self.old
             → IsLawfulGroup plan (seen_at (Port port) beat.now known lanes.now ∷ past)
-            → OnErr result (GroupMayNeedMemory plan past (seen_at (Port port) beat.now known lanes.now)
-            ⊎ IsFirstRequest past beat.now) }
+            → OnErr result (MayNeedAlone plan past (seen_at (Port port) beat.now known lanes.now)) }
         ensures err { OnErr result (self.new ≡ self.old) }
         ensures bus { self.new.under.bus ≡ self.old.under.bus }
     {
         match beat {
-            Beat::A(beat) => {
-                let ends = self.admit_ask(alloc, port, beat, lanes)?;
-                Ok(if ends { Ended::Ask } else { Ended::Part })
-            }
-            Beat::D(beat) => {
-                let ends = self.admit_reply(alloc, port, beat, known, lanes)?;
-                Ok(if ends { Ended::Reply } else { Ended::Part })
-            }
+            Beat::A(beat) => self.admit_ask(alloc, port, beat, lanes),
+            Beat::D(beat) => self.admit_reply(alloc, port, beat, known, lanes),
         }
     }
 
@@ -177,26 +170,10 @@ impl PortLink {
         lanes: &[u8],
     ) -> Result<Option<Ended>, AllocError>
         requires lanes { self.old.under.bus ≤ length lanes.now }
-        ensures lawful { (plan : GroupPlan) (past : List Sighting) → IsOwnPort plan.layout map.now
+        ensures taken { (plan : Plan) (past : List Sighting) → IsOwnPort plan.layout map.now
             → KeepsPort plan port past self.old
-            → IfOk result (λ end.
-            IsSome end ↔ IsLawfulGroup plan (seen_at (Port port) beat.now known lanes.now ∷ past)) }
-        ensures keeps { (plan : GroupPlan) (past : List Sighting) → IsOwnPort plan.layout map.now
-            → KeepsPort plan port past self.old
-            → IfOk result (λ end. OnSome end
-            (KeepsPort plan port (seen_at (Port port) beat.now known lanes.now ∷ past) self.new)) }
-        ensures ended { (plan : GroupPlan) (past : List Sighting) → IsOwnPort plan.layout map.now
-            → KeepsPort plan port past self.old
-            → IfOk result (λ end. IfSome end (λ e.
-            e ≡ ended_by (seen_in_group plan past (seen_at (Port port) beat.now known lanes.now)))) }
+            → IsAloneTake plan port past (seen_at (Port port) beat.now known lanes.now) self.new result }
         ensures none { IfOk result (λ end. IfNone end (self.new ≡ self.old)) }
-        ensures memory { (plan : GroupPlan) (past : List Sighting) → IsOwnPort plan.layout map.now
-            → KeepsPort plan port past self.old
-            → OnErr result (IsLawfulGroup plan (seen_at (Port port) beat.now known lanes.now ∷ past)) }
-        ensures needed { (plan : GroupPlan) (past : List Sighting) → IsOwnPort plan.layout map.now
-            → KeepsPort plan port past self.old
-            → OnErr result (GroupMayNeedMemory plan past (seen_at (Port port) beat.now known lanes.now)
-            ⊎ IsFirstRequest past beat.now) }
         ensures err { OnErr result (self.new ≡ self.old) }
         ensures bus { self.new.under.bus ≡ self.old.under.bus }
     {
@@ -218,28 +195,9 @@ impl PortLink {
         lanes: &[u8],
     ) -> Result<Seen, StepError>
         requires lanes { self.old.under.bus ≤ length lanes.now }
-        ensures lawful { (plan : GroupPlan) (past : List Sighting) → IsOwnPort plan.layout map.now
-            → KeepsPort plan port past self.old → (result ≡ Err StepError.Memory → ⊥)
-            → IsOk result ↔ IsLawfulGroup plan (seen_at (Port port) beat.now known lanes.now ∷ past) }
-        ensures keeps { (plan : GroupPlan) (past : List Sighting) → IsOwnPort plan.layout map.now
+        ensures judged { (plan : Plan) (past : List Sighting) → IsOwnPort plan.layout map.now
             → KeepsPort plan port past self.old
-            → OnOk result
-            (KeepsPort plan port (seen_at (Port port) beat.now known lanes.now ∷ past) self.new) }
-        ensures seen { (plan : GroupPlan) (past : List Sighting) → IsOwnPort plan.layout map.now
-            → KeepsPort plan port past self.old
-            → IfOk result (λ s.
-            s ≡ seen_in_group plan past (seen_at (Port port) beat.now known lanes.now)) }
-        ensures fault { (plan : GroupPlan) (past : List Sighting) → IsOwnPort plan.layout map.now
-            → KeepsPort plan port past self.old
-            → IfErr result
-            (OfFault (IsFirstGroupFault plan past (seen_at (Port port) beat.now known lanes.now))) }
-        ensures memory { (plan : GroupPlan) (past : List Sighting) → IsOwnPort plan.layout map.now
-            → KeepsPort plan port past self.old → result ≡ Err StepError.Memory
-            → IsLawfulGroup plan (seen_at (Port port) beat.now known lanes.now ∷ past) }
-        ensures needed { (plan : GroupPlan) (past : List Sighting) → IsOwnPort plan.layout map.now
-            → KeepsPort plan port past self.old → result ≡ Err StepError.Memory
-            → GroupMayNeedMemory plan past (seen_at (Port port) beat.now known lanes.now)
-            ⊎ IsFirstRequest past beat.now }
+            → IsAloneStep plan port past (seen_at (Port port) beat.now known lanes.now) self.new result }
         ensures err { OnErr result (self.new ≡ self.old) }
         ensures bus { self.new.under.bus ≡ self.old.under.bus }
     {

@@ -1,11 +1,10 @@
 //! Steps of the judge: a beat is judged in the group of its link.
-ghost use Rattle.std.specs.Prelude.{◌≡◌, ◌≤◌, ◌↔◌, ◌∷◌, List, length, Err, IfOk, IsOk, OnOk, OnErr, IfErr, IfSome, IsSome, IfNone, OnSome, true, false};
+ghost use Rattle.std.specs.Prelude.{◌≡◌, List, OnErr, IfNone, IfOk, true, false};
 ghost use Rattle.check_watch.specs.declared.beat.Link.TheVariants.{Port};
 ghost use Rattle.check_watch.specs.Plan.{Sighting, seen_at};
-ghost use Rattle.check_watch.specs.Scene.{ended_by};
 ghost use Rattle.check_sides.specs.Groups.{is_alone};
-ghost use Rattle.check_sides.specs.Lawful.{IsFirstFault, IsLawful, MayNeedMemory, OfFault, SlaveMayNeedMemory, what_is_seen};
-ghost use Rattle.check_sides.specs.Plan.{Plan, HasLink, IsWatched, bus_of};
+ghost use Rattle.check_sides.specs.Plan.{CanCross, Plan};
+ghost use Rattle.check_sides.specs.Steps.{IsStepAfter, IsTakeAfter};
 ghost use Rattle.check_sides.specs.View.{Keeps};
 
 use crate::watch::Watch;
@@ -25,23 +24,9 @@ impl Watch {
     ) -> Result<Seen, StepError>
         requires here { link ≡ Port port }
         requires alone { is_alone self.old.layout.links link ≡ true }
-        requires known { HasLink self.old.layout link }
-        requires lanes { bus_of self.old.layout link ≤ length lanes.now }
-        ensures lawful { (plan : Plan) (past : List Sighting) → Keeps plan past self.old
-            → (result ≡ Err StepError.Memory → ⊥)
-            → IsOk result ↔ IsLawful plan (seen_at link beat.now known lanes.now ∷ past) }
-        ensures keeps { (plan : Plan) (past : List Sighting) → Keeps plan past self.old
-            → OnOk result (Keeps plan (seen_at link beat.now known lanes.now ∷ past) self.new) }
-        ensures seen { (plan : Plan) (past : List Sighting) → Keeps plan past self.old
-            → IfOk result (λ s. s ≡ what_is_seen plan past (seen_at link beat.now known lanes.now)) }
-        ensures fault { (plan : Plan) (past : List Sighting) → Keeps plan past self.old
-            → IfErr result (OfFault (IsFirstFault plan past (seen_at link beat.now known lanes.now))) }
-        ensures memory { (plan : Plan) (past : List Sighting) → Keeps plan past self.old
-            → result ≡ Err StepError.Memory
-            → IsLawful plan (seen_at link beat.now known lanes.now ∷ past) }
-        ensures needed { (plan : Plan) (past : List Sighting) → Keeps plan past self.old
-            → result ≡ Err StepError.Memory
-            → MayNeedMemory plan past (seen_at link beat.now known lanes.now) }
+        requires beat { CanCross self.old.layout link lanes.now }
+        ensures judged { (plan : Plan) (past : List Sighting) → Keeps plan past self.old
+            → IsStepAfter plan past (seen_at link beat.now known lanes.now) self.new result }
         ensures err { OnErr result (self.new ≡ self.old) }
         ensures layout { self.new.layout ≡ self.old.layout }
     {
@@ -62,22 +47,10 @@ impl Watch {
     ) -> Result<Option<Ended>, AllocError>
         requires here { link ≡ Port port }
         requires alone { is_alone self.old.layout.links link ≡ true }
-        requires known { HasLink self.old.layout link }
-        requires lanes { bus_of self.old.layout link ≤ length lanes.now }
-        ensures lawful { (plan : Plan) (past : List Sighting) → Keeps plan past self.old
-            → IfOk result (λ end.
-            IsSome end ↔ IsLawful plan (seen_at link beat.now known lanes.now ∷ past)) }
-        ensures keeps { (plan : Plan) (past : List Sighting) → Keeps plan past self.old
-            → IfOk result (λ end. OnSome end
-            (Keeps plan (seen_at link beat.now known lanes.now ∷ past) self.new)) }
-        ensures ended { (plan : Plan) (past : List Sighting) → Keeps plan past self.old
-            → IfOk result (λ end. IfSome end (λ e.
-            e ≡ ended_by (what_is_seen plan past (seen_at link beat.now known lanes.now)))) }
+        requires beat { CanCross self.old.layout link lanes.now }
+        ensures taken { (plan : Plan) (past : List Sighting) → Keeps plan past self.old
+            → IsTakeAfter plan past (seen_at link beat.now known lanes.now) self.new result }
         ensures none { IfOk result (λ end. IfNone end (self.new ≡ self.old)) }
-        ensures memory { (plan : Plan) (past : List Sighting) → Keeps plan past self.old
-            → OnErr result (IsLawful plan (seen_at link beat.now known lanes.now ∷ past)) }
-        ensures needed { (plan : Plan) (past : List Sighting) → Keeps plan past self.old
-            → OnErr result (MayNeedMemory plan past (seen_at link beat.now known lanes.now)) }
         ensures err { OnErr result (self.new ≡ self.old) }
         ensures layout { self.new.layout ≡ self.old.layout }
     {
@@ -96,24 +69,9 @@ impl Watch {
         lanes: &[u8],
     ) -> Result<Seen, StepError>
         requires shared { is_alone self.old.layout.links link ≡ false }
-        requires known { HasLink self.old.layout link }
-        requires watched { IsWatched self.old.layout.links link }
-        requires lanes { bus_of self.old.layout link ≤ length lanes.now }
-        ensures lawful { (plan : Plan) (past : List Sighting) → Keeps plan past self.old
-            → (result ≡ Err StepError.Memory → ⊥)
-            → IsOk result ↔ IsLawful plan (seen_at link beat.now known lanes.now ∷ past) }
-        ensures keeps { (plan : Plan) (past : List Sighting) → Keeps plan past self.old
-            → OnOk result (Keeps plan (seen_at link beat.now known lanes.now ∷ past) self.new) }
-        ensures seen { (plan : Plan) (past : List Sighting) → Keeps plan past self.old
-            → IfOk result (λ s. s ≡ what_is_seen plan past (seen_at link beat.now known lanes.now)) }
-        ensures fault { (plan : Plan) (past : List Sighting) → Keeps plan past self.old
-            → IfErr result (OfFault (IsFirstFault plan past (seen_at link beat.now known lanes.now))) }
-        ensures memory { (plan : Plan) (past : List Sighting) → Keeps plan past self.old
-            → result ≡ Err StepError.Memory
-            → IsLawful plan (seen_at link beat.now known lanes.now ∷ past) }
-        ensures needed { (plan : Plan) (past : List Sighting) → Keeps plan past self.old
-            → result ≡ Err StepError.Memory
-            → SlaveMayNeedMemory plan past (seen_at link beat.now known lanes.now) }
+        requires beat { CanCross self.old.layout link lanes.now }
+        ensures judged { (plan : Plan) (past : List Sighting) → Keeps plan past self.old
+            → IsStepAfter plan past (seen_at link beat.now known lanes.now) self.new result }
         ensures err { OnErr result (self.new ≡ self.old) }
         ensures layout { self.new.layout ≡ self.old.layout }
     {
@@ -130,23 +88,10 @@ impl Watch {
         lanes: &[u8],
     ) -> Result<Option<Ended>, AllocError>
         requires shared { is_alone self.old.layout.links link ≡ false }
-        requires known { HasLink self.old.layout link }
-        requires watched { IsWatched self.old.layout.links link }
-        requires lanes { bus_of self.old.layout link ≤ length lanes.now }
-        ensures lawful { (plan : Plan) (past : List Sighting) → Keeps plan past self.old
-            → IfOk result (λ end.
-            IsSome end ↔ IsLawful plan (seen_at link beat.now known lanes.now ∷ past)) }
-        ensures keeps { (plan : Plan) (past : List Sighting) → Keeps plan past self.old
-            → IfOk result (λ end. OnSome end
-            (Keeps plan (seen_at link beat.now known lanes.now ∷ past) self.new)) }
-        ensures ended { (plan : Plan) (past : List Sighting) → Keeps plan past self.old
-            → IfOk result (λ end. IfSome end (λ e.
-            e ≡ ended_by (what_is_seen plan past (seen_at link beat.now known lanes.now)))) }
+        requires beat { CanCross self.old.layout link lanes.now }
+        ensures taken { (plan : Plan) (past : List Sighting) → Keeps plan past self.old
+            → IsTakeAfter plan past (seen_at link beat.now known lanes.now) self.new result }
         ensures none { IfOk result (λ end. IfNone end (self.new ≡ self.old)) }
-        ensures memory { (plan : Plan) (past : List Sighting) → Keeps plan past self.old
-            → OnErr result (IsLawful plan (seen_at link beat.now known lanes.now ∷ past)) }
-        ensures needed { (plan : Plan) (past : List Sighting) → Keeps plan past self.old
-            → OnErr result (SlaveMayNeedMemory plan past (seen_at link beat.now known lanes.now)) }
         ensures err { OnErr result (self.new ≡ self.old) }
         ensures layout { self.new.layout ≡ self.old.layout }
     {
@@ -167,23 +112,10 @@ impl Watch {
         known: u64,
         lanes: &[u8],
     ) -> Result<Option<Ended>, AllocError>
-        requires known { HasLink self.old.layout link }
-        requires watched { IsWatched self.old.layout.links link }
-        requires lanes { bus_of self.old.layout link ≤ length lanes.now }
-        ensures lawful { (plan : Plan) (past : List Sighting) → Keeps plan past self.old
-            → IfOk result (λ end.
-            IsSome end ↔ IsLawful plan (seen_at link beat.now known lanes.now ∷ past)) }
-        ensures keeps { (plan : Plan) (past : List Sighting) → Keeps plan past self.old
-            → IfOk result (λ end. OnSome end
-            (Keeps plan (seen_at link beat.now known lanes.now ∷ past) self.new)) }
-        ensures ended { (plan : Plan) (past : List Sighting) → Keeps plan past self.old
-            → IfOk result (λ end. IfSome end (λ e.
-            e ≡ ended_by (what_is_seen plan past (seen_at link beat.now known lanes.now)))) }
+        requires { CanCross self.old.layout link lanes.now }
+        ensures taken { (plan : Plan) (past : List Sighting) → Keeps plan past self.old
+            → IsTakeAfter plan past (seen_at link beat.now known lanes.now) self.new result }
         ensures none { IfOk result (λ end. IfNone end (self.new ≡ self.old)) }
-        ensures memory { (plan : Plan) (past : List Sighting) → Keeps plan past self.old
-            → OnErr result (IsLawful plan (seen_at link beat.now known lanes.now ∷ past)) }
-        ensures needed { (plan : Plan) (past : List Sighting) → Keeps plan past self.old
-            → OnErr result (MayNeedMemory plan past (seen_at link beat.now known lanes.now)) }
         ensures err { OnErr result (self.new ≡ self.old) }
         ensures layout { self.new.layout ≡ self.old.layout }
     {
@@ -205,24 +137,9 @@ impl Watch {
         known: u64,
         lanes: &[u8],
     ) -> Result<Seen, StepError>
-        requires known { HasLink self.old.layout link }
-        requires watched { IsWatched self.old.layout.links link }
-        requires lanes { bus_of self.old.layout link ≤ length lanes.now }
-        ensures lawful { (plan : Plan) (past : List Sighting) → Keeps plan past self.old
-            → (result ≡ Err StepError.Memory → ⊥)
-            → IsOk result ↔ IsLawful plan (seen_at link beat.now known lanes.now ∷ past) }
-        ensures keeps { (plan : Plan) (past : List Sighting) → Keeps plan past self.old
-            → OnOk result (Keeps plan (seen_at link beat.now known lanes.now ∷ past) self.new) }
-        ensures seen { (plan : Plan) (past : List Sighting) → Keeps plan past self.old
-            → IfOk result (λ s. s ≡ what_is_seen plan past (seen_at link beat.now known lanes.now)) }
-        ensures fault { (plan : Plan) (past : List Sighting) → Keeps plan past self.old
-            → IfErr result (OfFault (IsFirstFault plan past (seen_at link beat.now known lanes.now))) }
-        ensures memory { (plan : Plan) (past : List Sighting) → Keeps plan past self.old
-            → result ≡ Err StepError.Memory
-            → IsLawful plan (seen_at link beat.now known lanes.now ∷ past) }
-        ensures needed { (plan : Plan) (past : List Sighting) → Keeps plan past self.old
-            → result ≡ Err StepError.Memory
-            → MayNeedMemory plan past (seen_at link beat.now known lanes.now) }
+        requires { CanCross self.old.layout link lanes.now }
+        ensures judged { (plan : Plan) (past : List Sighting) → Keeps plan past self.old
+            → IsStepAfter plan past (seen_at link beat.now known lanes.now) self.new result }
         ensures err { OnErr result (self.new ≡ self.old) }
         ensures layout { self.new.layout ≡ self.old.layout }
     {

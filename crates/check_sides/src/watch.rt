@@ -2,57 +2,43 @@
 ghost use Rattle.std.specs.Prelude.{◌≡◌, ◌↔◌, ◌+◌, [], length, IsTrue, IfOk, IfSome, IfNone, true, false};
 ghost use Rattle.check_beats.specs.Bus.{bus_bytes};
 ghost use Rattle.check_watch.specs.declared.beat.Link.TheVariants.{Port};
-ghost use Rattle.check_sides.specs.Groups.{is_alone, together_of};
+ghost use Rattle.check_sides.specs.Groups.{is_alone};
 ghost use Rattle.check_sides.specs.Plan.{Plan, IsPlan, HasLink, IsWatched, bus_of};
 ghost use Rattle.check_sides.specs.View.{IsSized, Keeps, fresh_links};
 
-use crate::links::Links;
 use crate::port::PortLink;
 use check_beats::Bus;
 use check_flight::PortSlave;
-use check_map::{AddressMap, SourceOwners};
-use check_watch::{GroupWatch as Together, Link};
+use check_watch::{GroupWatch, Link, Links};
 use std::alloc::{AllocError, Global};
 use std::marker::Model;
+use tl_map::{AddressMap, SourceOwners};
 
 /// What a judge keeps of the beats so far.
 #[derive(Drop)]
 pub struct Watch {
-    pub(crate) links: Links,
     /// Of the links that are judged together.
-    pub(crate) shared: Together,
+    pub(crate) shared: GroupWatch,
     /// Of each port's link that is judged by itself; nothing if none is.
     pub(crate) ports: Vec<PortLink>,
 }
 
 impl Model for Watch {
-    ghost use Rattle.check_sides.specs.Groups.{layout_with};
     ghost use Rattle.check_sides.specs.View.{View, IsSized};
 
     ghost Value = { View };
 
     ghost view = { λ w. record {
-      layout = layout_with w.links w.shared.layout;
+      layout = w.shared.layout;
       shared = w.shared;
       ports = w.ports.items;
     } };
 
     ghost invariant = { λ w. IsSized (record {
-      layout = layout_with w.links w.shared.layout;
+      layout = w.shared.layout;
       shared = w.shared;
       ports = w.ports.items;
     }) };
-}
-
-/// The words of `check_watch` for the links that are judged together.
-fn together_of(links: Links) -> check_watch::GroupLinks
-    ensures { result ≡ together_of links }
-{
-    match links {
-        Links::Both => check_watch::GroupLinks::Both,
-        Links::Masters | Links::Each => check_watch::GroupLinks::Masters,
-        Links::Ports => check_watch::GroupLinks::Ports,
-    }
 }
 
 /// The links of these buses with these slaves, before any beat.
@@ -108,21 +94,8 @@ impl Watch {
             → plan.resets ≡ slaves.items → IfOk result (Keeps plan []) }
     {
         let ports = links_of(alloc, &port_buses, own)?;
-        let together = together_of(links);
-        let shared = Together::new(
-            alloc,
-            together,
-            map,
-            sources,
-            master_buses,
-            port_buses,
-            slaves,
-        )?;
-        Ok(Watch {
-            links,
-            shared,
-            ports,
-        })
+        let shared = GroupWatch::new(alloc, links, map, sources, master_buses, port_buses, slaves)?;
+        Ok(Watch { shared, ports })
     }
 
     /// Whether the crossbar has a link, and it is watched.
@@ -130,7 +103,7 @@ impl Watch {
         ensures { IsTrue result
             ↔ (HasLink self.now.layout link × IsWatched self.now.layout.links link) }
     {
-        match (link, self.links) {
+        match (link, self.shared.links()) {
             (Link::Master(master), Links::Both | Links::Masters | Links::Each) => {
                 master < self.shared.sources().masters()
             }
@@ -145,7 +118,7 @@ impl Watch {
     pub fn links(&self) -> Links
         ensures { result ≡ self.now.layout.links }
     {
-        self.links
+        self.shared.links()
     }
 
     /// The wide sources of the masters.
@@ -175,7 +148,7 @@ impl Watch {
         ensures { IsSized self.now }
     {
         // an invariant is known once a field is used
-        let _ = &self.links;
+        let _ = &self.ports;
     }
 
     /// The port whose link this is, if it is judged by itself.
@@ -184,7 +157,7 @@ impl Watch {
             × (is_alone self.now.layout.links link ≡ true)) }
         ensures shared { IfNone result (is_alone self.now.layout.links link ≡ false) }
     {
-        match (link, self.links) {
+        match (link, self.shared.links()) {
             (Link::Port(port), Links::Each) => Some(port),
             (Link::Master(_) | Link::Port(_), _) => None,
         }

@@ -2,6 +2,5 @@ pub mod Key
 pub mod Names
 pub mod Wanted
 pub mod Wires
-pub mod Nearest
 pub mod Source
 pub mod Found

@@ -5,7 +5,7 @@ use Rattle.std.specs.Str.{bytes_eq}
 use Rattle.check_vcd.specs.Codes.{coded_in}
 use Rattle.check_vcd.specs.Header.{Var}
 use Rattle.check_vcd.specs.declared.codes.Coded.{Coded}
-use Rattle.check_signals.specs.Nearest.{nearest}
+use Rattle.check_keys.specs.Nearest.{nearest}
 use Rattle.check_signals.specs.Wanted.{bits_fit, count_of}
 use Rattle.check_signals.specs.Wires.{Wire, first_of, wires_called}
 use Rattle.check_signals.specs.declared.signal_fault.SignalOwner.{SignalOwner}

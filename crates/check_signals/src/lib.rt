@@ -12,7 +12,6 @@ mod fault;
 mod kept;
 mod keys;
 mod links;
-mod nearest;
 mod resolve;
 mod signal_fault;
 mod source;

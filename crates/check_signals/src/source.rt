@@ -6,10 +6,10 @@ ghost use Rattle.check_signals.specs.Source.{Twice as TwiceIn};
 ghost use Rattle.check_signals.specs.Wires.{IsInside, wire_view};
 ghost use Rattle.check_signals.specs.declared.signal_fault.SignalFault.TheVariants.{Memory};
 
-use crate::nearest::nearest;
 use crate::signal_fault::{SignalFault, SignalOwner};
 use crate::wanted::Wanted;
 use crate::wires::{Wire, first_wire, has_another, sought};
+use check_keys::nearest;
 use check_vcd::{MAX_WORD, Var};
 use std::alloc::{AllocError, Global};
 
@@ -85,11 +85,23 @@ fn copy_if_any(alloc: Global, text: Option<&[u8]>) -> Result<Option<Vec<u8>>, Al
     }
 }
 
+/// The names of the signals that a header declares.
+fn names_of(alloc: Global, vars: &[Var]) -> Result<Vec<&[u8]>, AllocError>
+    ensures { IfOk result (λ names. map (λ name. name.now) names.items ≡ map (λ var. var.name) (map var_view vars.now)) }
+{
+    let mut names = Vec::new(alloc);
+    for var in vars {
+        names.push(var.name.as_slice())?;
+    }
+    Ok(names)
+}
+
 /// That there is no such signal, with the nearest name that there is.
 fn describe(alloc: Global, vars: &[Var], asked: WantedSignal<'_>) -> Result<SignalFault, AllocError>
     ensures { IfOk result (λ fault. fault_view fault ≡ missing_in (map var_view vars.now) (asked_view asked.entry)) }
 {
-    let near = copy_if_any(alloc, nearest(alloc, vars, asked.name)?)?;
+    let names = names_of(alloc, vars)?;
+    let near = copy_if_any(alloc, nearest(alloc, &names, asked.name)?)?;
     let name = Vec::from_slice(alloc, asked.name)?;
     Ok(SignalFault::NoSignal(asked.owner, name, near))
 }

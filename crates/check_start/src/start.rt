@@ -1,6 +1,6 @@
 //! The judge of a system's beats, before any.
 ghost use Rattle.std.specs.Prelude.{◌≡◌, ◌≢◌, ◌≤◌, [], length, map, option_map, string_bytes, Err, IfOk, IfErr, Ok};
-ghost use Rattle.check_map.specs.declared.limits.TheConstants.{MAX_JUDGED_MASTERS, MAX_JUDGED_PORTS};
+ghost use Rattle.tl_map.specs.declared.limits.TheConstants.{MAX_JUDGED_MASTERS, MAX_JUDGED_PORTS};
 ghost use Rattle.check_keys.specs.declared.fault.SystemFault.TheVariants.{Memory};
 ghost use Rattle.check_description.specs.Port.{port_view};
 ghost use Rattle.check_description.specs.Master.{master_view};
@@ -17,10 +17,10 @@ use check_description::{Described, Description, Master, Port};
 use check_flight::{Order, PortSlave};
 use check_keys::SystemFault;
 use check_lines::Names;
-use check_map::{AddressMap, SourceOwners};
 use check_sides::{Links, Watch};
 use check_unanswered::Pending;
 use std::alloc::{AllocError, Global};
+use tl_map::{AddressMap, SourceOwners};
 
 /// By what terms beats are judged: which links are watched, and when the requests of a port take effect for which the
 /// system does not say it.

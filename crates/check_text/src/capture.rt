@@ -11,12 +11,12 @@ use crate::fault::{CaptureFault, Verdict};
 use crate::header::is_header;
 use crate::out::finish;
 use crate::rows::judge_rows;
-use check_map::{MAX_JUDGED_MASTERS, MAX_JUDGED_PORTS};
 use check_records::Records;
 use check_review::Judge;
 use check_rows::Buses;
 use std::alloc::Global;
 use std::io::{Read, Write};
+use tl_map::{MAX_JUDGED_MASTERS, MAX_JUDGED_PORTS};
 use tl_streams::LimitedWriter;
 
 /// Reads the header.

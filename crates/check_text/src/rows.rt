@@ -11,12 +11,12 @@ ghost use Rattle.check_text.specs.Rows.{AllTaken, GoesOn, IsJudged, IsNext, answ
 use crate::fault::{CaptureFault, Verdict};
 use crate::out::write_long;
 use check_beats::MAX_LANES;
-use check_map::{MAX_JUDGED_MASTERS, MAX_JUDGED_PORTS};
 use check_records::Records;
 use check_review::{Ending, Judge, Refusal, Stop, Unlawful};
 use check_rows::{Buses, Row, RowFault, read_bare_row, read_row};
 use std::alloc::{AllocError, Global};
 use std::io::{Read, Write};
+use tl_map::{MAX_JUDGED_MASTERS, MAX_JUDGED_PORTS};
 use tl_streams::LimitedWriter;
 
 /// Why no more rows are taken.

@@ -4,7 +4,7 @@ use Rattle.std.specs.Prelude.{slice_range}
 use Rattle.check_watch.specs.declared.beat.Beat.{Beat}
 use Rattle.check_watch.specs.declared.beat.Beat.TheVariants.{A, D}
 use Rattle.check_beats.specs.State.{ask_of, ends_ask}
-use Rattle.check_watch.specs.Plan.{GroupPlan, Sighting, bus_in_group, side_of, wide_of}
+use Rattle.check_watch.specs.Plan.{Plan, Sighting, bus_of, side_of, wide_of}
 use Rattle.check_watch.specs.Scene.{begins_reply}
 use Rattle.check_watch_laws.specs.Crossed.{AskSeen, ask_ended, asking_at, asks, next_answered, replies, replying_at}
 use Rattle.check_watch_laws.specs.Memories.{ask_answered, is_for}
@@ -33,16 +33,16 @@ picked is_one made (x ∷ []) few = go (is_one x)
     go false = omega arith
 picked is_one made (x ∷ y ∷ seen) few = absurd (omega (arith, few))
 
-one_moment : (plan : GroupPlan) (port : ℕ) (past : List Sighting) (x : Sighting) (beat : Beat)
+one_moment : (plan : Plan) (port : ℕ) (past : List Sighting) (x : Sighting) (beat : Beat)
     → length (moments_with plan port past x beat) ≤ 1
 one_moment plan port past x (A beat) =
     picked (is_for plan port) (moment_of Accepts (wide_of plan x.link beat.source)) (ask_ended plan.layout past x (A beat))
-    (go (ends_ask (bus_in_group plan.layout x.link) (asking_at plan.layout x.link past) beat))
+    (go (ends_ask (bus_of plan.layout x.link) (asking_at plan.layout x.link past) beat))
   where
     go : (b : Bool) → length {A = AskSeen} (if b then record {
       link = x.link;
-      ask = ask_of (bus_in_group plan.layout x.link) (asking_at plan.layout x.link past) beat
-          (take (bus_in_group plan.layout x.link) x.lanes);
+      ask = ask_of (bus_of plan.layout x.link) (asking_at plan.layout x.link past) beat
+          (take (bus_of plan.layout x.link) x.lanes);
     } ∷ [] else []) ≤ 1
     go true = omega arith
     go false = omega arith
@@ -85,7 +85,7 @@ pub fronts_none : (P : List RequestMoment → Type 0) → P [] → OfFronts P []
 fronts_none P holds [] later is = holds
 fronts_none P holds (moment ∷ before) later is = absurd (cc)
 
-pub fronts_more : (plan : GroupPlan) (port : ℕ) (past : List Sighting) (x : Sighting) (P : List RequestMoment → Type 0)
+pub fronts_more : (plan : Plan) (port : ℕ) (past : List Sighting) (x : Sighting) (P : List RequestMoment → Type 0)
     → OfFronts P (moments plan port past) → P (moments plan port (x ∷ past)) → OfFronts P (moments plan port (x ∷ past))
 fronts_more plan port past x P earlier now before later is =
     ⊎_elim

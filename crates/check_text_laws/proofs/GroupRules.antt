@@ -6,10 +6,9 @@ use Rattle.check_watch_laws.specs.Rules as group
 use Rattle.check_watch_laws.proofs.Back as group_back
 use Rattle.check_watch_laws.proofs.Rules as group_rules
 use Rattle.check_watch_laws.proofs.Whole as group_whole
-use Rattle.check_sides.specs.Groups.{is_alone, plan_at, past_at, shared_plan, shared_past, port_plan, port_past}
+use Rattle.check_sides.specs.Groups.{is_alone, plan_at, past_at, shared_past, port_plan, port_past}
 use Rattle.check_sides.specs.Lawful.{IsLawful}
 use Rattle.check_sides.specs.Plan.{Plan, IsPlan}
-use Rattle.check_sides.proofs.Fresh.{shared_is_plan}
 use Rattle.check_sides.proofs.Grouping.{apart_from, in_group, of_group}
 use Rattle.check_text_laws.specs.Groups.{EachGroupKeepsRules, AreAllSeenWhole, AreAllWatched}
 use Rattle.check_text_laws.proofs.Parts.{alone_port, master_shared, port_part, shared_part, together}
@@ -23,7 +22,7 @@ always_keeps plan past is watched lawful link = go (is_alone plan.layout.links l
         → group.AlwaysKeepsRules (plan_at plan link) (past_at plan.layout.links link past)
     go false so =
         of_group plan past link (λ p l. group.AlwaysKeepsRules p l) false so
-        (group_rules.always_keeps (shared_plan plan) (shared_past plan.layout.links past) (shared_is_plan plan is)
+        (group_rules.always_keeps plan (shared_past plan.layout.links past) is
         (shared_watched plan past watched) (shared_part plan past lawful))
     go true so =
         of_group plan past link (λ p l. group.AlwaysKeepsRules p l) true so
@@ -38,7 +37,7 @@ seen_whole plan past lawful link = go (is_alone plan.layout.links link) refl
         → group.AreSeenWhole (plan_at plan link) (past_at plan.layout.links link past)
     go false so =
         of_group plan past link (λ p l. group.AreSeenWhole p l) false so
-        (group_whole.seen_whole (shared_plan plan) (shared_past plan.layout.links past) (shared_part plan past lawful))
+        (group_whole.seen_whole plan (shared_past plan.layout.links past) (shared_part plan past lawful))
     go true so =
         of_group plan past link (λ p l. group.AreSeenWhole p l) true so
         (group_whole.seen_whole (port_plan plan) (port_past (link_number link) past)
@@ -48,8 +47,8 @@ pub rules_make_lawful : (plan : Plan) (past : List Sighting) → IsPlan plan →
     → AreAllSeenWhole plan past → EachGroupKeepsRules plan past → IsLawful plan past
 rules_make_lawful plan past is watched seen always =
     together plan past (record {
-      shared = group_back.rules_make_lawful (shared_plan plan) (shared_past plan.layout.links past)
-          (shared_is_plan plan is) (shared_watched plan past watched)
+      shared = group_back.rules_make_lawful plan (shared_past plan.layout.links past)
+          is (shared_watched plan past watched)
           (in_group plan past (Master 0) (λ p l. group.AreSeenWhole p l) false
           (master_shared plan.layout.links 0) (seen (Master 0)))
           (in_group plan past (Master 0) (λ p l. group.AlwaysKeepsRules p l) false

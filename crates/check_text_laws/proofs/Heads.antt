@@ -3,8 +3,8 @@ use Rattle.std.proofs.Common.{◌≡◌, ◌≢◌, ◌∙◌, ◌⊎◌, inl, i
 use Rattle.std.specs.Prelude.{nat_lt}
 use Rattle.std.specs.List.{AllByRecursion}
 use Rattle.tl_types.specs.Request.{Request}
-use Rattle.check_map.specs.Ranges.{IsLawfulAddressMap, RoutesBytesByRanges}
-use Rattle.check_map.proofs.Routing.{one_port}
+use Rattle.tl_map.specs.Map.{IsLawfulAddressMap, RoutesBytes}
+use Rattle.tl_map.proofs.Routing.{one_port}
 use Rattle.check_beats.specs.Message.{op_of}
 use Rattle.check_flight.specs.Crossing.{Crossing}
 use Rattle.check_flight.specs.Crossing.Crossing.{Waiting, Crossed, Given}
@@ -12,10 +12,9 @@ use Rattle.check_flight.specs.Flight.{Turn}
 use Rattle.check_flight.specs.Flight.Turn.{Idle, Asking, Asked}
 use Rattle.check_watch.specs.Lawful.{IsLawfulGroup as IsGroupLawful}
 use Rattle.check_watch.specs.Past.{State, state}
-use Rattle.check_watch.specs.Plan.{IsGroupPlan, GroupPlan, LinkSide, Sighting}
+use Rattle.check_watch.specs.Plan.{IsPlan, Plan, LinkSide, Sighting}
 use Rattle.check_watch.specs.Plan.LinkSide.{AtMasters, AtPorts}
 use Rattle.check_watch.specs.declared.beat.Link.TheVariants.{Port}
-use Rattle.check_watch.specs.declared.links.GroupLinks.TheVariants as together
 use Rattle.check_watch_laws.specs.Crossed.{AreWatched as AreGroupWatched}
 use Rattle.check_watch_laws.specs.Memories.{port_for, side_by, side_for}
 use Rattle.check_watch_laws.specs.Messages.{IsInPlace}
@@ -30,10 +29,8 @@ use Rattle.check_order_laws.specs.Open.{IsOpen}
 use Rattle.check_order_laws.proofs.Asked.{IsAskedAt, asked_if_open}
 use Rattle.check_order_laws.proofs.InTurn.{none_open, open_after, open_here, open_more, open_then, open_there}
 use Rattle.check_order_laws.proofs.Turning.{are_open}
-use Rattle.check_sides.specs.declared.links.Links.{Links}
-use Rattle.check_sides.specs.declared.links.Links.TheVariants.{Both, Masters, Ports, Each}
-use Rattle.check_sides.specs.Groups.{shared_plan, together_of}
-use Rattle.check_sides.specs.Plan.{Plan}
+use Rattle.check_watch.specs.declared.links.Links.{Links}
+use Rattle.check_watch.specs.declared.links.Links.TheVariants.{Both, Masters, Ports, Each}
 use Rattle.check_coverage.specs.Flights.{InFlight}
 use Rattle.check_text_laws.proofs.Finding.{found}
 use Rattle.check_text_laws.proofs.Kept.{AreKept, IsKeptAs, IsWholeAs}
@@ -61,8 +58,8 @@ open_of all wide ask is =
 -- ---- at which side
 
 -- a port's slave is seen at the side that is counted; or both sides are watched, and it is seen at the port's link
-sides : (links : Links) (has_link : Bool) → (side_by (together_of links) has_link ≡ counted_side links)
-    ⊎ ((together_of links ≡ together.Both) × (side_by (together_of links) has_link ≡ AtPorts)
+sides : (links : Links) (has_link : Bool) → (side_by links has_link ≡ counted_side links)
+    ⊎ ((links ≡ Both) × (side_by links has_link ≡ AtPorts)
     × (counted_side links ≡ AtMasters))
 sides Both true = inr (refl, refl, refl)
 sides Both false = inl refl
@@ -92,7 +89,7 @@ some_pending : (there : Turn) (number : ℕ) (ask : Request) → there ≡ Asked
 some_pending there number ask is none =
     let no : pending AtPorts (Asked number ask) ≡ [] = sym (ap (λ t. pending AtPorts t) is) ∙ none in absurd (cc)
 
-module _ (plan : GroupPlan) (wide : ℕ) (story : Story) (there : Turn) (number : ℕ) (ask : Request)
+module _ (plan : Plan) (wide : ℕ) (story : Story) (there : Turn) (number : ℕ) (ask : Request)
     (is : there ≡ Asked number ask) where
   sent_out : (n : ℕ) (sent : Request) (out : Bool) (crossing : Crossing) → IsOut plan wide story out sent crossing there
       → IsSentAs (Asked n sent) ask
@@ -128,13 +125,13 @@ pub record IsHead (port : ℕ) (kept : Option InFlight) (ask : Request) : Type 0
   pub address : ask.address ≡ flight.first.address
   pub size : ask.size ≡ flight.first.size
 
-module _ (plan : Plan) (is_plan : IsGroupPlan (shared_plan plan)) (map : IsLawfulAddressMap plan.layout.ports)
-    (past : List Sighting) (watched : AreGroupWatched (shared_plan plan).layout past)
-    (lawful : IsGroupLawful (shared_plan plan) past) (flights : List InFlight)
-    (kept : AreKept plan (state (shared_plan plan) past) (counted_side plan.layout.links) flights) (port wide : ℕ)
-    (ask : Request) (is_open : IsOpen (moments (shared_plan plan) port past) wide ask) where
-  abbrev p : GroupPlan
-  p = shared_plan plan
+module _ (plan : Plan) (is_plan : IsPlan plan) (map : IsLawfulAddressMap plan.layout.ports)
+    (past : List Sighting) (watched : AreGroupWatched plan.layout past)
+    (lawful : IsGroupLawful plan past) (flights : List InFlight)
+    (kept : AreKept plan (state plan past) (counted_side plan.layout.links) flights) (port wide : ℕ)
+    (ask : Request) (is_open : IsOpen (moments plan port past) wide ask) where
+  abbrev p : Plan
+  p = plan
 
   abbrev s : State
   s = state p past
@@ -148,7 +145,7 @@ module _ (plan : Plan) (is_plan : IsGroupPlan (shared_plan plan)) (map : IsLawfu
 
   -- a port's link has requests of the port alone
   routed : (number : ℕ) → (s.flights AtPorts wide).turn ≡ Asked number ask
-      → RoutesBytesByRanges plan.layout.ports ask.address ask.size number
+      → RoutesBytes plan.layout.ports ask.address ask.size number
   routed number is =
       let step = in_step p past lawful AtPorts wide in
       last_of_all (IsInPlace p.layout) step.done (record { link = Port number; ask = ask })
@@ -181,7 +178,7 @@ module _ (plan : Plan) (is_plan : IsGroupPlan (shared_plan plan)) (map : IsLawfu
         address = whole.address;
         size = whole.size;
       })
-      (λ (both : (together_of plan.layout.links ≡ together.Both) × (side ≡ AtPorts)
+      (λ (both : (plan.layout.links ≡ Both) × (side ≡ AtPorts)
       × (counted_side plan.layout.links ≡ AtMasters)).
       let there : (s.flights AtPorts wide).turn ≡ Asked at.number ask =
       subst (λ sd. (s.flights sd wide).turn ≡ Asked at.number ask) both.1 at.turn_is in

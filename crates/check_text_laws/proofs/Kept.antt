@@ -14,7 +14,7 @@ use Rattle.check_flight.specs.Flight.Turn.{Idle, Asking, Asked}
 use Rattle.check_flight.specs.declared.answer.Answer.{Answer}
 use Rattle.check_watch.specs.Allowed.{IsAllowedAsk, IsAllowedReply, IsMust}
 use Rattle.check_watch.specs.Past.{State, scene_of, state_after}
-use Rattle.check_watch.specs.Plan.{GroupLayout, GroupPlan, LinkSide, is_link, is_of, link_number, same_side, side_of, wide_of}
+use Rattle.check_watch.specs.Plan.{Layout, Plan, LinkSide, is_link, is_of, link_number, same_side, side_of, wide_of}
 use Rattle.check_watch.specs.Scene.{Scene, ask_by, captured, ended_by, flight_after, is_given, must_by, seen, seen_ask, seen_reply, turn_by, under_after}
 use Rattle.check_watch.specs.declared.beat.Beat.TheVariants.{A, D}
 use Rattle.check_watch.specs.declared.beat.Link.{Link}
@@ -24,8 +24,6 @@ use Rattle.check_watch.proofs.InFlight.{ask_at, idle_or_asking, of_is, reply_at}
 use Rattle.check_watch_laws.proofs.Heads.{first_after}
 use Rattle.check_watch_laws.proofs.Links.{same_link}
 use Rattle.check_watch_laws.proofs.Turns.{AsksFly, asked_at, asking_same, is_link_by, open_before, same_side-refl, true_or_false}
-use Rattle.check_sides.specs.Groups.{shared_plan}
-use Rattle.check_sides.specs.Plan.{Plan}
 use Rattle.check_coverage.specs.Flights.{InFlight, begun, flights_after, grown, ends_an_ask, ends_a_reply}
 use Rattle.check_text_laws.proofs.Finding.{found, left, other_left, other_stays, own_begins, own_goes_on, own_left}
 
@@ -57,7 +55,7 @@ pub record AreKept (plan : Plan) (s : State) (side : LinkSide) (flights : List I
   pub turns : (wide : ℕ) → IsKeptAs plan (s.flights side wide).turn (found wide flights)
   pub begins : (link : Link) (b : AskBegun) → side_of link ≡ side
       → (s.links (side_of link) (link_number link)).asking ≡ Some b
-      → IsBegunAs plan b.first (found (wide_of (shared_plan plan) link b.first.source) flights)
+      → IsBegunAs plan b.first (found (wide_of plan link b.first.source) flights)
 
 asked_or_asking : (m n : ℕ) (ask : Request) → Asked m ask ≡ Asking n → ⊥
 asked_or_asking m n ask same = subst IsAsked same tt
@@ -88,7 +86,7 @@ must_some true crossing due reply is = some_of (given crossing) _ is
 must_some false crossing due reply is = some_of due _ is
 
 -- the last beat of a lawful reply ends it
-pub reply_whole : (layout : GroupLayout) (link : Link) (scene : Scene) (beat : ReplyHead) (known : ℕ) (lanes : List ℕ)
+pub reply_whole : (layout : Layout) (link : Link) (scene : Scene) (beat : ReplyHead) (known : ℕ) (lanes : List ℕ)
     → IsAllowedReply layout link scene beat known lanes
     → ends_a_reply (ended_by (seen layout link scene (D beat) known lanes))
     ≡ ends_reply scene.under.bus scene.under.replying beat
@@ -110,10 +108,10 @@ reply_whole layout link scene beat known lanes allowed = go (ends_reply scene.un
 
 -- ---- one beat more
 
-module _ (plan : Plan) (s : State) (busy : AsksFly (shared_plan plan) s) (flights : List InFlight) (link : Link) (known : ℕ)
+module _ (plan : Plan) (s : State) (busy : AsksFly plan s) (flights : List InFlight) (link : Link) (known : ℕ)
     (lanes : List ℕ) (kept : AreKept plan s (side_of link) flights) (bus : ℕ) where
-  abbrev p : GroupPlan
-  p = shared_plan plan
+  abbrev p : Plan
+  p = plan
 
   abbrev under : Under
   under = s.links (side_of link) (link_number link)
@@ -124,7 +122,7 @@ module _ (plan : Plan) (s : State) (busy : AsksFly (shared_plan plan) s) (flight
   other_source own wide is = sym (ap (λ b. b && (own == wide)) (same_side-refl (side_of link))) ∙ is
 
   module _ (beat : AskHead)
-      (allowed : IsAllowedAsk (shared_plan plan).layout link (scene_of (shared_plan plan) s link (A beat)) beat known lanes)
+      (allowed : IsAllowedAsk plan.layout link (scene_of plan s link (A beat)) beat known lanes)
       (end : Ended) (end_is : ends_an_ask end ≡ ends_ask under.bus under.asking beat) where
     abbrev own : ℕ
     own = wide_of p link beat.source
@@ -251,21 +249,21 @@ module _ (plan : Plan) (s : State) (busy : AsksFly (shared_plan plan) s) (flight
             (sym (other_stays plan own beat flights bus end (wide_of p at b.first.source) (elsewhere at b side is here)))
             (kept.begins at b side is)
 
-    pub ask_kept : AreKept plan (state_after (shared_plan plan) s (ask_at link known lanes beat)) (side_of link)
-        (flights_after plan bus (wide_of (shared_plan plan) link beat.source) flights (A beat) end)
+    pub ask_kept : AreKept plan (state_after plan s (ask_at link known lanes beat)) (side_of link)
+        (flights_after plan bus (wide_of plan link beat.source) flights (A beat) end)
     ask_kept = record { turns = ask_turns; begins = ask_begun }
 
   -- a reply answers what is in flight
   pub reply_answers : (beat : ReplyHead)
-      → IsAllowedReply (shared_plan plan).layout link (scene_of (shared_plan plan) s link (D beat)) beat known lanes
+      → IsAllowedReply plan.layout link (scene_of plan s link (D beat)) beat known lanes
       → (ask : Request)
-      × ((s.flights (side_of link) (wide_of (shared_plan plan) link beat.source)).turn ≡ Asked (link_number link) ask)
+      × ((s.flights (side_of link) (wide_of plan link beat.source)).turn ≡ Asked (link_number link) ask)
   reply_answers beat allowed =
       let is = asked_at (link_number link) (s.flights (side_of link) (wide_of p link beat.source)).turn _ allowed.answers in
       (is.0, is.1)
 
   module _ (beat : ReplyHead)
-      (allowed : IsAllowedReply (shared_plan plan).layout link (scene_of (shared_plan plan) s link (D beat)) beat known lanes)
+      (allowed : IsAllowedReply plan.layout link (scene_of plan s link (D beat)) beat known lanes)
       (end : Ended) (end_is : ends_a_reply end ≡ ends_reply under.bus under.replying beat) where
     abbrev owner : ℕ
     owner = wide_of p link beat.source
@@ -337,8 +335,8 @@ module _ (plan : Plan) (s : State) (busy : AsksFly (shared_plan plan) s) (flight
             stays ends (ap (λ (l : Link). (s.links (side_of l) (link_number l)).asking) (sym (same_link link at here)) ∙ is)
         go false here is = stays ends is
 
-    pub reply_kept : AreKept plan (state_after (shared_plan plan) s (reply_at link known lanes beat)) (side_of link)
-        (flights_after plan bus (wide_of (shared_plan plan) link beat.source) flights (D beat) end)
+    pub reply_kept : AreKept plan (state_after plan s (reply_at link known lanes beat)) (side_of link)
+        (flights_after plan bus (wide_of plan link beat.source) flights (D beat) end)
     reply_kept =
         subst (λ e. AreKept plan replied (side_of link) (rest e)) (sym end_is)
         (record {

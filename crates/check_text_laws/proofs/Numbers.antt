@@ -6,12 +6,11 @@ use Rattle.check_beats.specs.State.{ends_reply}
 use Rattle.check_beats.specs.declared.beat.AskHead.{AskHead}
 use Rattle.check_beats.specs.declared.beat.ReplyHead.{ReplyHead}
 use Rattle.check_watch.specs.Past.{scene_in_group, state}
-use Rattle.check_watch.specs.Plan.{GroupLayout}
+use Rattle.check_watch.specs.Plan.{Layout}
 use Rattle.check_watch.specs.Scene.{Scene, ask_by, captured, ended_by, is_given, must_by, seen, seen_ask, seen_reply}
 use Rattle.check_watch.specs.declared.beat.Beat.{Beat}
 use Rattle.check_watch.specs.declared.beat.Beat.TheVariants.{A, D}
 use Rattle.check_watch.specs.declared.beat.Link.{Link}
-use Rattle.check_watch.specs.declared.beat.Link.TheVariants.{Master, Port}
 use Rattle.check_watch.specs.declared.seen.Ended.{Ended}
 use Rattle.check_watch.specs.declared.seen.Ended.TheVariants as ends
 use Rattle.check_watch.specs.declared.seen.Seen.TheVariants.{Part}
@@ -20,11 +19,9 @@ use Rattle.check_flight.specs.Flight.Turn.{Idle, Asking, Asked}
 use Rattle.check_flight.specs.declared.answer.Answer.{Answer}
 use Rattle.check_cells.specs.Pattern.{Pattern}
 use Rattle.tl_types.specs.Request.{Request}
-use Rattle.check_sides.specs.Groups.{past_at, plan_at, shared_past, shared_plan}
+use Rattle.check_sides.specs.Groups.{past_at, plan_at, shared_past}
 use Rattle.check_sides.specs.Lawful.{IsLawful}
 use Rattle.check_sides.specs.Plan.{Plan, bus_of}
-use Rattle.check_sides.specs.declared.links.Links.{Links}
-use Rattle.check_sides.specs.declared.links.Links.TheVariants.{Both, Masters, Ports, Each}
 use Rattle.check_rows.specs.Row.{SeenRow}
 use Rattle.check_unanswered.specs.Began.{beats_of}
 use Rattle.check_coverage.specs.declared.bin.Bin.{Bin}
@@ -149,7 +146,7 @@ ends_no_ask (Asking n) reply must = refl
 ends_no_ask (Asked n ask) reply None = refl
 ends_no_ask (Asked n ask) reply (Some answer) = refl
 
-ends_own : (layout : GroupLayout) (link : Link) (here : Scene) (beat : Beat) (known : ℕ) (lanes : List ℕ)
+ends_own : (layout : Layout) (link : Link) (here : Scene) (beat : Beat) (known : ℕ) (lanes : List ℕ)
     → EndsOwn beat (ended_by (seen layout link here beat known lanes))
 ends_own layout link here (A beat) known lanes = ends_no_reply (ask_by here.under beat lanes)
 ends_own layout link here (D beat) known lanes = go (ends_reply here.under.bus here.under.replying beat)
@@ -271,7 +268,7 @@ module _ (plan : Plan) (before : List SeenRow) (row : SeenRow) where
       has counted (A beat) is = tt
       has counted (D beat) is =
           answered_kept plan before row lawful.0 now
-          (subst (λ sd. AreKept plan (state (shared_plan plan) (shared_past plan.layout.links (beats_of before))) sd now)
+          (subst (λ sd. AreKept plan (state plan (shared_past plan.layout.links (beats_of before))) sd now)
           (sym (counted_there plan.layout.links row.sighting.link counted)) (are_kept plan before lawful.0))
           (counted_together plan.layout.links row.sighting.link counted) lawful beat is
 

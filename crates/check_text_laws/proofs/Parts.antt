@@ -9,9 +9,9 @@ use Rattle.check_watch.specs.Lawful as group_lawful
 use Rattle.check_watch.specs.Lawful.{IsAllowed}
 use Rattle.check_watch.specs.Past.{scene_in_group}
 use Rattle.check_watch.specs.Plan.{Sighting, link_number, seen_at}
-use Rattle.check_sides.specs.declared.links.Links.{Links}
-use Rattle.check_sides.specs.declared.links.Links.TheVariants.{Both, Masters, Ports, Each}
-use Rattle.check_sides.specs.Groups.{are_apart, is_alone, plan_at, past_at, shared_plan, shared_past, port_plan, port_past}
+use Rattle.check_watch.specs.declared.links.Links.{Links}
+use Rattle.check_watch.specs.declared.links.Links.TheVariants.{Both, Masters, Ports, Each}
+use Rattle.check_sides.specs.Groups.{are_apart, is_alone, plan_at, past_at, shared_past, port_plan, port_past}
 use Rattle.check_sides.specs.Lawful.{IsLawful}
 use Rattle.check_sides.specs.Plan.{Plan}
 use Rattle.check_sides.proofs.Fresh.{shared_none}
@@ -44,20 +44,20 @@ IsNext plan past x =
     IsAllowed (plan_at plan x.link) (scene_in_group (plan_at plan x.link) (past_at plan.layout.links x.link past) x) x
 
 shared_next : (plan : Plan) (past : List Sighting) (x : Sighting) (b : Bool) → is_alone plan.layout.links x.link ≡ b
-    → group_lawful.IsLawfulGroup (shared_plan plan) (shared_past plan.layout.links past) → IsNext plan past x
-    → group_lawful.IsLawfulGroup (shared_plan plan) (shared_past plan.layout.links (x ∷ past))
+    → group_lawful.IsLawfulGroup plan (shared_past plan.layout.links past) → IsNext plan past x
+    → group_lawful.IsLawfulGroup plan (shared_past plan.layout.links (x ∷ past))
 shared_next plan past x false is before next =
-    subst (λ l. group_lawful.IsLawfulGroup (shared_plan plan) l)
+    subst (λ l. group_lawful.IsLawfulGroup plan l)
     (sym (shared_more x.beat x.known x.lanes past plan.layout.links x.link is))
     (before, in_group plan past x.link (λ p l. IsAllowed p (scene_in_group p l x) x) false is next)
 shared_next plan past x true is before next =
-    subst (λ l. group_lawful.IsLawfulGroup (shared_plan plan) l)
+    subst (λ l. group_lawful.IsLawfulGroup plan l)
     (sym (shared_same x.beat x.known x.lanes past plan.layout.links x.link is)) before
 
 pub shared_part : (plan : Plan) (past : List Sighting) → IsLawful plan past
-    → group_lawful.IsLawfulGroup (shared_plan plan) (shared_past plan.layout.links past)
+    → group_lawful.IsLawfulGroup plan (shared_past plan.layout.links past)
 shared_part plan [] lawful =
-    subst (λ l. group_lawful.IsLawfulGroup (shared_plan plan) l) (sym (shared_none plan.layout.links)) tt
+    subst (λ l. group_lawful.IsLawfulGroup plan l) (sym (shared_none plan.layout.links)) tt
 shared_part plan (x ∷ past) lawful =
     shared_next plan past x (is_alone plan.layout.links x.link) refl (shared_part plan past lawful.0) lawful.1
 
@@ -94,7 +94,7 @@ module _ (plan : Plan) (apart : IsTrue (are_apart plan.layout.links)) (port : �
 
 -- the beats of each group are lawful
 pub record AreLawfulApart (plan : Plan) (past : List Sighting) : Type 0 where
-  pub shared : group_lawful.IsLawfulGroup (shared_plan plan) (shared_past plan.layout.links past)
+  pub shared : group_lawful.IsLawfulGroup plan (shared_past plan.layout.links past)
   pub ports : IsTrue (are_apart plan.layout.links) → (port : ℕ)
       → group_lawful.IsLawfulGroup (port_plan plan) (port_past port past)
 
@@ -129,8 +129,8 @@ before : (plan : Plan) (past : List Sighting) (beat : Beat) (known : ℕ) (lanes
     → AreLawfulApart plan past × IsNext plan past (seen_at link beat known lanes)
 before plan past beat known lanes link false is after =
     let x : Sighting = seen_at link beat known lanes in
-    let shared : group_lawful.IsLawfulGroup (shared_plan plan) (x ∷ shared_past plan.layout.links past) =
-    subst (λ l. group_lawful.IsLawfulGroup (shared_plan plan) l)
+    let shared : group_lawful.IsLawfulGroup plan (x ∷ shared_past plan.layout.links past) =
+    subst (λ l. group_lawful.IsLawfulGroup plan l)
     (shared_more beat known lanes past plan.layout.links link is) after.shared in (
       record {
         shared = shared.0;
@@ -147,7 +147,7 @@ before plan past beat known lanes (Port q) true is after =
     subst (λ l. group_lawful.IsLawfulGroup (port_plan plan) l) (port_more beat known lanes past q)
     (after.ports (apart_from plan.layout.links (Port q) is) q) in (
       record {
-        shared = subst (λ l. group_lawful.IsLawfulGroup (shared_plan plan) l)
+        shared = subst (λ l. group_lawful.IsLawfulGroup plan l)
             (shared_same beat known lanes past plan.layout.links (Port q) is) after.shared;
         ports = λ are port. ports_before plan past beat known lanes q port (after.ports are port);
       },
@@ -188,15 +188,15 @@ each_apart : (links : Links) → links ≡ Each → IsTrue (are_apart links)
 each_apart links is = rw is refl
 
 pub with_each : (plan : Plan) (past : List Sighting) → plan.layout.links ≡ Each
-    → IsLawful plan past ↔ (group_lawful.IsLawfulGroup (shared_plan plan) (shared_past Each past)
+    → IsLawful plan past ↔ (group_lawful.IsLawfulGroup plan (shared_past Each past)
     × ((port : ℕ) → group_lawful.IsLawfulGroup (port_plan plan) (port_past port past)))
 with_each plan past is = (
   λ lawful. (
-    subst (λ k. group_lawful.IsLawfulGroup (shared_plan plan) (shared_past k past)) is (shared_part plan past lawful),
+    subst (λ k. group_lawful.IsLawfulGroup plan (shared_past k past)) is (shared_part plan past lawful),
     λ port. port_part plan (each_apart plan.layout.links is) port past lawful,
   ),
   λ both. together plan past (record {
-    shared = subst (λ k. group_lawful.IsLawfulGroup (shared_plan plan) (shared_past k past)) (sym is) both.0;
+    shared = subst (λ k. group_lawful.IsLawfulGroup plan (shared_past k past)) (sym is) both.0;
     ports = λ are port. both.1 port;
   }),
 )
@@ -214,12 +214,12 @@ not_apart Ports other are = cc
 not_apart Each other are = other refl
 
 pub with_others : (plan : Plan) (past : List Sighting) → (plan.layout.links ≡ Each → ⊥)
-    → IsLawful plan past ↔ group_lawful.IsLawfulGroup (shared_plan plan) past
+    → IsLawful plan past ↔ group_lawful.IsLawfulGroup plan past
 with_others plan past other = (
-  λ lawful. subst (λ l. group_lawful.IsLawfulGroup (shared_plan plan) l) (same_past plan.layout.links past other)
+  λ lawful. subst (λ l. group_lawful.IsLawfulGroup plan l) (same_past plan.layout.links past other)
       (shared_part plan past lawful),
   λ lawful. together plan past (record {
-    shared = subst (λ l. group_lawful.IsLawfulGroup (shared_plan plan) l)
+    shared = subst (λ l. group_lawful.IsLawfulGroup plan l)
         (sym (same_past plan.layout.links past other)) lawful;
     ports = λ are. absurd (not_apart plan.layout.links other are);
   }),

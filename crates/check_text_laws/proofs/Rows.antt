@@ -8,7 +8,7 @@ use Rattle.check_flight.specs.Flight.{Flight}
 use Rattle.check_watch.specs.Lawful as group_lawful
 use Rattle.check_watch.specs.Lawful.{IsAllowed, IsAllowedBeat}
 use Rattle.check_watch.specs.Past.{State, scene_in_group, scene_of, state, state_after}
-use Rattle.check_watch.specs.Plan.{GroupPlan, LinkSide, Sighting, is_link, link_number, same_side, seen_at, side_of, source_of, wide_of}
+use Rattle.check_watch.specs.Plan.{Plan, LinkSide, Sighting, is_link, link_number, same_side, seen_at, side_of, source_of, wide_of}
 use Rattle.check_watch.specs.Plan.LinkSide.{AtMasters, AtPorts}
 use Rattle.check_watch.specs.Scene.{ended_by, seen, under_after}
 use Rattle.check_watch.specs.declared.beat.Beat.{Beat}
@@ -18,11 +18,11 @@ use Rattle.check_watch.specs.declared.beat.Link.TheVariants.{Master, Port}
 use Rattle.check_watch.specs.declared.seen.Ended.{Ended}
 use Rattle.check_watch.proofs.InFlight.{other_stays}
 use Rattle.check_watch_laws.proofs.Turns.{AsksFly, asks_fly}
-use Rattle.check_sides.specs.declared.links.Links.{Links}
-use Rattle.check_sides.specs.declared.links.Links.TheVariants.{Both, Masters, Ports, Each}
-use Rattle.check_sides.specs.Groups.{is_alone, past_at, plan_at, port_past, port_plan, shared_past, shared_plan}
+use Rattle.check_watch.specs.declared.links.Links.{Links}
+use Rattle.check_watch.specs.declared.links.Links.TheVariants.{Both, Masters, Ports, Each}
+use Rattle.check_sides.specs.Groups.{is_alone, past_at, plan_at, port_past, port_plan, shared_past}
 use Rattle.check_sides.specs.Lawful.{IsLawful}
-use Rattle.check_sides.specs.Plan.{Plan, bus_of}
+use Rattle.check_sides.specs.Plan.{bus_of}
 use Rattle.check_sides.proofs.Fresh.{shared_none}
 use Rattle.check_sides.proofs.Grouping.{in_group, shared_more, shared_same}
 use Rattle.check_rows.specs.Row.{SeenRow}
@@ -73,22 +73,22 @@ uncounted Each (Port p) is = inl refl
 -- ---- the links that are judged together
 
 shared_next : (plan : Plan) (past : List Sighting) (x : Sighting) (b : Bool) → is_alone plan.layout.links x.link ≡ b
-    → group_lawful.IsLawfulGroup (shared_plan plan) (shared_past plan.layout.links past)
+    → group_lawful.IsLawfulGroup plan (shared_past plan.layout.links past)
     → IsAllowed (plan_at plan x.link) (scene_in_group (plan_at plan x.link) (past_at plan.layout.links x.link past) x) x
-    → group_lawful.IsLawfulGroup (shared_plan plan) (shared_past plan.layout.links (x ∷ past))
+    → group_lawful.IsLawfulGroup plan (shared_past plan.layout.links (x ∷ past))
 shared_next plan past x false is before next =
-    subst (λ l. group_lawful.IsLawfulGroup (shared_plan plan) l)
+    subst (λ l. group_lawful.IsLawfulGroup plan l)
     (sym (shared_more x.beat x.known x.lanes past plan.layout.links x.link is))
     (before, in_group plan past x.link (λ p l. IsAllowed p (scene_in_group p l x) x) false is next)
 shared_next plan past x true is before next =
-    subst (λ l. group_lawful.IsLawfulGroup (shared_plan plan) l)
+    subst (λ l. group_lawful.IsLawfulGroup plan l)
     (sym (shared_same x.beat x.known x.lanes past plan.layout.links x.link is)) before
 
 -- their beats are lawful
 pub shared_part : (plan : Plan) (past : List Sighting) → IsLawful plan past
-    → group_lawful.IsLawfulGroup (shared_plan plan) (shared_past plan.layout.links past)
+    → group_lawful.IsLawfulGroup plan (shared_past plan.layout.links past)
 shared_part plan [] lawful =
-    subst (λ l. group_lawful.IsLawfulGroup (shared_plan plan) l) (sym (shared_none plan.layout.links)) tt
+    subst (λ l. group_lawful.IsLawfulGroup plan l) (sym (shared_none plan.layout.links)) tt
 shared_part plan (x ∷ past) lawful =
     shared_next plan past x (is_alone plan.layout.links x.link) refl (shared_part plan past lawful.0) lawful.1
 
@@ -97,13 +97,13 @@ shared_part plan (x ∷ past) lawful =
 module _ (plan : Plan) (s : State) (side : LinkSide) (flights : List InFlight) (kept : AreKept plan s side flights) (x : Sighting)
     (apart : same_side (side_of x.link) side ≡ false) where
   abbrev then_state : State
-  then_state = state_after (shared_plan plan) s x
+  then_state = state_after plan s x
 
   other_turns : (wide : ℕ) → IsKeptAs plan (then_state.flights side wide).turn (found wide flights)
   other_turns wide =
       subst (λ (f : Flight). IsKeptAs plan f.turn (found wide flights))
-      (sym (other_stays (shared_plan plan) s x side wide
-      (ap (λ b. b && (wide_of (shared_plan plan) x.link (source_of x.beat) == wide)) apart))) (kept.turns wide)
+      (sym (other_stays plan s x side wide
+      (ap (λ b. b && (wide_of plan x.link (source_of x.beat) == wide)) apart))) (kept.turns wide)
 
   other_asking : (at : Link) (b : AskBegun) → side_of at ≡ side
       → (then_state.links (side_of at) (link_number at)).asking ≡ Some b
@@ -116,13 +116,13 @@ module _ (plan : Plan) (s : State) (side : LinkSide) (flights : List InFlight) (
           ∙ ap (λ b. b && (link_number x.link == link_number at)) apart
 
       go : (here : Bool) → here ≡ false
-          → (if here then under_after (scene_of (shared_plan plan) s x.link x.beat).under x.beat x.known x.lanes
+          → (if here then under_after (scene_of plan s x.link x.beat).under x.beat x.known x.lanes
           else s.links (side_of at) (link_number at)).asking ≡ Some b
           → (s.links (side_of at) (link_number at)).asking ≡ Some b
       go true is so = absurd (cc)
       go false is so = so
 
-  pub other_kept : AreKept plan (state_after (shared_plan plan) s x) side flights
+  pub other_kept : AreKept plan (state_after plan s x) side flights
   other_kept = record {
     turns = other_turns;
     begins = λ at b same is. kept.begins at b same (other_asking at b same is);
@@ -138,8 +138,8 @@ not_reply ask reply same = subst IsAsk same tt
     IsAsk (D head) = ⊥
 
 module _ (plan : Plan) (before : List SeenRow) (row : SeenRow) where
-  abbrev p : GroupPlan
-  p = shared_plan plan
+  abbrev p : Plan
+  p = plan
 
   abbrev past : List Sighting
   past = shared_past plan.layout.links (beats_of before)
@@ -153,19 +153,19 @@ module _ (plan : Plan) (before : List SeenRow) (row : SeenRow) where
   module _ (together : is_alone plan.layout.links row.sighting.link ≡ false) where
     -- what its beat ends, by the plan of the links that are judged together
     pub end_together : end_of plan before row
-        ≡ ended_by (group_lawful.seen_in_group (shared_plan plan) (shared_past plan.layout.links (beats_of before)) row.sighting)
+        ≡ ended_by (group_lawful.seen_in_group plan (shared_past plan.layout.links (beats_of before)) row.sighting)
     end_together =
-        ap (λ b. ended_by (group_lawful.seen_in_group (if b then port_plan plan else shared_plan plan)
+        ap (λ b. ended_by (group_lawful.seen_in_group (if b then port_plan plan else plan)
         (if b then port_past (link_number x.link) (beats_of before) else past) x)) together
 
     pub allowed_together : IsLawful plan (beats_of (row ∷ before))
-        → IsAllowed (shared_plan plan) (scene_in_group (shared_plan plan) (shared_past plan.layout.links (beats_of before)) row.sighting)
+        → IsAllowed plan (scene_in_group plan (shared_past plan.layout.links (beats_of before)) row.sighting)
         row.sighting
     allowed_together lawful =
         in_group plan (beats_of before) x.link (λ q l. IsAllowed q (scene_in_group q l x) x) false together lawful.1
 
   module _ (lawful : IsLawful plan (beats_of before)) (flights : List InFlight)
-      (kept : AreKept plan (state (shared_plan plan) (shared_past plan.layout.links (beats_of before)))
+      (kept : AreKept plan (state plan (shared_past plan.layout.links (beats_of before)))
       (side_of row.sighting.link) flights) where
     abbrev s : State
     s = state p past
@@ -186,7 +186,7 @@ module _ (plan : Plan) (before : List SeenRow) (row : SeenRow) where
 
     pub row_kept : (together : is_alone plan.layout.links row.sighting.link ≡ false)
         → IsLawful plan (beats_of (row ∷ before))
-        → AreKept plan (state (shared_plan plan) (row.sighting ∷ shared_past plan.layout.links (beats_of before)))
+        → AreKept plan (state plan (row.sighting ∷ shared_past plan.layout.links (beats_of before)))
         (side_of row.sighting.link)
         (flights_after plan (bus_of plan.layout row.sighting.link) (wide_at plan row.sighting) flights row.sighting.beat
         (end_of plan before row))
@@ -245,9 +245,9 @@ module _ (plan : Plan) (before : List SeenRow) (row : SeenRow) where
         (other_kept plan (state p past) side (in_flight plan before) kept x both.1))
         (uncounted plan.layout.links x.link is)
 
-    pub one_row : AreKept plan (state (shared_plan plan) (shared_past plan.layout.links (beats_of before)))
+    pub one_row : AreKept plan (state plan (shared_past plan.layout.links (beats_of before)))
         (counted_side plan.layout.links) (in_flight plan before)
-        → AreKept plan (state (shared_plan plan) (shared_past plan.layout.links (beats_of (row ∷ before))))
+        → AreKept plan (state plan (shared_past plan.layout.links (beats_of (row ∷ before))))
         (counted_side plan.layout.links) (in_flight plan (row ∷ before))
     one_row kept = go (is_counted plan.layout.links x.link) refl
       where
@@ -260,10 +260,10 @@ module _ (plan : Plan) (before : List SeenRow) (row : SeenRow) where
         go false is = uncounted_row is kept
 
 pub are_kept : (plan : Plan) (rows : List SeenRow) → IsLawful plan (beats_of rows)
-    → AreKept plan (state (shared_plan plan) (shared_past plan.layout.links (beats_of rows)))
+    → AreKept plan (state plan (shared_past plan.layout.links (beats_of rows)))
     (counted_side plan.layout.links) (in_flight plan rows)
 are_kept plan [] lawful =
-    subst (λ l. AreKept plan (state (shared_plan plan) l) (counted_side plan.layout.links) [])
+    subst (λ l. AreKept plan (state plan l) (counted_side plan.layout.links) [])
     (sym (shared_none plan.layout.links))
     (record { turns = λ wide. refl; begins = λ link b side is. absurd (cc) })
 are_kept plan (row ∷ before) lawful = one_row plan before row lawful (are_kept plan before lawful.0)

@@ -7,8 +7,8 @@ use Rattle.std.proofs.lemmas.List.Sorted.{All-permutation}
 use Rattle.check_flight.specs.Side.{bus_at}
 use Rattle.check_watch.specs.declared.beat.Link.{Link}
 use Rattle.check_watch.specs.declared.beat.Link.TheVariants.{Master, Port}
-use Rattle.check_sides.specs.declared.links.Links.{Links}
-use Rattle.check_sides.specs.declared.links.Links.TheVariants.{Both, Masters, Ports, Each}
+use Rattle.check_watch.specs.declared.links.Links.{Links}
+use Rattle.check_watch.specs.declared.links.Links.TheVariants.{Both, Masters, Ports, Each}
 use Rattle.check_sides.specs.Plan.{Plan, Layout, IsPlan, HasLink, IsWatched, bus_of}
 use Rattle.check_rows.specs.Buses.{bus_of_link as row_bus}
 use Rattle.check_rows.specs.Row.{SeenRow}
@@ -17,8 +17,7 @@ use Rattle.check_review.specs.Verdict.{IsLawfulFile, IsFirstUnlawful}
 use Rattle.check_unanswered.specs.declared.request.Left.{Left}
 use Rattle.check_lines.specs.declared.verdict.VerdictCounts.{VerdictCounts}
 use Rattle.check_review.specs.declared.stop.Unlawful.{Unlawful}
-use Rattle.check_records.specs.Text.{TextPlace}
-use Rattle.check_records.specs.Text.{RecordRow as Record}
+use Rattle.check_records.specs.Text.{TextPlace, RecordRow as Record}
 use Rattle.check_text.specs.Buses.{HasBuses, LinkBuses}
 use Rattle.check_text.specs.Capture.{IsVerdict}
 use Rattle.check_text.specs.Rows.{HasRows, SpellAll}

@@ -9,7 +9,7 @@ use Rattle.std.proofs.lemmas.Bool.{leb-true, lt-ltb, ltb-true, ne_eqb, true≢fa
 use Rattle.tl_types.specs.Request.{Request}
 use Rattle.tl_types.specs.declared.operation.AskOp.TheVariants.{Arithmetic, Get, Intent, Logical, PutFull, PutPartial}
 use Rattle.tl_types.specs.declared.operation.Hint.TheVariants.{PrefetchRead, PrefetchWrite}
-use Rattle.check_map.specs.Ranges.{IsLawfulAddressMap}
+use Rattle.tl_map.specs.Map.{IsLawfulAddressMap}
 use Rattle.check_beats.specs.Message.{arith_of, logic_of, op_of}
 use Rattle.check_beats.specs.declared.beat.AskHead.{AskHead}
 use Rattle.check_contests.specs.Laws.{AreUncontested}
@@ -17,15 +17,15 @@ use Rattle.check_contests.specs.Writes.{writes as writes_at}
 use Rattle.check_memory.specs.Partial.{Partial, permits}
 use Rattle.check_memory.specs.declared.slave.Slave.{Slave}
 use Rattle.check_memory.specs.declared.slave.Slave.TheVariants.{Memory, Device}
-use Rattle.check_watch.specs.Plan.{GroupPlan, Sighting}
+use Rattle.check_watch.specs.Plan.{Plan, Sighting}
 use Rattle.check_watch_laws.specs.Crossed.{AreWatched}
 use Rattle.check_watch_laws.specs.Memories.{reset_of}
 use Rattle.check_watch_laws.specs.Moments.{moments}
 use Rattle.check_order_laws.specs.Open.{AreApart, IsOpen, NothingIsContested}
-use Rattle.check_sides.specs.Groups.{is_alone, shared_past, shared_plan}
+use Rattle.check_sides.specs.Groups.{is_alone, shared_past}
 use Rattle.check_sides.specs.Lawful.{IsLawful}
-use Rattle.check_sides.specs.Plan.{IsPlan, Plan}
-use Rattle.check_sides.proofs.Fresh.{shared_is_plan, shared_none}
+use Rattle.check_sides.specs.Plan.{IsPlan}
+use Rattle.check_sides.proofs.Fresh.{shared_none}
 use Rattle.check_sides.proofs.Grouping.{shared_more, shared_same}
 use Rattle.check_rows.specs.Row.{SeenRow}
 use Rattle.check_unanswered.specs.Began.{beats_of}
@@ -125,8 +125,8 @@ apart_by wide other apart = ne_eqb wide other apart
 
 -- after the rows so far no two requests that are open are contested
 module _ (plan : Plan) (is_plan : IsPlan plan) (map : IsLawfulAddressMap plan.layout.ports) (port : ℕ) where
-  abbrev p : GroupPlan
-  p = shared_plan plan
+  abbrev p : Plan
+  p = plan
 
   abbrev past_of : List SeenRow → List Sighting
   past_of rows = shared_past plan.layout.links (beats_of rows)
@@ -141,7 +141,7 @@ module _ (plan : Plan) (is_plan : IsPlan plan) (map : IsLawfulAddressMap plan.la
       → AreUncontested memory ask with
   pair_apart rows watched lawful none memory wide other ask with apart is_open its_open =
       let heads = λ (w : ℕ) (r : Request) (o : IsOpen (moments p port (past_of rows)) w r).
-      head plan (shared_is_plan plan is_plan) map (past_of rows) watched (shared_part plan (beats_of rows) lawful)
+      head plan is_plan map (past_of rows) watched (shared_part plan (beats_of rows) lawful)
       (in_flight plan rows) (are_kept plan rows lawful) port w r o in
       let first = heads wide ask is_open in
       let second = heads other with its_open in
@@ -213,9 +213,9 @@ none_found bin (e ∷ es) none = go (is_eq (bin_cmp bin e.0)) refl (none_found b
     go false is rest = rest
 
 pub nothing_is_contested : (plan : Plan) (rows : List SeenRow) (old new : List ℕ) (port : ℕ) → IsPlan plan
-    → IsLawfulAddressMap plan.layout.ports → AreWatched (shared_plan plan).layout (shared_past plan.layout.links (beats_of rows))
+    → IsLawfulAddressMap plan.layout.ports → AreWatched plan.layout (shared_past plan.layout.links (beats_of rows))
     → IsLawful plan (beats_of rows) → (tells : TellsCoverage plan rows old new) → TellsNoContest port tells.entries
-    → NothingIsContested (shared_plan plan) port (shared_past plan.layout.links (beats_of rows))
+    → NothingIsContested plan port (shared_past plan.layout.links (beats_of rows))
 nothing_is_contested plan rows old new port is_plan map watched lawful tells none =
     let counts = tells.counts (bin.Contested port) in
     let zero_there = none_found (bin.Contested port) tells.entries none in

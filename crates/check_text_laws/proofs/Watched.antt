@@ -2,21 +2,18 @@
 use Rattle.std.proofs.Common.{◌≡◌, ◌∙◌, ℕ, zero, suc, ◌<◌, Bool, true, false, List, [], ◌∷◌, get_or, refl, sym, subst, arith, eqb-true}
 use Rattle.std.specs.Prelude.{◌==◌}
 use Rattle.std.proofs.lemmas.Bool.{eqb-false}
-use Rattle.check_map.specs.Owner.{IsOf, IsWideSource}
-use Rattle.check_map.specs.Sources.{IsLawfulOwner}
-use Rattle.check_map.specs.declared.sources.Owner.{Owner}
+use Rattle.tl_map.specs.Owner.{IsOf, IsWideSource}
+use Rattle.tl_map.specs.Owners.{IsLawfulOwner}
+use Rattle.tl_map.specs.declared.owners.Owner.{Owner}
 use Rattle.check_watch.specs.declared.beat.Beat.{Beat}
 use Rattle.check_watch.specs.declared.beat.Link.{Link}
 use Rattle.check_watch.specs.declared.beat.Link.TheVariants.{Master, Port}
-use Rattle.check_watch.specs.Plan as group
 use Rattle.check_watch.specs.Plan.{Sighting, seen_at}
 use Rattle.check_watch_laws.specs.Crossed as group_crossed
-use Rattle.check_sides.specs.declared.links.Links.{Links}
-use Rattle.check_sides.specs.declared.links.Links.TheVariants.{Both, Masters, Ports, Each}
-use Rattle.check_sides.specs.Groups.{everybody, is_alone, shared_layout, shared_plan, shared_past, port_plan, port_past, together_of}
-use Rattle.check_sides.specs.Plan.{Layout, Plan, IsPlan, IsWatched}
+use Rattle.check_sides.specs.Groups.{everybody, is_alone, shared_past, port_plan, port_past}
+use Rattle.check_sides.specs.Plan.{Layout, Plan, IsPlan}
 use Rattle.check_sides.proofs.Fresh.{shared_none}
-use Rattle.check_sides.proofs.Grouping.{port_more, port_other, shared_more, shared_same}
+use Rattle.check_sides.proofs.Grouping.{in_group_watched, port_more, port_other, shared_more, shared_same}
 use Rattle.check_text_laws.specs.Groups.{AreAllWatched, IsAtWatchedLink}
 
 -- ---- everybody
@@ -41,7 +38,7 @@ everybody_each : (k : ℕ) (d : Owner) → k < 1 → IsLawfulOwner (get_or (ever
 everybody_each zero d inside = everybody_lawful
 everybody_each (suc k) d inside = absurd (omega (arith, inside))
 
-pub port_is_plan : (plan : Plan) → IsPlan plan → group.IsGroupPlan (port_plan plan)
+pub port_is_plan : (plan : Plan) → IsPlan plan → IsPlan (port_plan plan)
 port_is_plan plan is = record {
   owners = record {
     masters = omega arith;
@@ -54,39 +51,29 @@ port_is_plan plan is = record {
 
 -- ---- the links of a group
 
-watches : (links : Links) (link : Link) → is_alone links link ≡ false → IsWatched links link
-    → group.IsGroupLink (together_of links) link
-watches Both link is has = tt
-watches Masters (Master m) is has = tt
-watches Masters (Port p) is has = has
-watches Ports (Master m) is has = has
-watches Ports (Port p) is has = tt
-watches Each (Master m) is has = tt
-watches Each (Port p) is has = cc
-
 watched_one : (layout : Layout) (x : Sighting) → is_alone layout.links x.link ≡ false → IsAtWatchedLink layout x
-    → group_crossed.IsWatchedAt (shared_layout layout) x
+    → group_crossed.IsWatchedAt layout x
 watched_one layout x is at = record {
   link = at.link;
-  watched = watches layout.links x.link is at.watched;
+  watched = in_group_watched layout.links x.link is at.watched;
   lanes = at.lanes;
 }
 
 pub shared_watched : (plan : Plan) (past : List Sighting) → AreAllWatched plan.layout past
-    → group_crossed.AreWatched (shared_plan plan).layout (shared_past plan.layout.links past)
+    → group_crossed.AreWatched plan.layout (shared_past plan.layout.links past)
 shared_watched plan [] are =
-    subst (λ l. group_crossed.AreWatched (shared_plan plan).layout l) (sym (shared_none plan.layout.links)) tt
+    subst (λ l. group_crossed.AreWatched plan.layout l) (sym (shared_none plan.layout.links)) tt
 shared_watched plan (x ∷ past) are = go (is_alone plan.layout.links x.link) refl (shared_watched plan past are.1)
   where
     go : (b : Bool) → is_alone plan.layout.links x.link ≡ b
-        → group_crossed.AreWatched (shared_plan plan).layout (shared_past plan.layout.links past)
-        → group_crossed.AreWatched (shared_plan plan).layout (shared_past plan.layout.links (x ∷ past))
+        → group_crossed.AreWatched plan.layout (shared_past plan.layout.links past)
+        → group_crossed.AreWatched plan.layout (shared_past plan.layout.links (x ∷ past))
     go false is before =
-        subst (λ l. group_crossed.AreWatched (shared_plan plan).layout l)
+        subst (λ l. group_crossed.AreWatched plan.layout l)
         (sym (shared_more x.beat x.known x.lanes past plan.layout.links x.link is))
         (watched_one plan.layout x is are.0, before)
     go true is before =
-        subst (λ l. group_crossed.AreWatched (shared_plan plan).layout l)
+        subst (λ l. group_crossed.AreWatched plan.layout l)
         (sym (shared_same x.beat x.known x.lanes past plan.layout.links x.link is)) before
 
 module _ (plan : Plan) (port : ℕ) where

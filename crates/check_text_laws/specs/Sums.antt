@@ -2,7 +2,7 @@
 use Rattle.std.specs.Prelude.{◌≡◌, ◌≢◌, ℕ, ◌+◌, Bool, true, false, if◌then◌else◌, List, [], ◌∷◌}
 use Rattle.std.specs.List.{AllByRecursion}
 use Rattle.check_flight.specs.declared.order.Order.TheVariants.{Accept}
-use Rattle.check_watch.specs.Plan.{GroupPlan}
+use Rattle.check_watch.specs.Plan.{Plan}
 use Rattle.check_watch_laws.specs.Memories.{order_at}
 use Rattle.check_coverage.specs.declared.bin.Bin.{Bin}
 use Rattle.check_coverage.specs.declared.bin.Bin.TheVariants.{Asked, Answered, Beats, Mask, InFlight, AtPort, Overtook, Again, Contested}
@@ -42,7 +42,7 @@ TellsNoContest port entries = AllByRecursion (λ (entry : Bin × ℕ). entry.0 �
 
 -- if two systems say another order of a port, by one its requests take effect as they are accepted, and no line tells of a
 -- contested one
-abbrev pub DifferUntold : GroupPlan → GroupPlan → List (Bin × ℕ) → Type 0
+abbrev pub DifferUntold : Plan → Plan → List (Bin × ℕ) → Type 0
 DifferUntold loose strict entries =
     (port : ℕ) → order_at loose port ≢ order_at strict port
     → (order_at strict port ≡ Accept) × TellsNoContest port entries

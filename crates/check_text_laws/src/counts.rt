@@ -1,13 +1,13 @@
 //! Laws of what was covered, each on a function that does nothing but carry it.
 ghost use Rattle.std.specs.Prelude.{◌≡◌, ◌<◌, ◌^◌, List, ℕ, length};
-ghost use Rattle.check_map.specs.Ranges.{IsLawfulAddressMap};
+ghost use Rattle.tl_map.specs.Map.{IsLawfulAddressMap};
 ghost use Rattle.check_watch.specs.Lawful as group_lawful;
-ghost use Rattle.check_watch.specs.Plan.{GroupPlan};
+ghost use Rattle.check_watch.specs.Plan.{Plan};
 ghost use Rattle.check_watch_laws.specs.Crossed.{AreWatched};
 ghost use Rattle.check_watch_laws.specs.Whenever.{AreFresh};
-ghost use Rattle.check_sides.specs.Groups.{shared_past, shared_plan};
+ghost use Rattle.check_sides.specs.Groups.{shared_past};
 ghost use Rattle.check_sides.specs.Lawful.{IsLawful};
-ghost use Rattle.check_sides.specs.Plan.{IsPlan, Plan};
+ghost use Rattle.check_sides.specs.Plan.{IsPlan};
 ghost use Rattle.check_rows.specs.Row.{SeenRow};
 ghost use Rattle.check_unanswered.specs.Began.{beats_of};
 ghost use Rattle.check_order_laws.specs.Looser.{IsLooser};
@@ -37,19 +37,19 @@ pub fn counts_add_up_to_the_verdict()
 pub fn no_contest_is_left_out()
     ensures { (plan : Plan) (rows : List SeenRow) (old new : List ℕ) (port : ℕ) → IsPlan plan
         → IsLawfulAddressMap plan.layout.ports
-        → AreWatched (shared_plan plan).layout (shared_past plan.layout.links (beats_of rows))
+        → AreWatched plan.layout (shared_past plan.layout.links (beats_of rows))
         → IsLawful plan (beats_of rows) → (tells : TellsCoverage plan rows old new) → TellsNoContest port tells.entries
-        → NothingIsContested (shared_plan plan) port (shared_past plan.layout.links (beats_of rows)) }
+        → NothingIsContested plan port (shared_past plan.layout.links (beats_of rows)) }
 {}
 
 /// What is lawful if nobody knows the order of some ports, without a line that tells of a contested request there, is lawful
 /// by the orders of those ports at which requests take effect as they are accepted: so the order `any` let nothing pass.
 pub fn any_let_nothing_pass()
-    ensures { (loose : Plan) (strict : GroupPlan) (rows : List SeenRow) (old new : List ℕ) → IsPlan loose
+    ensures { (loose : Plan) (strict : Plan) (rows : List SeenRow) (old new : List ℕ) → IsPlan loose
         → IsLawfulAddressMap loose.layout.ports
-        → AreWatched (shared_plan loose).layout (shared_past loose.layout.links (beats_of rows))
+        → AreWatched loose.layout (shared_past loose.layout.links (beats_of rows))
         → IsLawful loose (beats_of rows) → (tells : TellsCoverage loose rows old new)
-        → IsLooser (shared_plan loose) strict → AreFresh strict
-        → DifferUntold (shared_plan loose) strict tells.entries
+        → IsLooser loose strict → AreFresh strict
+        → DifferUntold loose strict tells.entries
         → group_lawful.IsLawfulGroup strict (shared_past loose.layout.links (beats_of rows)) }
 {}

@@ -3,8 +3,8 @@ ghost use Rattle.std.specs.Prelude.{List, ◌++◌, ◌≡◌, ◌↔◌, ℕ};
 ghost use Rattle.check_watch.specs.declared.beat.Link.{Link};
 ghost use Rattle.check_watch.specs.Plan.{Sighting};
 ghost use Rattle.check_watch.specs.Lawful as group_lawful;
-ghost use Rattle.check_sides.specs.declared.links.Links.TheVariants.{Each};
-ghost use Rattle.check_sides.specs.Groups.{plan_at, past_at, shared_plan, shared_past, port_plan, port_past};
+ghost use Rattle.check_watch.specs.declared.links.Links.TheVariants.{Each};
+ghost use Rattle.check_sides.specs.Groups.{plan_at, past_at, shared_past, port_plan, port_past};
 ghost use Rattle.check_sides.specs.Lawful.{IsLawful};
 ghost use Rattle.check_sides.specs.Plan.{Plan, IsPlan};
 ghost use Rattle.check_text_laws.specs.Groups.{EachGroupKeepsRules, AreAllSeenWhole, AreAllWatched};
@@ -15,14 +15,14 @@ pub fn each_group_is_lawful()
         → IsLawful plan past ↔ ((link : Link)
         → group_lawful.IsLawfulGroup (plan_at plan link) (past_at plan.layout.links link past)) }
     ensures each { (plan : Plan) (past : List Sighting) → plan.layout.links ≡ Each
-        → IsLawful plan past ↔ (group_lawful.IsLawfulGroup (shared_plan plan) (shared_past Each past)
+        → IsLawful plan past ↔ (group_lawful.IsLawfulGroup plan (shared_past Each past)
         × ((port : ℕ) → group_lawful.IsLawfulGroup (port_plan plan) (port_past port past))) }
 {}
 
 /// With the other three words it is lawful exactly if it is by the plan of the links that are judged together.
 pub fn other_words_say_what_they_said()
     ensures { (plan : Plan) (past : List Sighting) → (plan.layout.links ≡ Each → ⊥)
-        → IsLawful plan past ↔ group_lawful.IsLawfulGroup (shared_plan plan) past }
+        → IsLawful plan past ↔ group_lawful.IsLawfulGroup plan past }
 {}
 
 /// A beginning of what is lawful is lawful. Lists of sightings have the latest first.

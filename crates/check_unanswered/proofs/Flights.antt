@@ -1,15 +1,15 @@
 -- With which row a request began, as one row more is judged.
-use Rattle.std.proofs.Common.{◌≡◌, ◌≢◌, ◌∙◌, ℕ, Bool, true, false, if◌then◌else◌, List, [], ◌∷◌, length, ◌%◌, ◌^◌, Option, Some, None, refl, sym, ap, subst}
+use Rattle.std.proofs.Common.{◌≡◌, ◌≢◌, ◌∙◌, ℕ, Bool, true, false, if◌then◌else◌, List, [], ◌∷◌, length, ◌%◌, ◌^◌, Option, Some, None, refl, sym, ap}
 use Rattle.std.specs.Prelude.{◌↔◌}
 use Rattle.check_flight.specs.Flight.{Turn}
 use Rattle.check_flight.specs.Flight.Turn.{Idle, Asking, Asked}
 use Rattle.check_watch.specs.Plan.{LinkSide}
 use Rattle.check_watch.proofs.InFlight.{idle_or_asked, idle_or_asking}
 use Rattle.check_watch.specs.Past.{state}
-use Rattle.check_sides.specs.Groups.{shared_past, shared_plan}
+use Rattle.check_sides.specs.Groups.{shared_past}
 use Rattle.check_sides.specs.Pending.{IsInFlightAt}
-use Rattle.check_sides.specs.declared.links.Links.{Links}
-use Rattle.check_sides.specs.declared.links.Links.TheVariants.{Both, Each, Masters, Ports}
+use Rattle.check_watch.specs.declared.links.Links.{Links}
+use Rattle.check_watch.specs.declared.links.Links.TheVariants.{Both, Each, Masters, Ports}
 use Rattle.check_sides.specs.Plan.{Plan}
 use Rattle.check_rows.specs.Row.{SeenRow}
 use Rattle.check_unanswered.specs.declared.request.Began.{Began}
@@ -82,7 +82,7 @@ none_shared Each = refl
 
 turn_none : (plan : Plan) (side : LinkSide) (wide : ℕ) → turn_at plan [] side wide ≡ Idle
 turn_none plan side wide =
-    ap (λ past. ((state (shared_plan plan) past).flights side wide).turn) (none_shared plan.layout.links)
+    ap (λ past. ((state plan past).flights side wide).turn) (none_shared plan.layout.links)
 
 -- what is in flight has begun
 pub began_some : (plan : Plan) (rows : List SeenRow) (side : LinkSide) (wide : ℕ)

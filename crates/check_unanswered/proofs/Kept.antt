@@ -3,19 +3,20 @@ use Rattle.std.proofs.Common.{◌≡◌, ◌∙◌, ℕ, suc, ◌+◌, ◌<◌, 
 use Rattle.std.specs.Prelude.{◌==◌, ◌↔◌, option_map, slice_set}
 use Rattle.std.proofs.lemmas.Bool.{eqb-false}
 use Rattle.std.proofs.lemmas.List.{length-set}
-use Rattle.check_map.specs.Owner.{IsOwned, IsWideSource}
+use Rattle.tl_map.specs.Owner.{IsOwned, IsWideSource}
 use Rattle.check_watch.specs.Plan.{LinkSide, side_of}
 use Rattle.check_watch.specs.Plan.LinkSide.{AtMasters, AtPorts}
-use Rattle.check_watch.specs.declared.pending.Change.TheVariants.{Nothing, Begins, Ends}
+use Rattle.check_watch.specs.declared.pending.Change.TheVariants.{Nothing}
 use Rattle.check_watch.specs.declared.pending.Origin.{Origin}
-use Rattle.check_sides.specs.Pending.{IsBegin, IsChange, IsEnd, IsInFlightAt, OthersStay}
+use Rattle.check_watch.specs.Pending.{IsBegin, IsEnd, OthersStay}
+use Rattle.check_sides.specs.Pending.{IsChange, IsInFlightAt}
 use Rattle.check_sides.specs.Plan.{Plan}
 use Rattle.check_rows.specs.Row.{SeenRow}
 use Rattle.check_unanswered.specs.declared.request.Began.{Began}
 use Rattle.check_unanswered.specs.declared.request.Left.{Left}
 use Rattle.check_unanswered.specs.declared.request.Open.{Open}
 use Rattle.check_unanswered.specs.Began.{IsCompleteOn, IsLeftOn, beats_of, began, began_with}
-use Rattle.check_unanswered.specs.Table.{IsEarliestOf, IsOldestOf, open_at, opens}
+use Rattle.check_unanswered.specs.Table.{IsEarliestOf, open_at, opens}
 use Rattle.check_unanswered.specs.View.{Holds, IsOf, PendingView, open_table, with_open}
 use Rattle.check_unanswered.proofs.Flights.{began_busy, began_none, began_now, began_some, began_stays}
 use Rattle.check_unanswered.proofs.Tables.{at_opens, at_wides, length-wides, none_at, opens_at, rising_wides, set_here, set_none, set_other, wides_at, wides_from}
@@ -110,13 +111,19 @@ module _ (plan : Plan) (rows : List SeenRow) (row : SeenRow) (old : PendingView)
     own = λ ask is. holds.own side wide ask (sym same ∙ is);
   }
 
+  abbrev before : LinkSide → ℕ → Type 0
+  before = IsInFlightAt plan (beats_of rows)
+
+  abbrev after : LinkSide → ℕ → Type 0
+  after = IsInFlightAt plan (beats_of (row ∷ rows))
+
   abbrev own_side : LinkSide
   own_side = side_of row.sighting.link
 
   -- one place is set, and all others stay
   set_place : (wide : ℕ) (ask : Option Open)
       → AtPlace plan (row ∷ rows) (open_table (with_open old own_side wide ask) own_side) own_side wide
-      → OthersStay plan (beats_of rows) row.sighting wide
+      → OthersStay before after row.sighting wide
       → (side : LinkSide) (other : ℕ)
       → AtPlace plan (row ∷ rows) (open_table (with_open old own_side wide ask) side) side other
   set_place wide ask here others side other = by_side (same_or_apart own_side side)
@@ -177,14 +184,14 @@ module _ (plan : Plan) (rows : List SeenRow) (row : SeenRow) (old : PendingView)
   -- one wide source's place is set, and the row is counted
   set_counted : (wide : ℕ) (ask : Option Open)
       → AtPlace plan (row ∷ rows) (open_table (with_open old own_side wide ask) own_side) own_side wide
-      → OthersStay plan (beats_of rows) row.sighting wide
+      → OthersStay before after row.sighting wide
       → Holds plan (row ∷ rows) (with_open (record old { taken = next }) own_side wide ask)
   set_counted wide ask here others =
       counted (with_open old own_side wide ask) (with_open (record old { taken = next }) own_side wide ask)
       (λ side. tables_with old next own_side side wide ask) (taken_with old next own_side wide ask)
       (λ side. table_long old own_side side wide ask) (set_place wide ask here others)
 
-  pub holds_begins : (origin : Origin) → IsBegin plan (beats_of rows) row.sighting origin
+  pub holds_begins : (origin : Origin) → IsBegin before after plan.layout.owners row.sighting origin
       → (ask : Open) → ask ≡ record { began = began_with row old.taken; origin = origin }
       → Holds plan (row ∷ rows) (with_open (record old { taken = next }) own_side origin.wide (Some ask))
   holds_begins origin begins ask is =
@@ -206,9 +213,9 @@ module _ (plan : Plan) (rows : List SeenRow) (row : SeenRow) (old : PendingView)
             });
       }) begins.others
 
-  pub holds_ends : (wide : ℕ) → IsEnd plan (beats_of rows) row.sighting wide
+  pub holds_ends : (EndsOne : Type 0) (wide : ℕ) → IsEnd before after EndsOne row.sighting wide
       → Holds plan (row ∷ rows) (with_open (record old { taken = next }) own_side wide None)
-  holds_ends wide ends =
+  holds_ends EndsOne wide ends =
       let at : open_at (open_table (with_open old own_side wide None) own_side) wide ≡ None =
       ap (λ t. open_at t wide) (table_here old own_side wide None) ∙ set_none (open_table old own_side) wide in
       set_counted wide None (record {

@@ -2,14 +2,13 @@
 -- are rows of links that are watched. This project's own.
 use Rattle.std.specs.Prelude.{◌≡◌, ◌⊎◌, ◌↔◌, ℕ, ◌≤◌, ◌%◌, ◌^◌, Bool, true, false, if◌then◌else◌, List, [], ◌∷◌, map, length, Contains, Option, Some, None}
 use Rattle.std.specs.List.Sorted.{IsStrictlyIncreasing}
-use Rattle.check_map.specs.Owner.{IsWideSource}
-use Rattle.check_watch.specs.Plan.{Sighting, seen_at}
+use Rattle.tl_map.specs.Owner.{IsWideSource}
+use Rattle.check_watch.specs.Plan.{Sighting, seen_at, LinkSide}
 use Rattle.check_flight.specs.Flight.{Turn}
 use Rattle.check_flight.specs.Flight.Turn.{Idle, Asking, Asked}
-use Rattle.check_watch.specs.Plan.{LinkSide}
 use Rattle.check_watch.specs.Plan.LinkSide.{AtMasters, AtPorts}
 use Rattle.check_watch.specs.Past.{state}
-use Rattle.check_sides.specs.Groups.{shared_past, shared_plan}
+use Rattle.check_sides.specs.Groups.{shared_past}
 use Rattle.check_sides.specs.Pending.{IsInFlightAt}
 use Rattle.check_sides.specs.Plan.{Plan}
 use Rattle.check_rows.specs.Row.{SeenRow}
@@ -32,7 +31,7 @@ beats_of rows = map (λ (row : SeenRow). row.sighting) rows
 -- what is in flight of a wide source, on a side of the links that are judged together
 abbrev pub turn_at : Plan → List SeenRow → LinkSide → ℕ → Turn
 turn_at plan rows side wide =
-    ((state (shared_plan plan) (shared_past plan.layout.links (beats_of rows))).flights side wide).turn
+    ((state plan (shared_past plan.layout.links (beats_of rows))).flights side wide).turn
 
 abbrev pub is_idle : Turn → Bool
 is_idle Idle = true

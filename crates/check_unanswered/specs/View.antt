@@ -1,6 +1,6 @@
 -- What is kept of the requests in flight. This project's own.
 use Rattle.std.specs.Prelude.{◌≡◌, ℕ, ◌<◌, ◌%◌, ◌^◌, List, length, Option, Some, option_map, slice_set}
-use Rattle.check_map.specs.Owner.{IsOwned, IsWideSource}
+use Rattle.tl_map.specs.Owner.{IsOwned, IsWideSource}
 use Rattle.check_watch.specs.Plan.{LinkSide}
 use Rattle.check_watch.specs.Plan.LinkSide.{AtMasters, AtPorts}
 use Rattle.check_sides.specs.Plan.{Plan}

@@ -10,11 +10,11 @@ ghost use Rattle.check_watch.specs.Plan.{side_of};
 
 use crate::left::left_in;
 use crate::request::{Began, Left, Open};
-use check_map::SourceOwners;
 use check_rows::Row;
 use check_watch::{Change, Link};
 use std::alloc::{AllocError, Global};
 use std::marker::Model;
+use tl_map::SourceOwners;
 
 /// The requests in flight at the links that are judged together, each with the row of its first beat.
 #[derive(Drop)]

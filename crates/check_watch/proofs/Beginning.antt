@@ -6,11 +6,11 @@ use Rattle.check_flight.specs.Flight.{idle}
 use Rattle.check_flight.specs.PortSlave.{PortSlave}
 use Rattle.check_flight.specs.Side.{under_at, flight_at, bus_at}
 use Rattle.check_watch.specs.Past.{slave_at}
-use Rattle.check_watch.specs.Plan.{GroupLayout, GroupPlan, IsGroupPlan, LinkSide, buses_of}
+use Rattle.check_watch.specs.Plan.{Layout, Plan, IsPlan, LinkSide, buses_of}
 use Rattle.check_watch.specs.Plan.LinkSide.{AtMasters, AtPorts}
 use Rattle.check_watch.specs.View.{GroupView, KeepsGroup, side_in, crossing_at}
 
-module _ (plan : GroupPlan) (view : GroupView) (lawful : IsGroupPlan plan) (layout : plan.layout ≡ view.layout) where
+module _ (plan : Plan) (view : GroupView) (lawful : IsPlan plan) (layout : plan.layout ≡ view.layout) where
   pub fresh_keeps : ((number : ℕ) → under_at view.masters.links number ≡ nothing_under
       (bus_at view.layout.master_buses number))
       → ((wide : ℕ) → flight_at view.masters.flights wide ≡ idle)
@@ -31,7 +31,7 @@ module _ (plan : GroupPlan) (view : GroupView) (lawful : IsGroupPlan plan) (layo
     where
       by_layout : (side : LinkSide) (number : ℕ) → nothing_under (bus_at (buses_of view.layout side) number)
           ≡ nothing_under (bus_at (buses_of plan.layout side) number)
-      by_layout side number = ap (λ (l : GroupLayout). nothing_under (bus_at (buses_of l side) number)) (sym layout)
+      by_layout side number = ap (λ (l : Layout). nothing_under (bus_at (buses_of l side) number)) (sym layout)
 
       links : (side : LinkSide) (number : ℕ) → under_at (side_in view side).links number
           ≡ nothing_under (bus_at (buses_of plan.layout side) number)

@@ -2,7 +2,7 @@
 use Rattle.std.proofs.Common.{◌≡◌, ◌∙◌, ℕ, Bool, true, false, if◌then◌else◌, List, ◌∷◌, Option, Some, None, refl, ap, sym, subst}
 use Rattle.std.specs.Prelude.{◌↔◌}
 use Rattle.tl_types.specs.Request.{Request}
-use Rattle.check_map.specs.Owner.{IsWideSource}
+use Rattle.tl_map.specs.Owner.{IsWideSource}
 use Rattle.check_beats.specs.Form.{IsFirstReplyFormFault}
 use Rattle.check_beats.specs.State.{AskBegun, first_ask, first_reply, ends_reply}
 use Rattle.check_beats.specs.declared.beat.AskHead.{AskHead}
@@ -13,27 +13,27 @@ use Rattle.check_flight.specs.Flight.Turn.{Idle, Asking, Asked}
 use Rattle.check_watch.specs.declared.beat.Link.{Link}
 use Rattle.check_watch.specs.declared.beat.Link.TheVariants.{Master, Port}
 use Rattle.check_watch.specs.declared.fault.Reason.TheVariants.{Form}
-use Rattle.check_watch.specs.declared.pending.Change.TheVariants.{Nothing}
+use Rattle.check_watch.specs.declared.pending.Change.TheVariants.{Begins, Ends, Nothing}
 use Rattle.check_watch.specs.declared.pending.Origin.{Origin}
-use Rattle.check_watch.specs.Plan.{GroupLayout, GroupPlan, Sighting, HasSource, IsWideAt, LinkSide, side_of, link_number, source_of, wide_of, is_of}
+use Rattle.check_watch.specs.Plan.{Layout, Plan, Sighting, HasSource, IsWideAt, LinkSide, side_of, link_number, source_of, wide_of, is_of}
 use Rattle.check_watch.specs.Scene.{ask_by, turn_by}
 use Rattle.check_watch.specs.Past.{scene_in_group, state}
 use Rattle.check_watch.specs.Allowed.{OfAsked}
 use Rattle.check_watch.specs.Lawful.{IsLawfulGroup}
-use Rattle.check_watch.specs.Pending.{IsInFlightInGroup, IsOriginAt, OthersStayInGroup, BeginsInGroup, EndsInGroup, IsGroupChange}
+use Rattle.check_watch.specs.Pending.{IsInFlightInGroup, IsOriginAt, OthersStay, IsGroupChange}
 use Rattle.check_watch.specs.View.{GroupView, SuitsGroup, KeepsGroup, under_in}
 use Rattle.check_watch.proofs.InFlight.{ask_at, reply_at, of_is, of_own, idle_or_asking, idle_or_asked, other_stays, own_after, under_way_flies}
 use Rattle.check_watch.proofs.Judging.{wide_is}
 use Rattle.check_watch.proofs.Replying.{no_reply_reason}
 
 -- the wide source of a link's source is some master's
-pub wide_owned : (layout : GroupLayout) (link : Link) (source wide : ℕ) → IsWideAt layout link source wide
+pub wide_owned : (layout : Layout) (link : Link) (source wide : ℕ) → IsWideAt layout link source wide
     → (master : ℕ) × (own : ℕ) × IsWideSource layout.owners master own wide
 wide_owned layout (Master m) source wide at = (m, source, at)
 wide_owned layout (Port p) source wide at = (at.1.0, at.1.1.0, rw at.0 at.1.1.1)
 
 -- what is under way at a link is what a judge keeps of it
-pub under_is : (plan : GroupPlan) (past : List Sighting) (view : GroupView) (link : Link) → KeepsGroup plan past view
+pub under_is : (plan : Plan) (past : List Sighting) (view : GroupView) (link : Link) → KeepsGroup plan past view
     → under_in view link ≡ (state plan past).links (side_of link) (link_number link)
 under_is plan past view link keeps = keeps.state.links (side_of link) (link_number link)
 
@@ -43,13 +43,13 @@ same_turn : (turn other : Turn) → turn ≡ other → ((turn ≡ Idle → ⊥) 
 same_turn turn other is = ((λ busy free. busy (is ∙ free)), λ busy free. busy (sym is ∙ free))
 
 -- what is in flight of other sources stays
-stays : (plan : GroupPlan) (past : List Sighting) (x : Sighting) (side : LinkSide) (wide : ℕ) → is_of plan x side wide ≡ false
+stays : (plan : Plan) (past : List Sighting) (x : Sighting) (side : LinkSide) (wide : ℕ) → is_of plan x side wide ≡ false
     → IsInFlightInGroup plan (x ∷ past) side wide ↔ IsInFlightInGroup plan past side wide
 stays plan past x side wide other =
     same_turn _ _ (ap (λ (f : Flight). f.turn) (other_stays plan (state plan past) x side wide other))
 
-pub others_stay : (plan : GroupPlan) (past : List Sighting) (x : Sighting) (wide : ℕ)
-    → wide_of plan x.link (source_of x.beat) ≡ wide → OthersStayInGroup plan past x wide
+pub others_stay : (plan : Plan) (past : List Sighting) (x : Sighting) (wide : ℕ)
+    → wide_of plan x.link (source_of x.beat) ≡ wide → OthersStay (IsInFlightInGroup plan past) (IsInFlightInGroup plan (x ∷ past)) x wide
 others_stay plan past x wide own side other none = go (is_of plan x side other) refl
   where
     go : (of : Bool) → is_of plan x side other ≡ of
@@ -63,7 +63,7 @@ asking_or_asked : (n : ℕ) (ask : Option Request) → turn_by n ask ≡ Idle �
 asking_or_asked n None is = idle_or_asking n (sym is)
 asking_or_asked n (Some ask) is = idle_or_asked n ask (sym is)
 
-module _ (plan : GroupPlan) (past : List Sighting) (link : Link) (known : ℕ) (lanes : List ℕ) (beat : AskHead)
+module _ (plan : Plan) (past : List Sighting) (link : Link) (known : ℕ) (lanes : List ℕ) (beat : AskHead)
     (lawful : IsLawfulGroup plan (ask_at link known lanes beat ∷ past)) where
   -- its request is in flight then
   ask_flies : (side : LinkSide) (wide : ℕ) → is_of plan (ask_at link known lanes beat) side wide ≡ true
@@ -98,7 +98,8 @@ module _ (plan : GroupPlan) (past : List Sighting) (link : Link) (known : ℕ) (
 
   pub ask_begins : (view : GroupView) (origin : Origin) → SuitsGroup plan view
       → ((state plan past).links (side_of link) (link_number link)).asking ≡ None
-      → IsOriginAt view.layout link beat.source origin → BeginsInGroup plan past (ask_at link known lanes beat) origin
+      → IsOriginAt view.layout link beat.source origin
+      → IsGroupChange plan past (ask_at link known lanes beat) (Begins origin)
   ask_begins view origin suits begins at =
       let own : wide_of plan link beat.source ≡ origin.wide =
       sym (wide_is plan view link beat.source origin.wide suits at.wide) in
@@ -115,7 +116,7 @@ module _ (plan : GroupPlan) (past : List Sighting) (link : Link) (known : ℕ) (
 
   pub ask_has_source : (view : GroupView) → SuitsGroup plan view → (HasSource view.layout link beat.source → ⊥) → ⊥
   ask_has_source view suits none =
-      none (subst (λ (l : GroupLayout). HasSource l link beat.source) (sym suits.layout) lawful.1.source)
+      none (subst (λ (l : Layout). HasSource l link beat.source) (sym suits.layout) lawful.1.source)
 
 -- ---- a beat of a reply
 
@@ -125,7 +126,7 @@ answered_flies n Idle P answers is = answers
 answered_flies n (Asking k) P answers is = answers
 answered_flies n (Asked k ask) P answers is = idle_or_asked k ask (sym is)
 
-module _ (plan : GroupPlan) (past : List Sighting) (link : Link) (known : ℕ) (lanes : List ℕ) (beat : ReplyHead)
+module _ (plan : Plan) (past : List Sighting) (link : Link) (known : ℕ) (lanes : List ℕ) (beat : ReplyHead)
     (lawful : IsLawfulGroup plan (reply_at link known lanes beat ∷ past)) where
   pub reply_goes_on : ends_reply ((state plan past).links (side_of link) (link_number link)).bus
       ((state plan past).links (side_of link) (link_number link)).replying beat ≡ false
@@ -146,7 +147,7 @@ module _ (plan : GroupPlan) (past : List Sighting) (link : Link) (known : ℕ) (
   pub reply_ends : (view : GroupView) (wide : ℕ) → SuitsGroup plan view
       → ends_reply ((state plan past).links (side_of link) (link_number link)).bus
       ((state plan past).links (side_of link) (link_number link)).replying beat ≡ true
-      → IsWideAt view.layout link beat.source wide → EndsInGroup plan past (reply_at link known lanes beat) wide
+      → IsWideAt view.layout link beat.source wide → IsGroupChange plan past (reply_at link known lanes beat) (Ends wide)
   reply_ends view wide suits ends at =
       let own : wide_of plan link beat.source ≡ wide = sym (wide_is plan view link beat.source wide suits at) in
       record {
@@ -163,7 +164,7 @@ module _ (plan : GroupPlan) (past : List Sighting) (link : Link) (known : ℕ) (
 
   pub reply_has_source : (view : GroupView) → SuitsGroup plan view → (HasSource view.layout link beat.source → ⊥) → ⊥
   reply_has_source view suits none =
-      none (subst (λ (l : GroupLayout). HasSource l link beat.source) (sym suits.layout) lawful.1.source)
+      none (subst (λ (l : Layout). HasSource l link beat.source) (sym suits.layout) lawful.1.source)
 
   pub reply_fits : (fault : FormFault)
       → IsFirstReplyFormFault (first_reply ((state plan past).links (side_of link) (link_number link)).replying) beat fault → ⊥

@@ -16,7 +16,7 @@ use Rattle.check_watch.specs.declared.seen.Ended.TheVariants as ends
 use Rattle.check_watch.specs.Allowed.{IsMust, OfAsked}
 use Rattle.check_watch.specs.Lawful.{IsLawfulGroup, seen_in_group}
 use Rattle.check_watch.specs.Past.{scene_in_group, state}
-use Rattle.check_watch.specs.Plan.{GroupPlan, Sighting, link_number, seen_at, side_of}
+use Rattle.check_watch.specs.Plan.{Plan, Sighting, link_number, seen_at, side_of}
 use Rattle.check_watch.specs.Scene.{captured, ended_by, is_given, must_by, seen_ask, seen_reply}
 use Rattle.check_watch.specs.declared.seen.Seen.TheVariants.{Part, WholeAsk}
 use Rattle.check_watch.specs.View.{KeepsGroup, GroupView, under_in}
@@ -49,7 +49,7 @@ told_if : (b : Bool) (turn : Turn) (reply : Pattern) (due : Option Answer)
 told_if true turn reply due told = told refl
 told_if false turn reply due told = refl
 
-module _ (plan : GroupPlan) (past : List Sighting) (view : GroupView) (link : Link) (known : ℕ) (lanes : List ℕ)
+module _ (plan : Plan) (past : List Sighting) (view : GroupView) (link : Link) (known : ℕ) (lanes : List ℕ)
     (keeps : KeepsGroup plan past view) (is_end : Bool) where
   -- a beat of a request is seen as a whole one, if it ends it
   pub ask_seen : (beat : AskHead) → is_end ≡ ends_ask (under_in view link).bus (under_in view link).asking beat

@@ -17,7 +17,7 @@ use Rattle.check_watch.specs.declared.beat.Link.TheVariants.{Master, Port}
 use Rattle.check_watch.specs.Allowed.{OfAsked, IsAllowedAsk, IsAllowedReply}
 use Rattle.check_watch.specs.Lawful.{IsLawfulGroup, IsAllowed}
 use Rattle.check_watch.specs.Past.{State, scene_of, state, state_after}
-use Rattle.check_watch.specs.Plan.{GroupPlan, Sighting, LinkSide, side_of, link_number, source_of, wide_of, same_side, is_link, is_of, seen_at}
+use Rattle.check_watch.specs.Plan.{Plan, Sighting, LinkSide, side_of, link_number, source_of, wide_of, same_side, is_link, is_of, seen_at}
 use Rattle.check_watch.specs.Plan.LinkSide.{AtMasters, AtPorts}
 use Rattle.check_watch.specs.Scene.{turn_by, flight_after, under_after}
 
@@ -48,11 +48,11 @@ true_or_false : (b : Bool) → b ≡ true → b ≡ false → ⊥
 true_or_false b so not = absurd (cc)
 
 -- a beat is of its own source, and of no other
-pub of_own : (plan : GroupPlan) (x : Sighting)
+pub of_own : (plan : Plan) (x : Sighting)
     → is_of plan x (side_of x.link) (wide_of plan x.link (source_of x.beat)) ≡ true
 of_own plan x = rw (same_side-refl (side_of x.link)) (eqb_own (wide_of plan x.link (source_of x.beat)))
 
-pub of_is : (plan : GroupPlan) (x : Sighting) (side : LinkSide) (wide : ℕ) → is_of plan x side wide ≡ true
+pub of_is : (plan : Plan) (x : Sighting) (side : LinkSide) (wide : ℕ) → is_of plan x side wide ≡ true
     → (side_of x.link ≡ side) × (wide_of plan x.link (source_of x.beat) ≡ wide)
 of_is plan x side wide is =
     let both = both_true (same_side (side_of x.link) side) (wide_of plan x.link (source_of x.beat) == wide) is in
@@ -116,14 +116,14 @@ some_same x y is = cc
 -- ---- what is in flight of a message that is under way
 
 -- a request is in flight of its source, and has not ended
-abbrev AsksFly : GroupPlan → State → Type 0
+abbrev AsksFly : Plan → State → Type 0
 AsksFly plan s =
     (link : Link) (begun : AskBegun)
     → (s.links (side_of link) (link_number link)).asking ≡ Some begun
     → (s.flights (side_of link) (wide_of plan link begun.first.source)).turn ≡ Asking (link_number link)
 
 -- the request of a reply is in flight, and has ended
-abbrev RepliesFly : GroupPlan → State → Type 0
+abbrev RepliesFly : Plan → State → Type 0
 RepliesFly plan s =
     (link : Link) (begun : ReplyBegun)
     → (s.links (side_of link) (link_number link)).replying ≡ Some begun
@@ -147,17 +147,17 @@ abbrev pub reply_at : Link → ℕ → List ℕ → ReplyHead → Sighting
 reply_at link known lanes beat = seen_at link (D beat) known lanes
 
 -- what is in flight of another source stays
-pub other_stays : (plan : GroupPlan) (s : State) (x : Sighting) (side : LinkSide) (wide : ℕ) → is_of plan x side wide ≡ false
+pub other_stays : (plan : Plan) (s : State) (x : Sighting) (side : LinkSide) (wide : ℕ) → is_of plan x side wide ≡ false
     → (state_after plan s x).flights side wide ≡ s.flights side wide
 other_stays plan s x side wide is =
     ap (λ (b : Bool). if b then flight_after plan.layout x.link (scene_of plan s x.link x.beat) x.beat x.lanes else s.flights side wide) is
 
-pub own_after : (plan : GroupPlan) (s : State) (x : Sighting) (side : LinkSide) (wide : ℕ) → is_of plan x side wide ≡ true
+pub own_after : (plan : Plan) (s : State) (x : Sighting) (side : LinkSide) (wide : ℕ) → is_of plan x side wide ≡ true
     → (state_after plan s x).flights side wide ≡ flight_after plan.layout x.link (scene_of plan s x.link x.beat) x.beat x.lanes
 own_after plan s x side wide is =
     ap (λ (b : Bool). if b then flight_after plan.layout x.link (scene_of plan s x.link x.beat) x.beat x.lanes else s.flights side wide) is
 
-module _ (plan : GroupPlan) (s : State) (asks : AsksFly plan s) (replies : RepliesFly plan s) (link : Link) (known : ℕ)
+module _ (plan : Plan) (s : State) (asks : AsksFly plan s) (replies : RepliesFly plan s) (link : Link) (known : ℕ)
     (lanes : List ℕ) where
   -- a beat of a request finds nothing in flight of its source, or its own request
   open_before : (beat : AskHead) → IsAllowedAsk plan.layout link (scene_of plan s link (A beat)) beat known lanes
@@ -433,7 +433,7 @@ module _ (plan : GroupPlan) (s : State) (asks : AsksFly plan s) (replies : Repli
               not_here at side (ap number_in (sym found.1 ∙ here_too)) here
 
 -- the messages under way are those of requests in flight
-pub under_way_flies : (plan : GroupPlan) (past : List Sighting) → IsLawfulGroup plan past
+pub under_way_flies : (plan : Plan) (past : List Sighting) → IsLawfulGroup plan past
     → AsksFly plan (state plan past) × RepliesFly plan (state plan past)
 under_way_flies plan [] lawful = ((λ link begun is. absurd (none_or_some begun is)), λ link begun is. absurd (none_or_some begun is))
 under_way_flies plan (x ∷ past) lawful = go (under_way_flies plan past lawful.0) x.beat lawful.1

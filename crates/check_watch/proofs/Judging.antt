@@ -3,7 +3,7 @@ use Rattle.std.proofs.Common.{◌≡◌, ◌∙◌, ap, Some, None, ℕ, ◌<◌
 use Rattle.std.specs.Prelude.{IsTrue}
 use Rattle.tl_types.specs.Request.{Request}
 use Rattle.tl_types.specs.declared.operation.AskOp.{AskOp}
-use Rattle.check_map.specs.Ranges.{RoutesBytesByRanges}
+use Rattle.tl_map.specs.Map.{RoutesBytes}
 use Rattle.check_beats.specs.Form.{FitsAsk, IsKnown, IsLawfulMaskOnBus, HasAskFormFault}
 use Rattle.check_beats.specs.State.{ask_of, ends_ask, first_ask}
 use Rattle.check_beats.specs.declared.beat.AskHead.{AskHead}
@@ -21,27 +21,27 @@ use Rattle.check_watch.specs.declared.fault.Reason.TheVariants.{Form, NoSuchSour
 use Rattle.check_watch.specs.Allowed.{IsSent, BeginsFree, BeginsPlaced, EndsSent, IsAllowedAsk}
 use Rattle.check_watch.specs.Faults.{HasAskReason, IsFirstAskReason, reason_rank}
 use Rattle.check_watch.specs.Past.{port_in, port_of}
-use Rattle.check_watch.specs.Plan.{GroupLayout, GroupPlan, HasSource, IsWideAt, wide_of}
+use Rattle.check_watch.specs.Plan.{Layout, Plan, HasSource, IsWideAt, wide_of}
 use Rattle.check_watch.specs.Scene.{Scene}
 use Rattle.check_watch.specs.View.{GroupView, SuitsGroup, under_in, flight_in, crossing_at, scene_in}
 use Rattle.check_watch.proofs.Codes.{same_op}
 
 -- the wide source that a judge finds is that of the plan
-pub wide_is : (plan : GroupPlan) (view : GroupView) (link : Link) (source wide : ℕ) → SuitsGroup plan view
+pub wide_is : (plan : Plan) (view : GroupView) (link : Link) (source wide : ℕ) → SuitsGroup plan view
     → IsWideAt view.layout link source wide → wide ≡ wide_of plan link source
 wide_is plan view (Master m) source wide suits is = sym (suits.lawful.wide m source wide (rw (← suits.layout) is))
 wide_is plan view (Port p) source wide suits is = is.0
 
 -- the port that a judge finds is that of the plan
-pub port_is : (plan : GroupPlan) (view : GroupView) (address size port : ℕ) → SuitsGroup plan view
-    → ((other : ℕ) → (port ≡ other) ↔ RoutesBytesByRanges view.layout.ports address size other)
+pub port_is : (plan : Plan) (view : GroupView) (address size port : ℕ) → SuitsGroup plan view
+    → ((other : ℕ) → (port ≡ other) ↔ RoutesBytes view.layout.ports address size other)
     → port ≡ plan.route address size
 port_is plan view address size port suits routes =
     (routes (plan.route address size)).1 (rw suits.layout (suits.lawful.route address size))
 
-pub port_found : (plan : GroupPlan) (view : GroupView) (link : Link) (turn : Turn) (beat : AskHead) (port : ℕ) → SuitsGroup plan view
+pub port_found : (plan : Plan) (view : GroupView) (link : Link) (turn : Turn) (beat : AskHead) (port : ℕ) → SuitsGroup plan view
     → ((number other : ℕ) → link ≡ Master number → (port ≡ other)
-    ↔ RoutesBytesByRanges view.layout.ports beat.address beat.size other)
+    ↔ RoutesBytes view.layout.ports beat.address beat.size other)
     → ((number : ℕ) → link ≡ Port number → port ≡ number)
     → port ≡ port_of plan link turn (A beat)
 port_found plan view (Master m) turn beat port suits master at_port =
@@ -55,10 +55,10 @@ asked_is (Asking at) ask is = absurd (cc)
 asked_is (Asked at other) ask is = (at, ap (λ r. Asked at r) (cc))
 
 -- the port that it goes to is that of the plan
-pub port_asked : (plan : GroupPlan) (view : GroupView) (link : Link) (turn : Turn) (ask : Request) (beat : ReplyHead) (port : ℕ)
+pub port_asked : (plan : Plan) (view : GroupView) (link : Link) (turn : Turn) (ask : Request) (beat : ReplyHead) (port : ℕ)
     → SuitsGroup plan view → asked turn ≡ Some ask
     → ((number other : ℕ) → link ≡ Master number → (port ≡ other)
-    ↔ RoutesBytesByRanges view.layout.ports ask.address ask.size other)
+    ↔ RoutesBytes view.layout.ports ask.address ask.size other)
     → ((number : ℕ) → link ≡ Port number → port ≡ number)
     → port ≡ port_of plan link turn (D beat)
 port_asked plan view (Port p) turn ask beat port suits is master at_port = at_port p refl
@@ -69,7 +69,7 @@ port_asked plan view (Master m) turn ask beat port suits is master at_port =
 
 -- ---- requests
 
-module _ (plan : GroupPlan) (view : GroupView) (link : Link) (beat : AskHead) (lanes : List ℕ) (wide : ℕ) (r : Bool)
+module _ (plan : Plan) (view : GroupView) (link : Link) (beat : AskHead) (lanes : List ℕ) (wide : ℕ) (r : Bool)
     (suits : SuitsGroup plan view) (at : IsWideAt view.layout link beat.source wide) where
   pub free_here : (IsTrue r ↔ ((under_in view link).asking ≡ None → (flight_in view link wide).turn ≡ Idle))
       → (IsTrue r ↔ BeginsFree (scene_in plan view link (A beat)))
@@ -105,7 +105,7 @@ no_form_fault bus begun beat known fits lanes CorruptFlag has = has
 no_form_fault bus begun beat known fits lanes UnknownLanes has = has.1 (lanes has.0)
 
 -- what is known of a beat once the reasons before this place are ruled out
-pub record AskUpTo (layout : GroupLayout) (link : Link) (scene : Scene) (beat : AskHead) (known : ℕ) (lanes : List ℕ)
+pub record AskUpTo (layout : Layout) (link : Link) (scene : Scene) (beat : AskHead) (known : ℕ) (lanes : List ℕ)
     (rank : ℕ) : Type 0 where
   pub fits : FitsAsk scene.under.bus (first_ask scene.under.asking) beat
   pub known_lanes : IsKnown beat known
@@ -114,7 +114,7 @@ pub record AskUpTo (layout : GroupLayout) (link : Link) (scene : Scene) (beat : 
   pub placed : 9 < rank → BeginsPlaced layout link scene beat
   pub sent : 15 < rank → EndsSent layout link scene beat lanes
 
-module _ (layout : GroupLayout) (link : Link) (scene : Scene) (beat : AskHead) (known : ℕ) (lanes : List ℕ) where
+module _ (layout : Layout) (link : Link) (scene : Scene) (beat : AskHead) (known : ℕ) (lanes : List ℕ) where
   none_before_ask : (rank : ℕ) → AskUpTo layout link scene beat known lanes rank
       → (other : Reason) → reason_rank other < rank → HasAskReason layout link scene beat known lanes other → ⊥
   none_before_ask rank up (Form f) lower has =

@@ -12,8 +12,7 @@ use Rattle.check_flight.specs.declared.answer.Answer.{Answer}
 use Rattle.check_flight.specs.declared.place.FlightPlace.{FlightPlace}
 use Rattle.check_flight.specs.Crossing.{Crossing}
 use Rattle.check_flight.specs.Crossing.Crossing.{Waiting, Crossed, Given}
-use Rattle.check_flight.specs.Flight.{Turn, asked, Flight, idle, flight_due}
-use Rattle.check_flight.specs.Flight.Turn.{Asked}
+use Rattle.check_flight.specs.Flight.{Flight, idle, flight_due}
 use Rattle.check_flight.specs.PortSlave.{PortSlave, accepting, answering}
 use Rattle.check_flight.specs.Side.{under_at, flight_at, flights_due, ask_crossed, reply_crossed}
 use Rattle.check_watch.specs.declared.beat.Beat.{Beat}
@@ -27,7 +26,7 @@ use Rattle.check_watch.specs.declared.fault.Reason.TheVariants.{WrongReply}
 use Rattle.check_watch.specs.Faults.{IsFirstReplyReason, IsWrongReply, reason_of}
 use Rattle.check_watch.specs.Lawful.{IsLawfulGroup, GroupMayNeedMemory, IsAllowedBeat, IsFirstReasonOf, IsFirstReason, IsFirstGroupFault, TellsReplies}
 use Rattle.check_watch.specs.Past.{State, no_slave, slave_at, port_of, scene_found, scene_of, state_after, state, scene_in_group}
-use Rattle.check_watch.specs.Plan.{GroupLayout, GroupPlan, Sighting, LinkSide, HasGroupLink, side_of, link_number, source_of, wide_of, same_side, is_link, is_of, seen_at}
+use Rattle.check_watch.specs.Plan.{Layout, Plan, Sighting, LinkSide, HasLink, side_of, link_number, source_of, wide_of, same_side, is_link, is_of, seen_at}
 use Rattle.check_watch.specs.Plan.LinkSide.{AtMasters, AtPorts}
 use Rattle.check_watch.specs.Scene.{Scene, ask_by, under_after, accepted, once_answered, flight_after, crossing_after, given_by, captured, SlaveMayNeed}
 use Rattle.check_watch.specs.View.{GroupView, IsSized, wides_in, KeepsGroup, AreSame, IsPlace, state_in, side_in, own_side, crossing_at, under_in, flight_in, scene_in, slaves_accepting, slaves_answering, crossings_taken, crossings_asked, crossings_given, crossings_replied, accepted_in, answered_in, late_answer, asked_flight, with_side, with_ask, with_late, with_part, with_end, with_reply, MayNeedToAccept, MayNeedToAnswer}
@@ -122,7 +121,7 @@ pub record HasRoom (view : GroupView) (link : Link) (wide port : ℕ) : Type 0 w
   pub crossing : wide < length view.crossings
   pub slave : port < length view.slaves
 
-pub room_of : (view : GroupView) (link : Link) (wide port : ℕ) → IsSized view → HasGroupLink view.layout link
+pub room_of : (view : GroupView) (link : Link) (wide port : ℕ) → IsSized view → HasLink view.layout link
     → wide < wides_in view → port < length view.slaves → HasRoom view link wide port
 room_of view (Master m) wide port sized has within slot = record {
   at_link = rw sized.masters has;
@@ -194,7 +193,7 @@ found_at view link wide port = record {
 }
 
 -- what it leaves
-abbrev after_at : GroupLayout → GroupView → Sighting → ℕ → ℕ → State
+abbrev after_at : Layout → GroupView → Sighting → ℕ → ℕ → State
 after_at layout view x wide port =
     let here = once_answered layout x.link (found_at view x.link wide port) x.beat in
     record {
@@ -405,7 +404,7 @@ module _ (view : GroupView) (link : Link) (wide port : ℕ) (room : HasRoom view
 
 -- ---- states that say the same
 
-same_found : (plan : GroupPlan) (a b : State) (link : Link) (beat : Beat) → AreSame a b
+same_found : (plan : Plan) (a b : State) (link : Link) (beat : Beat) → AreSame a b
     → scene_found plan a link beat ≡ scene_found plan b link beat
 same_found plan a b link beat same =
     let side = side_of link in
@@ -419,7 +418,7 @@ same_found plan a b link beat same =
       same.slaves port,
     ) refl
 
-same_scene : (plan : GroupPlan) (a b : State) (link : Link) (beat : Beat) → AreSame a b
+same_scene : (plan : Plan) (a b : State) (link : Link) (beat : Beat) → AreSame a b
     → scene_of plan a link beat ≡ scene_of plan b link beat
 same_scene plan a b link beat same =
     ap (λ (s : Scene). once_answered plan.layout link s beat) (same_found plan a b link beat same)
@@ -428,7 +427,7 @@ if_same : {X : Type 0} (c : Bool) (p q r s : X) → p ≡ q → r ≡ s → (if 
 if_same true p q r s first second = first
 if_same false p q r s first second = second
 
-same_after : (plan : GroupPlan) (a b : State) (x : Sighting) → AreSame a b
+same_after : (plan : Plan) (a b : State) (x : Sighting) → AreSame a b
     → AreSame (state_after plan a x) (state_after plan b x)
 same_after plan a b x same =
     let here = same_scene plan a b x.link x.beat same in
@@ -472,17 +471,17 @@ layout_reply view link wide port beat known lanes =
     go (Port p) true = refl
     go (Port p) false = refl
 
-module _ (plan : GroupPlan) (past : List Sighting) (view : GroupView) (x : Sighting) (keeps : KeepsGroup plan past view) where
+module _ (plan : Plan) (past : List Sighting) (view : GroupView) (x : Sighting) (keeps : KeepsGroup plan past view) where
   -- what is said of the layout and of what a beat finds is said of the plan and of what it finds after the past
-  pub carried : (Q : GroupLayout → Scene → Type 0) → Q view.layout (scene_in plan view x.link x.beat)
+  pub carried : (Q : Layout → Scene → Type 0) → Q view.layout (scene_in plan view x.link x.beat)
       → Q plan.layout (scene_in_group plan past x)
   carried Q here =
       subst (λ (s : Scene). Q plan.layout s)
       (same_scene plan (state_in view) (state plan past) x.link x.beat keeps.state)
-      (subst (λ (l : GroupLayout). Q l (scene_in plan view x.link x.beat)) keeps.suits.layout here)
+      (subst (λ (l : Layout). Q l (scene_in plan view x.link x.beat)) keeps.suits.layout here)
 
   -- the same the other way
-  pub found : (Q : GroupLayout → Scene → Type 0) → Q plan.layout (scene_in_group plan past x)
+  pub found : (Q : Layout → Scene → Type 0) → Q plan.layout (scene_in_group plan past x)
       → Q view.layout (scene_in plan view x.link x.beat)
   found Q there = carried (λ l s. Q l s → Q view.layout (scene_in plan view x.link x.beat)) (λ q. q) there
 
@@ -495,8 +494,8 @@ module _ (plan : GroupPlan) (past : List Sighting) (view : GroupView) (x : Sight
         (same_after plan (state_in view) (state plan past) x keeps.state);
   }
 
-module _ (plan : GroupPlan) (past : List Sighting) (view new : GroupView) (link : Link) (known : ℕ) (lanes : List ℕ)
-    (place : FlightPlace) (keeps : KeepsGroup plan past view) (sized : IsSized view) (has : HasGroupLink view.layout link) where
+module _ (plan : Plan) (past : List Sighting) (view new : GroupView) (link : Link) (known : ℕ) (lanes : List ℕ)
+    (place : FlightPlace) (keeps : KeepsGroup plan past view) (sized : IsSized view) (has : HasLink view.layout link) where
   pub ask_keeps : (beat : AskHead) → IsPlace view link (A beat) place
       → IsLawfulGroup plan (seen_at link (A beat) known lanes ∷ past)
       → new ≡ with_ask view link place.wide place.port beat lanes
@@ -505,12 +504,12 @@ module _ (plan : GroupPlan) (past : List Sighting) (view new : GroupView) (link 
       let x : Sighting = seen_at link (A beat) known lanes in
       let room = room_of view link place.wide place.port sized has at.in_limit at.in_ports in
       let made = with_ask view link place.wide place.port beat lanes in
-      let R : GroupLayout → ℕ → ℕ → Type 0 = λ l w p. AreSame (state_in made) (after_at l view x w p) in
+      let R : Layout → ℕ → ℕ → Type 0 = λ l w p. AreSame (state_in made) (after_at l view x w p) in
       let same : AreSame (state_in made) (state_after plan (state_in view) x) =
       subst (λ (w : ℕ). R plan.layout w (port_of plan link (flight_in view link w).turn (A beat)))
       (wide_is plan view link beat.source place.wide keeps.suits at.wide)
       (subst (λ (p : ℕ). R plan.layout place.wide p) (at.port plan keeps.suits)
-      (subst (λ (l : GroupLayout). R l place.wide place.port) keeps.suits.layout
+      (subst (λ (l : Layout). R l place.wide place.port) keeps.suits.layout
       (after_ask view link place.wide place.port room known lanes beat))) in
       keeps_next plan past view x keeps new (ap (λ (v : GroupView). v.layout) is ∙ layout_ask view link _ _ beat lanes)
       (subst (λ (v : GroupView). AreSame (state_in v) (state_after plan (state_in view) x)) (sym is) same) lawful
@@ -523,22 +522,22 @@ module _ (plan : GroupPlan) (past : List Sighting) (view new : GroupView) (link 
       let x : Sighting = seen_at link (D beat) known lanes in
       let room = room_of view link place.wide place.port sized has at.in_limit at.in_ports in
       let made = with_reply view link place.wide place.port beat known lanes in
-      let R : GroupLayout → ℕ → ℕ → Type 0 = λ l w p. AreSame (state_in made) (after_at l view x w p) in
+      let R : Layout → ℕ → ℕ → Type 0 = λ l w p. AreSame (state_in made) (after_at l view x w p) in
       let same : AreSame (state_in made) (state_after plan (state_in view) x) =
       subst (λ (w : ℕ). R plan.layout w (port_of plan link (flight_in view link w).turn (D beat)))
       (wide_is plan view link beat.source place.wide keeps.suits at.wide)
       (subst (λ (p : ℕ). R plan.layout place.wide p) (at.port plan keeps.suits)
-      (subst (λ (l : GroupLayout). R l place.wide place.port) keeps.suits.layout
+      (subst (λ (l : Layout). R l place.wide place.port) keeps.suits.layout
       (after_with_reply view link place.wide place.port room known lanes beat))) in
       keeps_next plan past view x keeps new (ap (λ (v : GroupView). v.layout) is ∙ layout_reply view link _ _ beat known lanes)
       (subst (λ (v : GroupView). AreSame (state_in v) (state_after plan (state_in view) x)) (sym is) same) lawful
 
 -- ---- which requests a slave serves
 
-module _ (plan : GroupPlan) (past : List Sighting) (view : GroupView) (link : Link) (known : ℕ) (lanes : List ℕ)
+module _ (plan : Plan) (past : List Sighting) (view : GroupView) (link : Link) (known : ℕ) (lanes : List ℕ)
     (place : FlightPlace) (keeps : KeepsGroup plan past view) where
   -- what is said of what a beat finds at its place is said of what it finds after the past
-  found_after : (beat : Beat) → IsPlace view link beat place → (Q : GroupLayout → Scene → Type 0)
+  found_after : (beat : Beat) → IsPlace view link beat place → (Q : Layout → Scene → Type 0)
       → Q view.layout (found_at view link place.wide place.port)
       → Q plan.layout (scene_found plan (state plan past) link beat)
   found_after beat at Q here =
@@ -547,7 +546,7 @@ module _ (plan : GroupPlan) (past : List Sighting) (view : GroupView) (link : Li
       (subst (λ (w : ℕ). Q plan.layout (found_at view link w (port_of plan link (flight_in view link w).turn beat)))
       (wide_is plan view link (source_of beat) place.wide keeps.suits at.wide)
       (subst (λ (p : ℕ). Q plan.layout (found_at view link place.wide p)) (at.port plan keeps.suits)
-      (subst (λ (l : GroupLayout). Q l (found_at view link place.wide place.port)) keeps.suits.layout here)))
+      (subst (λ (l : Layout). Q l (found_at view link place.wide place.port)) keeps.suits.layout here)))
 
   pub ask_needs : (beat : AskHead) → IsPlace view link (A beat) place
       → MayNeedToAccept view link place.port (ask_by (under_in view link) beat lanes)
@@ -562,14 +561,14 @@ module _ (plan : GroupPlan) (past : List Sighting) (view : GroupView) (link : Li
 -- ---- what a judge answers
 
 -- what is lawful has no reason not to be
-no_reason_of : (plan : GroupPlan) (here : Scene) (y : Sighting) (beat : Beat) (reason : Reason)
+no_reason_of : (plan : Plan) (here : Scene) (y : Sighting) (beat : Beat) (reason : Reason)
     → IsAllowedBeat plan here y beat → IsFirstReasonOf plan here y beat reason → ⊥
 no_reason_of plan here y (A beat) reason allowed first =
     no_ask_reason plan.layout y.link here beat y.known y.lanes allowed reason first.applies
 no_reason_of plan here y (D beat) reason allowed first =
     no_reply_reason plan.layout y.link here beat y.known y.lanes allowed reason first.applies
 
-pub no_reason : (plan : GroupPlan) (past : List Sighting) (x : Sighting) (reason : Reason) → IsLawfulGroup plan (x ∷ past)
+pub no_reason : (plan : Plan) (past : List Sighting) (x : Sighting) (reason : Reason) → IsLawfulGroup plan (x ∷ past)
     → IsFirstReason plan past x reason → ⊥
 no_reason plan past x reason lawful first = no_reason_of plan (scene_in_group plan past x) x x.beat reason lawful.1 first
 
@@ -599,7 +598,7 @@ wrong_reason here beat known lanes faults.UnknownData is = absurd is
 wrong_reason here beat known lanes faults.NotSent is = absurd is
 wrong_reason here beat known lanes faults.NotGiven is = absurd is
 
-module _ (plan : GroupPlan) (past : List Sighting) (view : GroupView) (link : Link) (known : ℕ) (lanes : List ℕ)
+module _ (plan : Plan) (past : List Sighting) (view : GroupView) (link : Link) (known : ℕ) (lanes : List ℕ)
     (keeps : KeepsGroup plan past view) (fault : Fault) where
   pub tells_wrong : (beat : ReplyHead)
       → (IsFirstReplyReason view.layout link (scene_in plan view link (D beat)) beat known lanes WrongReply

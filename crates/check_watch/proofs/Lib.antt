@@ -10,3 +10,4 @@ pub mod Beginning
 pub mod InFlight
 pub mod Changes
 pub mod Ending
+pub mod Stepping

@@ -21,7 +21,7 @@ use Rattle.check_watch.specs.declared.fault.Reason.TheVariants.{Form, NoSuchSour
 use Rattle.check_watch.specs.Allowed.{OfAsked, IsAnswer, IsMust, IsAllowedReply}
 use Rattle.check_watch.specs.Faults.{HasAnswerReason, HasEndReason, EndsWith, HasReplyReason, IsFirstReplyReason, reason_rank}
 use Rattle.check_watch.specs.Past.{port_of, slave_at}
-use Rattle.check_watch.specs.Plan.{GroupLayout, GroupPlan, HasSource, IsWideAt, link_number}
+use Rattle.check_watch.specs.Plan.{Layout, Plan, HasSource, IsWideAt, link_number}
 use Rattle.check_watch.specs.Scene.{Scene, once_answered, is_given}
 use Rattle.check_watch.specs.View.{GroupView, SuitsGroup, under_in, flight_in, crossing_at, scene_in, answered_in, due_in, captured_in}
 use Rattle.check_watch.proofs.Codes.{same_reply_op}
@@ -80,7 +80,7 @@ not_both given None is some either = absurd (cc)
 not_both given (Some answer) is some (inl so) = absurd (cc)
 not_both given (Some answer) is some (inr not) = absurd (cc)
 
-module _ (layout : GroupLayout) (link : Link) (scene : Scene) (beat : ReplyHead) (known : ℕ) (lanes : List ℕ)
+module _ (layout : Layout) (link : Link) (scene : Scene) (beat : ReplyHead) (known : ℕ) (lanes : List ℕ)
     (fits : FitsReply (first_reply scene.under.replying) beat) (source : HasSource layout link beat.source) where
   abbrev AnswersHere : Type 0
   AnswersHere =
@@ -205,7 +205,7 @@ module _ (layout : GroupLayout) (link : Link) (scene : Scene) (beat : ReplyHead)
 
 -- ---- what is lawful has no reason not to be
 
-module _ (layout : GroupLayout) (link : Link) (scene : Scene) (beat : ReplyHead) (known : ℕ) (lanes : List ℕ)
+module _ (layout : Layout) (link : Link) (scene : Scene) (beat : ReplyHead) (known : ℕ) (lanes : List ℕ)
     (allowed : IsAllowedReply layout link scene beat known lanes) where
   pub no_reply_reason : (reason : Reason) → HasReplyReason layout link scene beat known lanes reason → ⊥
   no_reply_reason (Form f) has = no_form_fault (first_reply scene.under.replying) beat allowed.fits f has
@@ -224,7 +224,7 @@ module _ (layout : GroupLayout) (link : Link) (scene : Scene) (beat : ReplyHead)
 -- ---- a wrong reply
 
 -- a beat that ends a wrong reply has the form of one
-pub no_form_before : (layout : GroupLayout) (link : Link) (scene : Scene) (beat : ReplyHead) (known : ℕ) (lanes : List ℕ)
+pub no_form_before : (layout : Layout) (link : Link) (scene : Scene) (beat : ReplyHead) (known : ℕ) (lanes : List ℕ)
     (fault : FormFault) → IsFirstReplyReason layout link scene beat known lanes WrongReply
     → HasReplyFormFault (first_reply scene.under.replying) beat fault → ⊥
 no_form_before layout link scene beat known lanes fault first has = first.first (Form fault) (small fault) has
@@ -243,11 +243,11 @@ none_or_due (Some answer) is some = absurd (cc)
 
 -- ---- at the wide source and the port that a judge finds
 
-module _ (plan : GroupPlan) (view : GroupView) (link : Link) (beat : ReplyHead) (known : ℕ) (lanes : List ℕ) (wide port : ℕ)
+module _ (plan : Plan) (view : GroupView) (link : Link) (beat : ReplyHead) (known : ℕ) (lanes : List ℕ) (wide port : ℕ)
     (suits : SuitsGroup plan view) (found : IsWideAt view.layout link beat.source wide)
     (port_here : port ≡ port_of plan link (flight_in view link wide).turn (D beat))
     (fits : FitsReply (first_reply (under_in view link).replying) beat) where
-  abbrev pub scene_at : GroupLayout → ℕ → ℕ → Scene
+  abbrev pub scene_at : Layout → ℕ → ℕ → Scene
   scene_at layout w p = once_answered layout link (record {
     under = under_in view link;
     wide = w;
@@ -264,7 +264,7 @@ module _ (plan : GroupPlan) (view : GroupView) (link : Link) (beat : ReplyHead) 
       subst (λ (w : ℕ). Q (scene_at plan.layout w (port_of plan link (flight_in view link w).turn (D beat))))
       (wide_is plan view link beat.source wide suits found)
       (subst (λ (p : ℕ). Q (scene_at plan.layout wide p)) port_here
-      (subst (λ (l : GroupLayout). Q (scene_at l wide port)) suits.layout here))
+      (subst (λ (l : Layout). Q (scene_at l wide port)) suits.layout here))
 
   -- the same the other way
   pub found_here : (Q : Scene → Type 0) → Q (scene_in plan view link (D beat)) → Q (scene_at view.layout wide port)

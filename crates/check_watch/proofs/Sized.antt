@@ -6,7 +6,7 @@ use Rattle.check_flight.specs.Crossing.{Crossing}
 use Rattle.check_flight.specs.Flight.{Flight}
 use Rattle.check_flight.specs.PortSlave.{PortSlave}
 use Rattle.check_flight.specs.Side.{SideView, side_under, side_with, under_at}
-use Rattle.check_watch.specs.Plan.{HasGroupLink, GroupLayout, bus_in_group, link_number}
+use Rattle.check_watch.specs.Plan.{HasLink, Layout, bus_of, link_number}
 use Rattle.check_watch.specs.View.{GroupView, IsSized, under_in, wides_in}
 use Rattle.check_watch.specs.declared.beat.Link.{Link}
 use Rattle.check_watch.specs.declared.beat.Link.TheVariants.{Master, Port}
@@ -61,7 +61,7 @@ shape_tried (Ok v) new side number wide under flight is stays bus = shape_with n
 shape_tried (Err e) new side number wide under flight is stays bus = shape_own new side stays
 
 -- what is kept after a step of these shapes
-pub sized_by : (layout : GroupLayout) (masters ports : SideView) (crossings : List Crossing) (slaves : List PortSlave)
+pub sized_by : (layout : Layout) (masters ports : SideView) (crossings : List Crossing) (slaves : List PortSlave)
     (masters' ports' : SideView) (crossings' : List Crossing) (slaves' : List PortSlave)
     → IsSized (record {
       layout = layout;
@@ -91,7 +91,7 @@ sized_by layout masters ports crossings slaves masters' ports' crossings' slaves
 }
 
 -- the bus of what is kept of a link is the link's
-pub bus_in : (view : GroupView) (link : Link) → IsSized view → (under_in view link).bus ≡ bus_in_group view.layout link
+pub bus_in : (view : GroupView) (link : Link) → IsSized view → (under_in view link).bus ≡ bus_of view.layout link
 bus_in view (Master m) sized = sized.master_buses m
 bus_in view (Port p) sized = sized.port_buses p
 
@@ -109,14 +109,14 @@ module _ (inside view : GroupView) (is_view : inside ≡ view) where
     wide_at_ports wide within = rw sized.at_ports (subst (λ (v : GroupView). wide < wides_in v) (sym is_view) within)
 
   module _ (link : Link) (number place : ℕ) (at : place ≡ link_number link) where
-    pub link_at_masters : IsSized inside → link ≡ Master number → HasGroupLink view.layout link
+    pub link_at_masters : IsSized inside → link ≡ Master number → HasLink view.layout link
         → place < length inside.masters.links
     link_at_masters sized is known =
         let here : place ≡ number = rw is at at in
         let within : number < length view.layout.owners = rw is at known in
         rw (here, sized.masters) (subst (λ (v : GroupView). number < length v.layout.owners) (sym is_view) within)
 
-    pub link_at_ports : IsSized inside → link ≡ Port number → HasGroupLink view.layout link
+    pub link_at_ports : IsSized inside → link ≡ Port number → HasLink view.layout link
         → place < length inside.ports.links
     link_at_ports sized is known =
         let here : place ≡ number = rw is at at in

@@ -1,8 +1,8 @@
 -- Wide sources at a port's link, and as a function.
 use Rattle.std.proofs.Common.{◌≡◌, ◌<◌, ℕ, ◌+◌, ◌*◌, ◌↔◌, List, Option, Some, None, slice_get, sym, refl}
 use Rattle.std.specs.Prelude.{IfSome, IsSomeAnd}
-use Rattle.check_map.specs.declared.sources.Owner.{Owner}
-use Rattle.check_map.specs.Owner.{IsOwned, IsWideSource, Widens}
+use Rattle.tl_map.specs.declared.owners.Owner.{Owner}
+use Rattle.tl_map.specs.Owner.{IsOwned, IsWideSource, Widens}
 
 -- a wide source that somebody has is that of a port's link
 pub owned_wide : (owners : List Owner) (source : ℕ) → IsOwned owners source

@@ -4,7 +4,7 @@ use Rattle.std.specs.Prelude.{◌≡◌, ℕ, Bool, true, false, List, Option, N
 use Rattle.tl_types.specs.Operation.{reply_op_of}
 use Rattle.tl_types.specs.Request.{Request}
 use Rattle.tl_types.specs.Wire.{reply_opcode_of}
-use Rattle.check_map.specs.Ranges.{RoutesBytesByRanges}
+use Rattle.tl_map.specs.Map.{RoutesBytes}
 use Rattle.check_cells.specs.Pattern.{Pattern, FitsPattern}
 use Rattle.check_beats.specs.Form.{FitsAsk, FitsReply, IsKnown, IsKnownReply}
 use Rattle.check_beats.specs.State.{first_ask, first_reply, ends_ask, ends_reply, ask_of}
@@ -18,16 +18,16 @@ use Rattle.check_flight.specs.Flight.Turn.{Idle, Asking, Asked}
 use Rattle.check_flight.specs.PortSlave.{may_be_unknown}
 use Rattle.check_watch.specs.declared.beat.Link.{Link}
 use Rattle.check_watch.specs.declared.beat.Link.TheVariants.{Master, Port}
-use Rattle.check_watch.specs.declared.links.GroupLinks.TheVariants.{Both}
-use Rattle.check_watch.specs.Plan.{GroupLayout, HasSource, link_number, are_both}
+use Rattle.check_watch.specs.declared.links.Links.TheVariants.{Both}
+use Rattle.check_watch.specs.Plan.{Layout, HasSource, link_number, are_both}
 use Rattle.check_watch.specs.Scene.{Scene, captured, is_given}
 
 -- ---- requests
 
 -- the address map has the bytes of the request with the port of this link
-abbrev pub IsPlaced : GroupLayout → Link → AskHead → Type 0
+abbrev pub IsPlaced : Layout → Link → AskHead → Type 0
 IsPlaced layout (Master m) beat = Unit {0}
-IsPlaced layout (Port p) beat = RoutesBytesByRanges layout.ports beat.address beat.size p
+IsPlaced layout (Port p) beat = RoutesBytes layout.ports beat.address beat.size p
 
 -- the request in flight has ended, and is this one but for the source
 abbrev pub IsAskedAs : Turn → Request → Type 0
@@ -37,12 +37,12 @@ IsAskedAs (Asked number sent) ask = record sent { source = ask.source } ≡ ask
 
 -- a request at a port's link, if both sides are watched: the master that owns its source has it in flight, ended,
 -- and it has not crossed before
-abbrev pub IsSent : GroupLayout → Link → Turn → Crossing → Request → Type 0
+abbrev pub IsSent : Layout → Link → Turn → Crossing → Request → Type 0
 IsSent layout (Master m) sent crossing ask = Unit {0}
 IsSent layout (Port p) sent crossing ask = layout.links ≡ Both → IsAskedAs sent ask × (crossing ≡ Waiting)
 
 -- requests at a link are sent at another first
-abbrev pub is_second : GroupLayout → Link → Bool
+abbrev pub is_second : Layout → Link → Bool
 is_second layout (Master m) = false
 is_second layout (Port p) = are_both layout.links
 
@@ -51,17 +51,17 @@ abbrev pub BeginsFree : Scene → Type 0
 BeginsFree scene = scene.under.asking ≡ None → scene.flight.turn ≡ Idle
 
 -- a request begins at its port
-abbrev pub BeginsPlaced : GroupLayout → Link → Scene → AskHead → Type 0
+abbrev pub BeginsPlaced : Layout → Link → Scene → AskHead → Type 0
 BeginsPlaced layout link scene beat = scene.under.asking ≡ None → IsPlaced layout link beat
 
 -- a request that ends was sent
-abbrev pub EndsSent : GroupLayout → Link → Scene → AskHead → List ℕ → Type 0
+abbrev pub EndsSent : Layout → Link → Scene → AskHead → List ℕ → Type 0
 EndsSent layout link scene beat lanes =
     IsTrue (ends_ask scene.under.bus scene.under.asking beat)
     → IsSent layout link scene.sent scene.crossing (ask_of scene.under.bus scene.under.asking beat lanes)
 
 -- a beat of a request is lawful
-pub record IsAllowedAsk (layout : GroupLayout) (link : Link) (scene : Scene) (beat : AskHead) (known : ℕ) (lanes : List ℕ)
+pub record IsAllowedAsk (layout : Layout) (link : Link) (scene : Scene) (beat : AskHead) (known : ℕ) (lanes : List ℕ)
     : Type 0 where
   -- it is one of the message under way, and each lane that carries a byte is known
   pub fits : FitsAsk scene.under.bus (first_ask scene.under.asking) beat
@@ -96,14 +96,14 @@ IsMust true crossing due reply = IsSomeAnd (given crossing) (λ answer. IsSameRe
 IsMust false crossing due reply = IsSomeAnd due (λ answer. FitsPattern answer.reply reply)
 
 -- a reply that ends is the one that must come
-abbrev pub EndsWell : GroupLayout → Link → Scene → ReplyHead → ℕ → List ℕ → Type 0
+abbrev pub EndsWell : Layout → Link → Scene → ReplyHead → ℕ → List ℕ → Type 0
 EndsWell layout link scene beat known lanes =
     IsTrue (ends_reply scene.under.bus scene.under.replying beat)
     → IsMust (is_given layout link scene.port) scene.crossing scene.flight.due
     (captured scene.under scene.flight.turn beat known lanes)
 
 -- a beat of a reply is lawful
-pub record IsAllowedReply (layout : GroupLayout) (link : Link) (scene : Scene) (beat : ReplyHead) (known : ℕ)
+pub record IsAllowedReply (layout : Layout) (link : Link) (scene : Scene) (beat : ReplyHead) (known : ℕ)
     (lanes : List ℕ) : Type 0 where
   pub fits : FitsReply (first_reply scene.under.replying) beat
   pub source : HasSource layout link beat.source

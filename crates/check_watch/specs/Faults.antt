@@ -18,12 +18,12 @@ use Rattle.check_watch.specs.declared.fault.Fault.{Fault}
 use Rattle.check_watch.specs.declared.fault.Fault.TheVariants as faults
 use Rattle.check_watch.specs.declared.fault.Reason.{Reason}
 use Rattle.check_watch.specs.declared.fault.Reason.TheVariants.{Form, NoSuchSource, SourceBusy, WrongPort, NoRequest, EarlyReply, WrongSize, WrongOpcode, UnknownData, NotSent, NotGiven, WrongReply}
-use Rattle.check_watch.specs.Plan.{GroupLayout, HasSource, link_number}
+use Rattle.check_watch.specs.Plan.{Layout, HasSource, link_number}
 use Rattle.check_watch.specs.Scene.{Scene, captured, is_given}
 use Rattle.check_watch.specs.Allowed.{BeginsFree, BeginsPlaced, EndsSent, OfAsked, HasKnownLanes, IsMust}
 
 -- a beat of a request is not lawful for this reason
-abbrev pub HasAskReason : GroupLayout → Link → Scene → AskHead → ℕ → List ℕ → Reason → Type 0
+abbrev pub HasAskReason : Layout → Link → Scene → AskHead → ℕ → List ℕ → Reason → Type 0
 HasAskReason layout link scene beat known lanes (Form fault) =
     HasAskFormFault scene.under.bus (first_ask scene.under.asking) beat known fault
 HasAskReason layout link scene beat known lanes NoSuchSource = HasSource layout link beat.source → ⊥
@@ -75,7 +75,7 @@ HasEndReason given crossing due reply WrongReply =
     (given ≡ false) × IsSome due × (IsMust given crossing due reply → ⊥)
 
 -- the reply that a beat ends is not the one that must come, for this reason
-abbrev pub EndsWith : GroupLayout → Link → Scene → ReplyHead → ℕ → List ℕ → Reason → Type 0
+abbrev pub EndsWith : Layout → Link → Scene → ReplyHead → ℕ → List ℕ → Reason → Type 0
 EndsWith layout link scene beat known lanes reason =
     IsTrue (ends_reply scene.under.bus scene.under.replying beat)
     × HasEndReason (is_given layout link scene.port) scene.crossing scene.flight.due
@@ -87,7 +87,7 @@ AnswersWith link scene beat known reason =
     HasAnswerReason (link_number link) scene.flight.turn scene.under.bus (may_be_unknown scene.slave) beat known reason
 
 -- a beat of a reply is not lawful for this reason
-abbrev pub HasReplyReason : GroupLayout → Link → Scene → ReplyHead → ℕ → List ℕ → Reason → Type 0
+abbrev pub HasReplyReason : Layout → Link → Scene → ReplyHead → ℕ → List ℕ → Reason → Type 0
 HasReplyReason layout link scene beat known lanes (Form fault) =
     HasReplyFormFault (first_reply scene.under.replying) beat fault
 HasReplyReason layout link scene beat known lanes NoSuchSource = HasSource layout link beat.source → ⊥
@@ -117,10 +117,10 @@ reason_rank NotSent = 15
 reason_rank NotGiven = 16
 reason_rank WrongReply = 17
 
-abbrev pub IsFirstAskReason : GroupLayout → Link → Scene → AskHead → ℕ → List ℕ → Reason → Type 0
+abbrev pub IsFirstAskReason : Layout → Link → Scene → AskHead → ℕ → List ℕ → Reason → Type 0
 IsFirstAskReason layout link scene beat known lanes = IsFirstOf (HasAskReason layout link scene beat known lanes) reason_rank
 
-abbrev pub IsFirstReplyReason : GroupLayout → Link → Scene → ReplyHead → ℕ → List ℕ → Reason → Type 0
+abbrev pub IsFirstReplyReason : Layout → Link → Scene → ReplyHead → ℕ → List ℕ → Reason → Type 0
 IsFirstReplyReason layout link scene beat known lanes =
     IsFirstOf (HasReplyReason layout link scene beat known lanes) reason_rank
 

@@ -9,32 +9,32 @@ use Rattle.check_watch.specs.declared.fault.Reason.TheVariants.{WrongReply}
 use Rattle.check_watch.specs.declared.fault.StepError.{StepError}
 use Rattle.check_watch.specs.declared.fault.StepError.TheVariants.{Unlawful, Memory}
 use Rattle.check_watch.specs.declared.seen.Seen.{Seen}
-use Rattle.check_watch.specs.Plan.{GroupPlan, Sighting}
+use Rattle.check_watch.specs.Plan.{Plan, Sighting}
 use Rattle.check_watch.specs.Scene.{Scene, SlaveMayNeed, seen}
 use Rattle.check_watch.specs.Past.{scene_found, scene_in_group, state}
 use Rattle.check_watch.specs.Allowed.{IsAllowedAsk, IsAllowedReply}
 use Rattle.check_watch.specs.Faults.{IsFirstAskReason, IsFirstReplyReason, reason_of, IsWrongReply}
 
-abbrev pub IsAllowedBeat : GroupPlan → Scene → Sighting → Beat → Type 0
+abbrev pub IsAllowedBeat : Plan → Scene → Sighting → Beat → Type 0
 IsAllowedBeat plan here x (A beat) = IsAllowedAsk plan.layout x.link here beat x.known x.lanes
 IsAllowedBeat plan here x (D beat) = IsAllowedReply plan.layout x.link here beat x.known x.lanes
 
 -- the beat is lawful if it finds this
-abbrev pub IsAllowed : GroupPlan → Scene → Sighting → Type 0
+abbrev pub IsAllowed : Plan → Scene → Sighting → Type 0
 IsAllowed plan here x = IsAllowedBeat plan here x x.beat
 
-abbrev pub IsLawfulGroup : GroupPlan → List Sighting → Type 0
+abbrev pub IsLawfulGroup : Plan → List Sighting → Type 0
 IsLawfulGroup plan [] = Unit {0}
 IsLawfulGroup plan (x ∷ past) = IsLawfulGroup plan past × IsAllowed plan (scene_in_group plan past x) x
 
 -- ---- faults
 
-abbrev pub IsFirstReasonOf : GroupPlan → Scene → Sighting → Beat → Reason → Type 0
+abbrev pub IsFirstReasonOf : Plan → Scene → Sighting → Beat → Reason → Type 0
 IsFirstReasonOf plan here x (A beat) = IsFirstAskReason plan.layout x.link here beat x.known x.lanes
 IsFirstReasonOf plan here x (D beat) = IsFirstReplyReason plan.layout x.link here beat x.known x.lanes
 
 -- the reason is the first one, in the order in which they are tried, why the beat is not lawful after this past
-abbrev pub IsFirstReason : GroupPlan → List Sighting → Sighting → Reason → Type 0
+abbrev pub IsFirstReason : Plan → List Sighting → Sighting → Reason → Type 0
 IsFirstReason plan past x = IsFirstReasonOf plan (scene_in_group plan past x) x x.beat
 
 -- of a wrong reply, the fault tells both replies
@@ -44,7 +44,7 @@ TellsReplies here x (D beat) fault =
     reason_of fault ≡ WrongReply → IsWrongReply here beat x.known x.lanes fault
 
 -- the fault is the first one that the beat has after this past
-pub record IsFirstGroupFault (plan : GroupPlan) (past : List Sighting) (x : Sighting) (fault : Fault) : Type 0 where
+pub record IsFirstGroupFault (plan : Plan) (past : List Sighting) (x : Sighting) (fault : Fault) : Type 0 where
   pub reason : IsFirstReason plan past x (reason_of fault)
   pub replies : TellsReplies (scene_in_group plan past x) x x.beat fault
 
@@ -56,10 +56,10 @@ OfFault Is Memory = Unit {0}
 -- ---- what a beat does
 
 -- a port's slave may need memory with a beat after this past
-abbrev pub GroupMayNeedMemory : GroupPlan → List Sighting → Sighting → Type 0
+abbrev pub GroupMayNeedMemory : Plan → List Sighting → Sighting → Type 0
 GroupMayNeedMemory plan past x =
     SlaveMayNeed plan.layout x.link (scene_found plan (state plan past) x.link x.beat) x.beat x.lanes
 
 -- what a beat ends after this past
-abbrev pub seen_in_group : GroupPlan → List Sighting → Sighting → Seen
+abbrev pub seen_in_group : Plan → List Sighting → Sighting → Seen
 seen_in_group plan past x = seen plan.layout x.link (scene_in_group plan past x) x.beat x.known x.lanes

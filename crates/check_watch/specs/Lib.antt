@@ -6,3 +6,4 @@ pub mod Faults
 pub mod Lawful
 pub mod View
 pub mod Pending
+pub mod Steps

@@ -1,11 +1,11 @@
 -- What a judge knows of a crossbar ahead: which links are watched, which sources the masters have, which port serves
 -- which addresses, and which bus each link has. It is this project's own.
 use Rattle.std.specs.Prelude.{◌≡◌, ℕ, ◌<◌, Bool, true, false, ◌&&◌, ◌==◌, nat_lt, List, length}
-use Rattle.tl_map.specs.declared.map.Range.{Range}
-use Rattle.check_map.specs.Owner.{IsOwned, IsWideSource}
-use Rattle.check_map.specs.Ranges.{RoutesBytesByRanges}
-use Rattle.check_map.specs.Sources.{AreLawfulOwners}
-use Rattle.check_map.specs.declared.sources.Owner.{Owner}
+use Rattle.tl_map.specs.declared.range.Range.{Range}
+use Rattle.tl_map.specs.Owner.{IsOwned, IsWideSource}
+use Rattle.tl_map.specs.Map.{RoutesBytes}
+use Rattle.tl_map.specs.Owners.{AreLawfulOwners}
+use Rattle.tl_map.specs.declared.owners.Owner.{Owner}
 use Rattle.check_beats.specs.declared.bus.Bus.{Bus}
 use Rattle.check_flight.specs.PortSlave.{PortSlave}
 use Rattle.check_flight.specs.Side.{bus_at}
@@ -13,13 +13,13 @@ use Rattle.check_watch.specs.declared.beat.Beat.{Beat}
 use Rattle.check_watch.specs.declared.beat.Beat.TheVariants.{A, D}
 use Rattle.check_watch.specs.declared.beat.Link.{Link}
 use Rattle.check_watch.specs.declared.beat.Link.TheVariants.{Master, Port}
-use Rattle.check_watch.specs.declared.links.GroupLinks.{GroupLinks}
-use Rattle.check_watch.specs.declared.links.GroupLinks.TheVariants.{Both, Masters, Ports}
+use Rattle.check_watch.specs.declared.links.Links.{Links}
+use Rattle.check_watch.specs.declared.links.Links.TheVariants.{Both, Masters, Ports, Each}
 
 -- the links that are watched, the sources of each master, the ranges of each port, and the buses of the masters' links
 -- and of the ports' links
-pub record GroupLayout : Type 0 where
-  pub links : GroupLinks
+pub record Layout : Type 0 where
+  pub links : Links
   pub owners : List Owner
   pub ports : List (List Range)
   pub master_buses : List Bus
@@ -27,17 +27,17 @@ pub record GroupLayout : Type 0 where
 
 -- the slave of each port at reset, the error port's last; and as functions the wide source of a master's source, and the
 -- port of the 2 ^ size bytes from an address on
-pub record GroupPlan : Type 0 where
-  pub layout : GroupLayout
+pub record Plan : Type 0 where
+  pub layout : Layout
   pub resets : List PortSlave
   pub wide : ℕ → ℕ → ℕ
   pub route : ℕ → ℕ → ℕ
 
 -- no two masters have a wide source in common, and the functions are those of the layout
-pub record IsGroupPlan (plan : GroupPlan) : Type 0 where
+pub record IsPlan (plan : Plan) : Type 0 where
   pub owners : AreLawfulOwners plan.layout.owners
   pub wide : (master source wide : ℕ) → IsWideSource plan.layout.owners master source wide → plan.wide master source ≡ wide
-  pub route : (address size : ℕ) → RoutesBytesByRanges plan.layout.ports address size (plan.route address size)
+  pub route : (address size : ℕ) → RoutesBytes plan.layout.ports address size (plan.route address size)
 
 -- ---- beats that were seen
 
@@ -76,17 +76,17 @@ abbrev pub is_link : Link → LinkSide → ℕ → Bool
 is_link link side number = same_side (side_of link) side && (link_number link == number)
 
 -- the system has the link
-abbrev pub HasGroupLink : GroupLayout → Link → Type 0
-HasGroupLink layout (Master m) = m < length layout.owners
-HasGroupLink layout (Port p) = p < length layout.ports
+abbrev pub HasLink : Layout → Link → Type 0
+HasLink layout (Master m) = m < length layout.owners
+HasLink layout (Port p) = p < length layout.ports
 
-abbrev pub buses_of : GroupLayout → LinkSide → List Bus
+abbrev pub buses_of : Layout → LinkSide → List Bus
 buses_of layout AtMasters = layout.master_buses
 buses_of layout AtPorts = layout.port_buses
 
 -- how many bytes the bus of a link has
-abbrev pub bus_in_group : GroupLayout → Link → ℕ
-bus_in_group layout link = bus_at (buses_of layout (side_of link)) (link_number link)
+abbrev pub bus_of : Layout → Link → ℕ
+bus_of layout link = bus_at (buses_of layout (side_of link)) (link_number link)
 
 -- ---- sources
 
@@ -95,38 +95,41 @@ source_of (A beat) = beat.source
 source_of (D beat) = beat.source
 
 -- the wide source of a source at a link
-abbrev pub wide_of : GroupPlan → Link → ℕ → ℕ
+abbrev pub wide_of : Plan → Link → ℕ → ℕ
 wide_of plan (Master m) source = plan.wide m source
 wide_of plan (Port p) source = source
 
 -- the same, if the link has the source: a master's link has those of the master, a port's link those of all masters
-abbrev pub IsWideAt : GroupLayout → Link → ℕ → ℕ → Type 0
+abbrev pub IsWideAt : Layout → Link → ℕ → ℕ → Type 0
 IsWideAt layout (Master m) source wide = IsWideSource layout.owners m source wide
 IsWideAt layout (Port p) source wide = (wide ≡ source) × IsOwned layout.owners source
 
-abbrev pub HasSource : GroupLayout → Link → ℕ → Type 0
+abbrev pub HasSource : Layout → Link → ℕ → Type 0
 HasSource layout link source = (wide : ℕ) × IsWideAt layout link source wide
 
 -- the beat is one of this wide source on this side
-abbrev pub is_of : GroupPlan → Sighting → LinkSide → ℕ → Bool
+abbrev pub is_of : Plan → Sighting → LinkSide → ℕ → Bool
 is_of plan x side wide = same_side (side_of x.link) side && (wide_of plan x.link (source_of x.beat) == wide)
 
 -- ---- ports
 
--- both sides are watched
-abbrev pub are_both : GroupLinks → Bool
+-- both sides are watched, and judged together
+abbrev pub are_both : Links → Bool
 are_both Both = true
 are_both Masters = false
 are_both Ports = false
+are_both Each = false
 
 -- requests to this port are seen on both sides: the error port is inside the crossbar, and has no link of its own
-abbrev pub crosses_at_port : GroupLayout → ℕ → Bool
+abbrev pub crosses_at_port : Layout → ℕ → Bool
 crosses_at_port layout port = are_both layout.links && nat_lt port (length layout.ports)
 
--- the link is one that is watched
-abbrev pub IsGroupLink : GroupLinks → Link → Type 0
+-- the link is one of those that are judged together: the masters', if each port's is judged by itself
+abbrev pub IsGroupLink : Links → Link → Type 0
 IsGroupLink Both link = Unit {0}
 IsGroupLink Masters (Master m) = Unit {0}
 IsGroupLink Masters (Port p) = ⊥
 IsGroupLink Ports (Master m) = ⊥
 IsGroupLink Ports (Port p) = Unit {0}
+IsGroupLink Each (Master m) = Unit {0}
+IsGroupLink Each (Port p) = ⊥

@@ -1,7 +1,7 @@
 -- What a judge keeps of the beats so far. It is this project's own.
 use Rattle.std.specs.Prelude.{◌≡◌, ℕ, ◌+◌, ◌<◌, Bool, true, false, ◌&&◌, if◌then◌else◌, List, length, Option, Some, None, slice_get, slice_set, unwrap_or, IsTrue, IsSomeAnd}
 use Rattle.tl_types.specs.Request.{Request}
-use Rattle.check_map.specs.Owner.{IsOwned}
+use Rattle.tl_map.specs.Owner.{IsOwned}
 use Rattle.check_cells.specs.Pattern.{Pattern}
 use Rattle.check_beats.specs.Form.{FitsAsk, FitsReply}
 use Rattle.check_beats.specs.State.{Under, first_ask, first_reply, ends_ask, ends_reply}
@@ -19,14 +19,14 @@ use Rattle.check_watch.specs.declared.beat.Beat.{Beat}
 use Rattle.check_watch.specs.declared.beat.Beat.TheVariants.{A, D}
 use Rattle.check_watch.specs.declared.beat.Link.{Link}
 use Rattle.check_watch.specs.declared.beat.Link.TheVariants.{Master, Port}
-use Rattle.check_watch.specs.Plan.{GroupLayout, GroupPlan, IsGroupPlan, Sighting, IsWideAt, LinkSide, side_of, link_number, source_of}
+use Rattle.check_watch.specs.Plan.{Layout, Plan, IsPlan, Sighting, IsWideAt, LinkSide, side_of, link_number, source_of}
 use Rattle.check_watch.specs.Plan.LinkSide.{AtMasters, AtPorts}
 use Rattle.check_watch.specs.Scene.{Scene, ask_if, takes_effect, begins_reply, answered, ask_by, turn_by, captured}
 use Rattle.check_watch.specs.Past.{State, slave_at, port_of, scene_of, state}
 use Rattle.check_watch.specs.Lawful.{IsLawfulGroup}
 
 pub record GroupView : Type 0 where
-  pub layout : GroupLayout
+  pub layout : Layout
   pub masters : SideView
   pub ports : SideView
   pub crossings : List Crossing
@@ -81,7 +81,7 @@ state_in view = record {
 }
 
 -- what a beat finds at its link
-abbrev pub scene_in : GroupPlan → GroupView → Link → Beat → Scene
+abbrev pub scene_in : Plan → GroupView → Link → Beat → Scene
 scene_in plan view link beat = scene_of plan (state_in view) link beat
 
 -- the slave of a port answers as the next beat of channel D crosses at a link
@@ -121,12 +121,12 @@ pub record AreSame (a b : State) : Type 0 where
   pub slaves : (port : ℕ) → a.slaves port ≡ b.slaves port
 
 -- the judge is one for this plan
-pub record SuitsGroup (plan : GroupPlan) (view : GroupView) : Type 0 where
-  pub lawful : IsGroupPlan plan
+pub record SuitsGroup (plan : Plan) (view : GroupView) : Type 0 where
+  pub lawful : IsPlan plan
   pub layout : view.layout ≡ plan.layout
 
 -- the past is lawful, and this is kept of it
-pub record KeepsGroup (plan : GroupPlan) (past : List Sighting) (view : GroupView) : Type 0 where
+pub record KeepsGroup (plan : Plan) (past : List Sighting) (view : GroupView) : Type 0 where
   pub suits : SuitsGroup plan view
   pub lawful : IsLawfulGroup plan past
   pub state : AreSame (state_in view) (state plan past)
@@ -143,7 +143,7 @@ pub record IsPlace (view : GroupView) (link : Link) (beat : Beat) (place : Fligh
   pub at : place.link ≡ link_number link
   pub wide : IsWideAt view.layout link (source_of beat) place.wide
   pub in_limit : place.wide < wides_in view
-  pub port : (plan : GroupPlan) → SuitsGroup plan view → place.port ≡ port_of plan link (flight_in view link place.wide).turn beat
+  pub port : (plan : Plan) → SuitsGroup plan view → place.port ≡ port_of plan link (flight_in view link place.wide).turn beat
   pub in_ports : place.port < length view.slaves
   pub fits : FitsBeat (under_in view link) beat
 

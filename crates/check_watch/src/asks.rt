@@ -9,7 +9,7 @@ ghost use Rattle.check_flight.specs.Side.{flight_at};
 ghost use Rattle.check_watch.specs.declared.beat.Beat.TheVariants.{A};
 ghost use Rattle.check_watch.specs.Allowed.{is_second, IsAskedAs, IsSent, IsPlaced, IsAllowedAsk};
 ghost use Rattle.check_watch.specs.Faults.{IsFirstAskReason};
-ghost use Rattle.check_watch.specs.Plan.{GroupPlan, HasGroupLink, link_number};
+ghost use Rattle.check_watch.specs.Plan.{Plan, HasLink, link_number};
 ghost use Rattle.check_watch.specs.View.{IsPlace, SuitsGroup, wides_in, under_in, flight_in, crossing_at, scene_in};
 
 use crate::beat::Link;
@@ -70,7 +70,7 @@ fn is_second(watch: &GroupWatch, link: Link) -> bool
 
 /// Whether a beat of a request finds its source free, if it begins one.
 fn begins_free(watch: &GroupWatch, link: Link, wide: usize) -> bool
-    requires known { HasGroupLink watch.now.layout link }
+    requires known { HasLink watch.now.layout link }
     requires wide { wide < wides_in watch.now }
     ensures { IsTrue result
         ↔ ((under_in watch.now link).asking ≡ None → (flight_in watch.now link wide).turn ≡ Idle) }
@@ -91,7 +91,7 @@ fn is_placed(watch: &GroupWatch, link: Link, beat: &AskHead) -> bool
 
 /// Whether a beat of a request is at its port, if it begins one.
 fn begins_placed(watch: &GroupWatch, link: Link, beat: &AskHead) -> bool
-    requires known { HasGroupLink watch.now.layout link }
+    requires known { HasLink watch.now.layout link }
     requires in_limit { beat.now.size ≤ MAX_SIZE }
     ensures { IsTrue result
         ↔ ((under_in watch.now link).asking ≡ None → IsPlaced watch.now.layout link beat.now) }
@@ -125,7 +125,7 @@ fn is_whole_sent(
 
 /// Whether a master has sent the request that a beat ends, if it ends one.
 fn ends_sent(watch: &GroupWatch, link: Link, wide: usize, beat: &AskHead, lanes: &[u8]) -> bool
-    requires known { HasGroupLink watch.now.layout link }
+    requires known { HasLink watch.now.layout link }
     requires wide { wide < wides_in watch.now }
     requires fits { let under = under_in watch.now link in FitsAsk under.bus (first_ask under.asking) beat.now }
     requires lanes { (under_in watch.now link).bus ≤ length lanes.now }
@@ -149,12 +149,12 @@ pub fn judge_ask(
     known: u64,
     lanes: &[u8],
 ) -> Result<FlightPlace, Reason>
-    requires known { HasGroupLink watch.now.layout link }
+    requires known { HasLink watch.now.layout link }
     requires lanes { (under_in watch.now link).bus ≤ length lanes.now }
-    ensures reason { (plan : GroupPlan) → SuitsGroup plan watch.now
+    ensures reason { (plan : Plan) → SuitsGroup plan watch.now
         → IfErr result (IsFirstAskReason watch.now.layout link
         (scene_in plan watch.now link (A beat.now)) beat.now known lanes.now) }
-    ensures allowed { (plan : GroupPlan) → SuitsGroup plan watch.now
+    ensures allowed { (plan : Plan) → SuitsGroup plan watch.now
         → OnOk result (IsAllowedAsk watch.now.layout link
         (scene_in plan watch.now link (A beat.now)) beat.now known lanes.now) }
     ensures place { IfOk result (IsPlace watch.now link (A beat.now)) }

@@ -1,4 +1,5 @@
 //! Beats of both channels, and the links that they cross.
+ghost use Rattle.std.specs.Prelude.{◌≡◌};
 
 use check_beats::{AskHead, ReplyHead};
 
@@ -18,4 +19,18 @@ pub enum Beat {
     A(AskHead),
     /// One of a reply, on channel D.
     D(ReplyHead),
+}
+
+impl Beat {
+    ghost use Rattle.check_watch.specs.Plan.{source_of};
+
+    /// The source that it names.
+    pub fn source(&self) -> u16
+        ensures { result ≡ source_of self.now }
+    {
+        match self {
+            Beat::A(beat) => beat.source,
+            Beat::D(beat) => beat.source,
+        }
+    }
 }

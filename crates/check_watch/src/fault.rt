@@ -6,7 +6,6 @@ ghost use Rattle.check_watch.specs.Faults.{reason_of};
 
 use check_beats::FormFault;
 use check_cells::Pattern;
-use thiserror::Error;
 
 /// Why a beat is not lawful after those before it, in the order in which reasons are tried. It carries no reply: a judge
 /// hands it on, and a [`Fault`] is made of it if it is asked for.
@@ -27,43 +26,29 @@ pub enum Reason {
 }
 
 /// The first reason why a beat is not lawful, with its replies.
-#[derive(Debug, Drop, Error)]
+#[derive(Debug, Drop)]
 pub enum Fault {
-    #[error("{0}")]
     Form(FormFault),
-    #[error("no such source")]
     NoSuchSource,
-    #[error("source in flight")]
     SourceBusy,
-    #[error("not this port's address")]
     WrongPort,
-    #[error("reply without request")]
     NoRequest,
-    #[error("reply before its request ended")]
     EarlyReply,
-    #[error("size of another request")]
     WrongSize,
-    #[error("opcode of another operation")]
     WrongOpcode,
-    #[error("unknown data")]
     UnknownData,
-    #[error("no master sent this request")]
     NotSent,
-    #[error("the port gave no such reply")]
     NotGiven,
     /// What was expected, and the reply that was captured.
-    #[error("wrong reply")]
     WrongReply(Pattern, Pattern),
 }
 
 /// Why a step is not taken.
-#[derive(Debug, Drop, Error)]
+#[derive(Debug, Drop)]
 pub enum StepError {
     /// The beat is not lawful after those before it.
-    #[error("{0}")]
     Unlawful(Fault),
     /// It is lawful: what would be kept of it has no room.
-    #[error("memory refused")]
     Memory,
 }
 

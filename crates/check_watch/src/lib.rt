@@ -2,7 +2,7 @@
 //! have shown? Links have buses of 1 to 64 bytes; slaves are memories, known or unknown byte by byte, or devices.
 //!
 //! A [`GroupWatch`] is made of a system's address map, its sources, the bus of each link, the slave of each port at
-//! reset, and of which links are watched ([`GroupLinks`]). Sources and ports are as `check_map` has them.
+//! reset, and of which links are watched ([`Links`]). Sources and ports are as `tl_map` has them.
 //! [`GroupWatch::step`] takes one beat more. For every past that the judge keeps it answers `Ok` exactly if the list
 //! with this beat is lawful, and keeps that list then; an `Err` changes nothing, and is the first [`Fault`] that the
 //! beat has, or want of memory. An `Ok` says what the beat ends ([`Seen`]). [`GroupWatch::take`] takes a lawful beat
@@ -31,7 +31,7 @@ mod watch;
 
 pub use beat::{Beat, Link};
 pub use fault::{Fault, Reason, StepError, fault_of};
-pub use links::GroupLinks;
+pub use links::Links;
 pub use pending::{Change, Origin};
 pub use replies::{answer_reason, due_reason};
 pub use seen::{Ended, Seen, SeenEntry};

@@ -2,11 +2,13 @@
 
 /// The links that are watched.
 #[derive(Debug, Clone, Copy, PartialEq, Eq)]
-pub enum GroupLinks {
-    /// All masters' and all ports'.
+pub enum Links {
+    /// All masters' and all ports', which are judged together.
     Both,
     /// The masters' alone.
     Masters,
     /// The ports' alone.
     Ports,
+    /// All masters' and all ports'. The masters' are judged together, and each port's by itself.
+    Each,
 }

@@ -1,9 +1,9 @@
 //! What a beat does to the requests in flight.
-ghost use Rattle.std.specs.Prelude.{◌≡◌, ◌<◌, ◌∷◌, ℕ, List, IfSome, IfNone};
+ghost use Rattle.std.specs.Prelude.{◌<◌, ◌∷◌, ℕ, List, IfSome, IfNone};
 ghost use Rattle.check_watch.specs.declared.beat.Beat.TheVariants.{A, D};
 ghost use Rattle.check_watch.specs.Lawful.{IsLawfulGroup};
 ghost use Rattle.check_watch.specs.Pending.{IsGroupChange, IsInLimit, IsOriginAt};
-ghost use Rattle.check_watch.specs.Plan.{HasGroupLink, HasSource, GroupPlan, Sighting, seen_at};
+ghost use Rattle.check_watch.specs.Plan.{HasLink, HasSource, Plan, Sighting, seen_at};
 ghost use Rattle.check_watch.specs.View.{KeepsGroup, wides_in};
 
 use crate::beat::{Beat, Link};
@@ -51,8 +51,8 @@ impl GroupWatch {
 
     /// What the next beat of a request does to the requests in flight, if it is lawful.
     fn ask_change(&self, link: Link, beat: &AskHead) -> Change
-        requires { HasGroupLink self.now.layout link }
-        ensures change { (plan : GroupPlan) (past : List Sighting) (known : ℕ) (lanes : List ℕ)
+        requires { HasLink self.now.layout link }
+        ensures change { (plan : Plan) (past : List Sighting) (known : ℕ) (lanes : List ℕ)
             → KeepsGroup plan past self.now → IsLawfulGroup plan (seen_at link (A beat.now) known lanes ∷ past)
             → IsGroupChange plan past (seen_at link (A beat.now) known lanes) result }
         ensures in_limit { IsInLimit (wides_in self.now) result }
@@ -68,8 +68,8 @@ impl GroupWatch {
 
     /// What the next beat of a reply does to the requests in flight, if it is lawful.
     fn reply_change(&self, link: Link, beat: &ReplyHead) -> Change
-        requires { HasGroupLink self.now.layout link }
-        ensures change { (plan : GroupPlan) (past : List Sighting) (known : ℕ) (lanes : List ℕ)
+        requires { HasLink self.now.layout link }
+        ensures change { (plan : Plan) (past : List Sighting) (known : ℕ) (lanes : List ℕ)
             → KeepsGroup plan past self.now → IsLawfulGroup plan (seen_at link (D beat.now) known lanes ∷ past)
             → IsGroupChange plan past (seen_at link (D beat.now) known lanes) result }
         ensures in_limit { IsInLimit (wides_in self.now) result }
@@ -86,8 +86,8 @@ impl GroupWatch {
 
     /// What the next beat does to the requests in flight on its side, if it is lawful, whatever its lanes.
     pub fn change(&self, link: Link, beat: &Beat) -> Change
-        requires { HasGroupLink self.now.layout link }
-        ensures change { (plan : GroupPlan) (past : List Sighting) (known : ℕ) (lanes : List ℕ)
+        requires { HasLink self.now.layout link }
+        ensures change { (plan : Plan) (past : List Sighting) (known : ℕ) (lanes : List ℕ)
             → KeepsGroup plan past self.now → IsLawfulGroup plan (seen_at link beat.now known lanes ∷ past)
             → IsGroupChange plan past (seen_at link beat.now known lanes) result }
         ensures in_limit { IsInLimit (wides_in self.now) result }

@@ -8,10 +8,9 @@ ghost use Rattle.check_watch.specs.declared.beat.Beat.TheVariants.{D};
 ghost use Rattle.check_watch.specs.declared.fault.Reason.TheVariants.{WrongReply};
 ghost use Rattle.check_watch.specs.Allowed.{OfAsked, HasKnownLanes, IsAnswer, IsMust, IsAllowedReply};
 ghost use Rattle.check_watch.specs.Faults.{IsWrongReply, HasAnswerReason, HasEndReason, IsFirstReplyReason, reason_rank};
-ghost use Rattle.check_watch.specs.Past.{slave_at};
-ghost use Rattle.check_watch.specs.Plan.{GroupPlan, HasGroupLink, link_number};
+ghost use Rattle.check_watch.specs.Plan.{Plan, HasLink, link_number};
 ghost use Rattle.check_watch.specs.Scene.{is_given, seen};
-ghost use Rattle.check_watch.specs.View.{IsPlace, SuitsGroup, wides_in, under_in, flight_in, crossing_at, scene_in, due_in, captured_in};
+ghost use Rattle.check_watch.specs.View.{IsPlace, SuitsGroup, wides_in, under_in, crossing_at, scene_in, due_in, captured_in};
 
 use crate::asks::link_number;
 use crate::beat::Link;
@@ -104,7 +103,7 @@ fn whole_reason(
     known: u64,
     lanes: &[u8],
 ) -> Option<Reason>
-    requires known { HasGroupLink watch.now.layout link }
+    requires known { HasLink watch.now.layout link }
     requires wide { place.wide < wides_in watch.now }
     requires port { place.port < length watch.now.slaves }
     requires fits { FitsReply (first_reply (under_in watch.now link).replying) beat.now }
@@ -138,7 +137,7 @@ fn end_reason(
     known: u64,
     lanes: &[u8],
 ) -> Option<Reason>
-    requires known { HasGroupLink watch.now.layout link }
+    requires known { HasLink watch.now.layout link }
     requires wide { place.wide < wides_in watch.now }
     requires port { place.port < length watch.now.slaves }
     requires fits { FitsReply (first_reply (under_in watch.now link).replying) beat.now }
@@ -168,12 +167,12 @@ pub fn judge_reply(
     known: u64,
     lanes: &[u8],
 ) -> Result<FlightPlace, Reason>
-    requires known { HasGroupLink watch.now.layout link }
+    requires known { HasLink watch.now.layout link }
     requires lanes { (under_in watch.now link).bus ≤ length lanes.now }
-    ensures reason { (plan : GroupPlan) → SuitsGroup plan watch.now
+    ensures reason { (plan : Plan) → SuitsGroup plan watch.now
         → IfErr result (IsFirstReplyReason watch.now.layout link
         (scene_in plan watch.now link (D beat.now)) beat.now known lanes.now) }
-    ensures allowed { (plan : GroupPlan) → SuitsGroup plan watch.now
+    ensures allowed { (plan : Plan) → SuitsGroup plan watch.now
         → OnOk result (IsAllowedReply watch.now.layout link
         (scene_in plan watch.now link (D beat.now)) beat.now known lanes.now) }
     ensures place { IfOk result (IsPlace watch.now link (D beat.now)) }
@@ -210,9 +209,9 @@ pub fn wrong_reply(
     known: u64,
     lanes: &[u8],
 ) -> Fault
-    requires known { HasGroupLink watch.now.layout link }
+    requires known { HasLink watch.now.layout link }
     requires lanes { (under_in watch.now link).bus ≤ length lanes.now }
-    ensures { (plan : GroupPlan) → SuitsGroup plan watch.now
+    ensures { (plan : Plan) → SuitsGroup plan watch.now
         → IsFirstReplyReason watch.now.layout link (scene_in plan watch.now link (D beat.now)) beat.now known lanes.now
         WrongReply
         → IsWrongReply (scene_in plan watch.now link (D beat.now)) beat.now known lanes.now result }
@@ -247,10 +246,10 @@ pub fn seen_reply(
     known: u64,
     lanes: &[u8],
 ) -> Seen
-    requires known { HasGroupLink watch.now.layout link }
+    requires known { HasLink watch.now.layout link }
     requires lanes { (under_in watch.now link).bus ≤ length lanes.now }
     requires place { IsPlace watch.now link (D beat.now) place }
-    ensures { (plan : GroupPlan) → SuitsGroup plan watch.now
+    ensures { (plan : Plan) → SuitsGroup plan watch.now
         → result ≡ seen watch.now.layout link (scene_in plan watch.now link (D beat.now)) (D beat.now) known lanes.now }
 {
     if !watch.link(link).ends_reply(beat) {

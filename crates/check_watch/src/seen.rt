@@ -1,5 +1,5 @@
 //! What a beat ends.
-ghost use Rattle.std.specs.Prelude.{◌≡◌};
+ghost use Rattle.std.specs.Prelude.{◌≡◌, if◌then◌else◌};
 ghost use Rattle.check_watch.specs.Scene.{ended_by};
 
 use check_cells::Pattern;
@@ -34,6 +34,22 @@ pub enum Ended {
     Ask,
     /// A reply.
     Reply,
+}
+
+impl Ended {
+    /// What a beat of a request ends, by whether it is its last.
+    pub fn of_ask(is_last: bool) -> Ended
+        ensures { result ≡ (if is_last then Ended.Ask else Ended.Part) }
+    {
+        if is_last { Ended::Ask } else { Ended::Part }
+    }
+
+    /// What a beat of a reply ends, by whether it is its last.
+    pub fn of_reply(is_last: bool) -> Ended
+        ensures { result ≡ (if is_last then Ended.Reply else Ended.Part) }
+    {
+        if is_last { Ended::Reply } else { Ended::Part }
+    }
 }
 
 impl Seen {

@@ -1,5 +1,5 @@
 //! Steps: a beat is judged, and then it is taken.
-ghost use Rattle.std.specs.Prelude.{◌≡◌, ◌<◌, ◌≤◌, ◌↔◌, ◌∷◌, List, length, if◌then◌else◌, false, Some, None, Err, IsTrue, IfOk, OnOk, OnErr, IfErr, IsOk, IsSome, IsSomeAnd, OnSome, IfSome, IfNone};
+ghost use Rattle.std.specs.Prelude.{◌≡◌, ◌<◌, ◌≤◌, ◌∷◌, List, length, if◌then◌else◌, false, Some, None, IsTrue, IfOk, OnOk, OnErr, IfErr, IsSomeAnd, IfNone};
 ghost use Rattle.check_beats.specs.Form.{FitsAsk, FitsReply};
 ghost use Rattle.check_beats.specs.State.{ask_of, ends_ask, ends_reply, first_ask, first_reply};
 ghost use Rattle.check_flight.specs.Flight.Turn.{Asking, Asked};
@@ -7,10 +7,11 @@ ghost use Rattle.check_flight.specs.Flight.{asked, idle};
 ghost use Rattle.check_flight.specs.PortSlave.{due_accepting, due_answering, may_need_to_accept, may_need_to_answer};
 ghost use Rattle.check_flight.specs.Side.{ask_crossed, ask_ended, flight_at, reply_ended, side_due, side_with};
 ghost use Rattle.check_watch.specs.declared.beat.Beat.TheVariants.{A, D};
-ghost use Rattle.check_watch.specs.Lawful.{IsLawfulGroup, GroupMayNeedMemory, IsFirstReason, IsFirstGroupFault, OfFault, seen_in_group};
+ghost use Rattle.check_watch.specs.Lawful.{IsLawfulGroup, GroupMayNeedMemory, IsFirstReason, IsFirstGroupFault, seen_in_group};
 ghost use Rattle.check_watch.specs.Past.{slave_at};
-ghost use Rattle.check_watch.specs.Plan.{GroupPlan, Sighting, link_number, HasGroupLink, IsGroupLink, bus_in_group, seen_at};
+ghost use Rattle.check_watch.specs.Plan.{Plan, Sighting, link_number, HasLink, IsGroupLink, bus_of, seen_at};
 ghost use Rattle.check_watch.specs.Scene.{ask_by, ended_by};
+ghost use Rattle.check_watch.specs.Steps.{IsGroupStep, IsGroupTake};
 ghost use Rattle.check_watch.specs.View.{IsPlace, MayNeedToAccept, MayNeedToAnswer, wides_in, KeepsGroup, own_side, under_in, flight_in, captured_in, crossings_asked, crossings_given, crossings_replied, slaves_answering, with_side, with_message, with_ask, with_late, with_part, with_end, with_reply};
 
 use crate::asks::judge_ask;
@@ -27,7 +28,7 @@ use std::alloc::{AllocError, Global};
 impl GroupWatch {
     /// A beat of a request crosses at a link that does not end it.
     fn begin_ask(&mut self, link: Link, place: FlightPlace, beat: &AskHead, lanes: &[u8])
-        requires known { HasGroupLink self.old.layout link }
+        requires known { HasLink self.old.layout link }
         requires at { place.link ≡ link_number link }
         requires wide { place.wide < wides_in self.old }
         requires fits { let under = under_in self.old link in FitsAsk under.bus (first_ask under.asking) beat.now }
@@ -45,7 +46,7 @@ impl GroupWatch {
 
     /// A beat of a request crosses at a link that ends it, and no slave accepts it there.
     fn end_ask(&mut self, link: Link, place: FlightPlace, beat: &AskHead, lanes: &[u8])
-        requires known { HasGroupLink self.old.layout link }
+        requires known { HasLink self.old.layout link }
         requires at { place.link ≡ link_number link }
         requires wide { place.wide < wides_in self.old }
         requires fits { let under = under_in self.old link in FitsAsk under.bus (first_ask under.asking) beat.now }
@@ -73,7 +74,7 @@ impl GroupWatch {
         beat: &AskHead,
         lanes: &[u8],
     ) -> Result<(), AllocError>
-        requires known { HasGroupLink self.old.layout link }
+        requires known { HasLink self.old.layout link }
         requires at { place.link ≡ link_number link }
         requires wide { place.wide < wides_in self.old }
         requires port { place.port < length self.old.slaves }
@@ -114,7 +115,7 @@ impl GroupWatch {
         }
     }
 
-    /// Takes a beat of a request: whether it ends it. If there is no memory, nothing is changed.
+    /// Takes a beat of a request: what it ends. If there is no memory, nothing is changed.
     fn admit_ask(
         &mut self,
         alloc: Global,
@@ -122,8 +123,8 @@ impl GroupWatch {
         place: FlightPlace,
         beat: &AskHead,
         lanes: &[u8],
-    ) -> Result<bool, AllocError>
-        requires known { HasGroupLink self.old.layout link }
+    ) -> Result<Ended, AllocError>
+        requires known { HasLink self.old.layout link }
         requires at { place.link ≡ link_number link }
         requires wide { place.wide < wides_in self.old }
         requires port { place.port < length self.old.slaves }
@@ -131,7 +132,7 @@ impl GroupWatch {
         requires lanes { (under_in self.old link).bus ≤ length lanes.now }
         ensures after { OnOk result (self.new ≡ with_ask self.old link place.wide place.port beat.now lanes.now) }
         ensures ends { let under = under_in self.old link in
-            IfOk result (λ ends. ends ≡ ends_ask under.bus under.asking beat.now) }
+            IfOk result (λ e. e ≡ (if ends_ask under.bus under.asking beat.now then Ended.Ask else Ended.Part)) }
         ensures needed { OnErr result
             (MayNeedToAccept self.old link place.port (ask_by (under_in self.old link) beat.now lanes.now)) }
         ensures err { OnErr result (self.new ≡ self.old) }
@@ -145,7 +146,7 @@ impl GroupWatch {
             self.end_ask(link, place, beat, lanes);
         }
         self.note_ask(link, place.wide, ends);
-        Ok(ends)
+        Ok(Ended::of_ask(ends))
     }
 
     /// The slave of the port answers the request in flight of a wide source, as its reply begins at a link.
@@ -179,7 +180,7 @@ impl GroupWatch {
         link: Link,
         place: FlightPlace,
     ) -> Result<(), AllocError>
-        requires known { HasGroupLink self.old.layout link }
+        requires known { HasLink self.old.layout link }
         requires wide { place.wide < wides_in self.old }
         requires port { place.port < length self.old.slaves }
         ensures after { OnOk result (self.new ≡ with_late self.old link place.wide place.port) }
@@ -197,7 +198,7 @@ impl GroupWatch {
 
     /// A beat of a reply crosses at a link that does not end it.
     fn take_part(&mut self, link: Link, beat: &ReplyHead, known: u64, lanes: &[u8])
-        requires known { HasGroupLink self.old.layout link }
+        requires known { HasLink self.old.layout link }
         requires fits { FitsReply (first_reply (under_in self.old link).replying) beat.now }
         requires goes_on { let under = under_in self.old link in
             ends_reply under.bus under.replying beat.now ≡ false }
@@ -225,7 +226,7 @@ impl GroupWatch {
 
     /// Notes the captured reply that a beat ends at a link, if the link is a port's.
     fn note_reply(&mut self, link: Link, wide: usize, beat: &ReplyHead, known: u64, lanes: &[u8])
-        requires known { HasGroupLink self.old.layout link }
+        requires known { HasLink self.old.layout link }
         requires wide { wide < wides_in self.old }
         requires fits { FitsReply (first_reply (under_in self.old link).replying) beat.now }
         requires ends { let under = under_in self.old link in IsTrue (ends_reply under.bus under.replying beat.now) }
@@ -247,7 +248,7 @@ impl GroupWatch {
 
     /// Nothing is in flight any more of a wide source, and no reply under way, at a link.
     fn end_reply(&mut self, link: Link, place: FlightPlace)
-        requires known { HasGroupLink self.old.layout link }
+        requires known { HasLink self.old.layout link }
         requires at { place.link ≡ link_number link }
         requires wide { place.wide < wides_in self.old }
         ensures { self.new ≡ with_side self.old link (side_with (own_side self.old link) (link_number link)
@@ -268,7 +269,7 @@ impl GroupWatch {
         known: u64,
         lanes: &[u8],
     )
-        requires known { HasGroupLink self.old.layout link }
+        requires known { HasLink self.old.layout link }
         requires at { place.link ≡ link_number link }
         requires wide { place.wide < wides_in self.old }
         requires fits { FitsReply (first_reply (under_in self.old link).replying) beat.now }
@@ -280,7 +281,7 @@ impl GroupWatch {
         self.end_reply(link, place);
     }
 
-    /// Takes a beat of a reply: whether it ends it. If there is no memory, nothing is changed.
+    /// Takes a beat of a reply: what it ends. If there is no memory, nothing is changed.
     fn admit_reply(
         &mut self,
         alloc: Global,
@@ -289,8 +290,8 @@ impl GroupWatch {
         beat: &ReplyHead,
         known: u64,
         lanes: &[u8],
-    ) -> Result<bool, AllocError>
-        requires known { HasGroupLink self.old.layout link }
+    ) -> Result<Ended, AllocError>
+        requires known { HasLink self.old.layout link }
         requires at { place.link ≡ link_number link }
         requires wide { place.wide < wides_in self.old }
         requires port { place.port < length self.old.slaves }
@@ -299,7 +300,7 @@ impl GroupWatch {
         ensures after { OnOk result
             (self.new ≡ with_reply self.old link place.wide place.port beat.now known lanes.now) }
         ensures ends { let under = under_in self.old link in
-            IfOk result (λ ends. ends ≡ ends_reply under.bus under.replying beat.now) }
+            IfOk result (λ e. e ≡ (if ends_reply under.bus under.replying beat.now then Ended.Reply else Ended.Part)) }
         ensures needed { OnErr result (MayNeedToAnswer self.old link place.wide place.port) }
         ensures err { OnErr result (self.new ≡ self.old) }
     {
@@ -310,7 +311,7 @@ impl GroupWatch {
         } else {
             self.take_part(link, beat, known, lanes);
         }
-        Ok(ends)
+        Ok(Ended::of_reply(ends))
     }
 
     /// Judges one beat more, at a link that is watched: its place, or the first reason why it is not lawful.
@@ -321,11 +322,11 @@ impl GroupWatch {
         known: u64,
         lanes: &[u8],
     ) -> Result<FlightPlace, Reason>
-        requires known { HasGroupLink self.now.layout link }
-        requires lanes { bus_in_group self.now.layout link ≤ length lanes.now }
-        ensures reason { (plan : GroupPlan) (past : List Sighting) → KeepsGroup plan past self.now
+        requires known { HasLink self.now.layout link }
+        requires lanes { bus_of self.now.layout link ≤ length lanes.now }
+        ensures reason { (plan : Plan) (past : List Sighting) → KeepsGroup plan past self.now
             → IfErr result (IsFirstReason plan past (seen_at link beat.now known lanes.now)) }
-        ensures allowed { (plan : GroupPlan) (past : List Sighting) → KeepsGroup plan past self.now
+        ensures allowed { (plan : Plan) (past : List Sighting) → KeepsGroup plan past self.now
             → OnOk result (IsLawfulGroup plan (seen_at link beat.now known lanes.now ∷ past)) }
         ensures place { IfOk result (IsPlace self.now link beat.now) }
     {
@@ -346,16 +347,16 @@ impl GroupWatch {
         known: u64,
         lanes: &[u8],
     ) -> Result<Ended, AllocError>
-        requires known { HasGroupLink self.old.layout link }
-        requires lanes { bus_in_group self.old.layout link ≤ length lanes.now }
+        requires known { HasLink self.old.layout link }
+        requires lanes { bus_of self.old.layout link ≤ length lanes.now }
         requires place { IsPlace self.old link beat.now place }
-        ensures keeps { (plan : GroupPlan) (past : List Sighting) → KeepsGroup plan past self.old
+        ensures keeps { (plan : Plan) (past : List Sighting) → KeepsGroup plan past self.old
             → IsLawfulGroup plan (seen_at link beat.now known lanes.now ∷ past)
             → OnOk result (KeepsGroup plan (seen_at link beat.now known lanes.now ∷ past) self.new) }
-        ensures ended { (plan : GroupPlan) (past : List Sighting) → KeepsGroup plan past self.old
+        ensures ended { (plan : Plan) (past : List Sighting) → KeepsGroup plan past self.old
             → IsLawfulGroup plan (seen_at link beat.now known lanes.now ∷ past)
             → IfOk result (λ e. e ≡ ended_by (seen_in_group plan past (seen_at link beat.now known lanes.now))) }
-        ensures needed { (plan : GroupPlan) (past : List Sighting) → KeepsGroup plan past self.old
+        ensures needed { (plan : Plan) (past : List Sighting) → KeepsGroup plan past self.old
             → IsLawfulGroup plan (seen_at link beat.now known lanes.now ∷ past)
             → OnErr result (GroupMayNeedMemory plan past (seen_at link beat.now known lanes.now)) }
         ensures err { OnErr result (self.new ≡ self.old) }
@@ -363,23 +364,17 @@ impl GroupWatch {
     {
         self.sized();
         match beat {
-            Beat::A(beat) => {
-                let ends = self.admit_ask(alloc, link, place, beat, lanes)?;
-                Ok(if ends { Ended::Ask } else { Ended::Part })
-            }
-            Beat::D(beat) => {
-                let ends = self.admit_reply(alloc, link, place, beat, known, lanes)?;
-                Ok(if ends { Ended::Reply } else { Ended::Part })
-            }
+            Beat::A(beat) => self.admit_ask(alloc, link, place, beat, lanes),
+            Beat::D(beat) => self.admit_reply(alloc, link, place, beat, known, lanes),
         }
     }
 
     /// What a beat of this place ends, if it is lawful.
     fn seen(&self, link: Link, place: FlightPlace, beat: &Beat, known: u64, lanes: &[u8]) -> Seen
-        requires known { HasGroupLink self.now.layout link }
-        requires lanes { bus_in_group self.now.layout link ≤ length lanes.now }
+        requires known { HasLink self.now.layout link }
+        requires lanes { bus_of self.now.layout link ≤ length lanes.now }
         requires place { IsPlace self.now link beat.now place }
-        ensures { (plan : GroupPlan) (past : List Sighting) → KeepsGroup plan past self.now
+        ensures { (plan : Plan) (past : List Sighting) → KeepsGroup plan past self.now
             → result ≡ seen_in_group plan past (seen_at link beat.now known lanes.now) }
     {
         self.sized();
@@ -397,9 +392,9 @@ impl GroupWatch {
 
     /// The fault that a beat has for this first reason.
     fn fault(&self, link: Link, beat: &Beat, known: u64, lanes: &[u8], reason: Reason) -> Fault
-        requires known { HasGroupLink self.now.layout link }
-        requires lanes { bus_in_group self.now.layout link ≤ length lanes.now }
-        ensures { (plan : GroupPlan) (past : List Sighting) → KeepsGroup plan past self.now
+        requires known { HasLink self.now.layout link }
+        requires lanes { bus_of self.now.layout link ≤ length lanes.now }
+        ensures { (plan : Plan) (past : List Sighting) → KeepsGroup plan past self.now
             → IsFirstReason plan past (seen_at link beat.now known lanes.now) reason
             → IsFirstGroupFault plan past (seen_at link beat.now known lanes.now) result }
     {
@@ -426,21 +421,12 @@ impl GroupWatch {
         known: u64,
         lanes: &[u8],
     ) -> Result<Option<Ended>, AllocError>
-        requires known { HasGroupLink self.old.layout link }
+        requires known { HasLink self.old.layout link }
         requires watched { IsGroupLink self.old.layout.links link }
-        requires lanes { bus_in_group self.old.layout link ≤ length lanes.now }
-        ensures lawful { (plan : GroupPlan) (past : List Sighting) → KeepsGroup plan past self.old
-            → IfOk result (λ end. IsSome end ↔ IsLawfulGroup plan (seen_at link beat.now known lanes.now ∷ past)) }
-        ensures keeps { (plan : GroupPlan) (past : List Sighting) → KeepsGroup plan past self.old
-            → IfOk result (λ end. OnSome end (KeepsGroup plan (seen_at link beat.now known lanes.now ∷ past) self.new)) }
-        ensures ended { (plan : GroupPlan) (past : List Sighting) → KeepsGroup plan past self.old
-            → IfOk result (λ end. IfSome end (λ e.
-            e ≡ ended_by (seen_in_group plan past (seen_at link beat.now known lanes.now)))) }
+        requires lanes { bus_of self.old.layout link ≤ length lanes.now }
+        ensures taken { (plan : Plan) (past : List Sighting) → KeepsGroup plan past self.old
+            → IsGroupTake plan past (seen_at link beat.now known lanes.now) self.new result }
         ensures none { IfOk result (λ end. IfNone end (self.new ≡ self.old)) }
-        ensures memory { (plan : GroupPlan) (past : List Sighting) → KeepsGroup plan past self.old
-            → OnErr result (IsLawfulGroup plan (seen_at link beat.now known lanes.now ∷ past)) }
-        ensures needed { (plan : GroupPlan) (past : List Sighting) → KeepsGroup plan past self.old
-            → OnErr result (GroupMayNeedMemory plan past (seen_at link beat.now known lanes.now)) }
         ensures err { OnErr result (self.new ≡ self.old) }
         ensures layout { self.new.layout ≡ self.old.layout }
     {
@@ -463,24 +449,11 @@ impl GroupWatch {
         known: u64,
         lanes: &[u8],
     ) -> Result<Seen, StepError>
-        requires known { HasGroupLink self.old.layout link }
+        requires known { HasLink self.old.layout link }
         requires watched { IsGroupLink self.old.layout.links link }
-        requires lanes { bus_in_group self.old.layout link ≤ length lanes.now }
-        ensures lawful { (plan : GroupPlan) (past : List Sighting) → KeepsGroup plan past self.old
-            → (result ≡ Err StepError.Memory → ⊥)
-            → IsOk result ↔ IsLawfulGroup plan (seen_at link beat.now known lanes.now ∷ past) }
-        ensures keeps { (plan : GroupPlan) (past : List Sighting) → KeepsGroup plan past self.old
-            → OnOk result (KeepsGroup plan (seen_at link beat.now known lanes.now ∷ past) self.new) }
-        ensures seen { (plan : GroupPlan) (past : List Sighting) → KeepsGroup plan past self.old
-            → IfOk result (λ s. s ≡ seen_in_group plan past (seen_at link beat.now known lanes.now)) }
-        ensures fault { (plan : GroupPlan) (past : List Sighting) → KeepsGroup plan past self.old
-            → IfErr result (OfFault (IsFirstGroupFault plan past (seen_at link beat.now known lanes.now))) }
-        ensures memory { (plan : GroupPlan) (past : List Sighting) → KeepsGroup plan past self.old
-            → result ≡ Err StepError.Memory
-            → IsLawfulGroup plan (seen_at link beat.now known lanes.now ∷ past) }
-        ensures needed { (plan : GroupPlan) (past : List Sighting) → KeepsGroup plan past self.old
-            → result ≡ Err StepError.Memory
-            → GroupMayNeedMemory plan past (seen_at link beat.now known lanes.now) }
+        requires lanes { bus_of self.old.layout link ≤ length lanes.now }
+        ensures judged { (plan : Plan) (past : List Sighting) → KeepsGroup plan past self.old
+            → IsGroupStep plan past (seen_at link beat.now known lanes.now) self.new result }
         ensures err { OnErr result (self.new ≡ self.old) }
         ensures layout { self.new.layout ≡ self.old.layout }
     {

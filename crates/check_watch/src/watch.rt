@@ -1,35 +1,34 @@
 //! The judge of what crossed the links of a crossbar.
-ghost use Rattle.std.specs.Prelude.{◌≡◌, ◌<◌, ◌≤◌, ◌↔◌, ◌+◌, ◌∷◌, ℕ, List, [], length, Some, Err, IsTrue, IfOk, OnOk, OnErr, IfErr, IsOk, IfSome, IfNone, IsSome, OnSome, option_map};
+ghost use Rattle.std.specs.Prelude.{◌≡◌, ◌<◌, ◌≤◌, ◌↔◌, ◌+◌, ℕ, [], length, Some, IsTrue, IfOk, IfSome, option_map};
 ghost use Rattle.tl_types.specs.declared.limits.TheConstants.{MAX_SIZE};
-ghost use Rattle.check_map.specs.Owner.{IsOwned};
-ghost use Rattle.check_map.specs.Ranges.{RoutesBytesByRanges};
+ghost use Rattle.tl_map.specs.Owner.{IsOwned};
+ghost use Rattle.tl_map.specs.Map.{RoutesBytes};
 ghost use Rattle.check_beats.specs.Bus.{bus_bytes};
-ghost use Rattle.check_beats.specs.State.{ends_reply};
+ghost use Rattle.check_beats.specs.State.{ends_reply, first_reply};
 ghost use Rattle.check_beats.specs.Form.{FitsReply};
-ghost use Rattle.check_beats.specs.State.{first_reply};
 ghost use Rattle.check_flight.specs.Crossing.Crossing.{Waiting};
 ghost use Rattle.check_flight.specs.Side.{flight_at};
 ghost use Rattle.check_watch.specs.declared.beat.Beat.TheVariants.{D};
 ghost use Rattle.check_beats.specs.declared.beat.ReplyHead.{ReplyHead};
 ghost use Rattle.check_watch.specs.Past.{port_of, slave_at};
-ghost use Rattle.check_watch.specs.Plan.{GroupPlan, IsGroupPlan, HasGroupLink, IsWideAt, IsGroupLink, are_both, bus_in_group, crosses_at_port};
+ghost use Rattle.check_watch.specs.Plan.{Plan, IsPlan, HasLink, IsWideAt, IsGroupLink, are_both, bus_of, crosses_at_port};
 ghost use Rattle.check_watch.specs.Scene.{takes_effect, is_given, must_by};
-ghost use Rattle.check_watch.specs.View.{GroupView, IsSized, IsPlace, wides_in, SuitsGroup, KeepsGroup, own_side, under_in, flight_in, crossing_at, is_answering_in, due_in, captured_in};
+ghost use Rattle.check_watch.specs.View.{GroupView, IsSized, wides_in, SuitsGroup, KeepsGroup, own_side, under_in, flight_in, crossing_at, is_answering_in, due_in, captured_in};
 
 use crate::beat::Link;
-use crate::links::GroupLinks;
+use crate::links::Links;
 use check_beats::{Bus, ReplyHead, UnderWay};
 use check_cells::Pattern;
 use check_flight::{Answer, Crossing, Flight, FlightPlace, Order, PortSlave, Side};
-use check_map::{AddressMap, SourceOwners};
 use std::alloc::{AllocError, Global};
 use std::marker::Model;
+use tl_map::{AddressMap, SourceOwners};
 use tl_types::MAX_SIZE;
 
 /// What a judge keeps of the beats so far.
 #[derive(Drop)]
 pub struct GroupWatch {
-    links: GroupLinks,
+    links: Links,
     map: AddressMap,
     sources: SourceOwners,
     master_buses: Vec<Bus>,
@@ -102,7 +101,7 @@ impl GroupWatch {
     /// port's last, as it is at reset; a bus for each master's link, and one for each port's.
     pub fn new(
         alloc: Global,
-        links: GroupLinks,
+        links: Links,
         map: AddressMap,
         sources: SourceOwners,
         master_buses: Vec<Bus>,
@@ -119,8 +118,8 @@ impl GroupWatch {
           master_buses = master_buses.items;
           port_buses = port_buses.items;
         }) }
-        ensures plan { IfOk result (λ watch. (plan : GroupPlan) × (plan.resets ≡ slaves.items) × KeepsGroup plan [] watch) }
-        ensures keeps { (plan : GroupPlan) → IsGroupPlan plan
+        ensures plan { IfOk result (λ watch. (plan : Plan) × (plan.resets ≡ slaves.items) × KeepsGroup plan [] watch) }
+        ensures keeps { (plan : Plan) → IsPlan plan
             → plan.layout ≡ record {
               links = links;
               owners = sources;
@@ -153,18 +152,20 @@ impl GroupWatch {
     /// Whether the crossbar has a link, and it is watched.
     pub fn watches(&self, link: Link) -> bool
         ensures { IsTrue result
-            ↔ (HasGroupLink self.now.layout link × IsGroupLink self.now.layout.links link) }
+            ↔ (HasLink self.now.layout link × IsGroupLink self.now.layout.links link) }
     {
         match (link, self.links) {
-            (Link::Master(master), GroupLinks::Both | GroupLinks::Masters) => master
-                < self.sources.masters(),
-            (Link::Port(port), GroupLinks::Both | GroupLinks::Ports) => port < self.map.ports() - 1,
-            (Link::Master(_), GroupLinks::Ports) | (Link::Port(_), GroupLinks::Masters) => false,
+            (Link::Master(master), Links::Both | Links::Masters | Links::Each) => {
+                master < self.sources.masters()
+            }
+            (Link::Port(port), Links::Both | Links::Ports) => port < self.map.ports() - 1,
+            (Link::Master(_), Links::Ports) | (Link::Port(_), Links::Masters | Links::Each) =>
+                false,
         }
     }
 
     /// The links that are watched.
-    pub fn links(&self) -> GroupLinks
+    pub fn links(&self) -> Links
         ensures { result ≡ self.now.layout.links }
     {
         self.links
@@ -186,8 +187,8 @@ impl GroupWatch {
 
     /// The bus of a link.
     pub fn bus(&self, link: Link) -> Bus
-        requires { HasGroupLink self.now.layout link }
-        ensures { bus_bytes result ≡ bus_in_group self.now.layout link }
+        requires { HasLink self.now.layout link }
+        ensures { bus_bytes result ≡ bus_of self.now.layout link }
     {
         self.sized();
         self.link(link).bus()
@@ -221,7 +222,7 @@ impl GroupWatch {
 
     /// The messages under way at a link.
     pub(crate) fn link(&self, link: Link) -> &UnderWay
-        requires { HasGroupLink self.now.layout link }
+        requires { HasLink self.now.layout link }
         ensures { result.now ≡ under_in self.now link }
     {
         match link {
@@ -270,10 +271,10 @@ impl GroupWatch {
 
     /// The port that requests at a link go to, of this address and size.
     pub(crate) fn port(&self, link: Link, address: u64, size: u8) -> usize
-        requires known { HasGroupLink self.now.layout link }
+        requires known { HasLink self.now.layout link }
         requires in_limit { size ≤ MAX_SIZE }
         ensures master { (number port : ℕ) → link ≡ Link.Master number
-            → (result ≡ port) ↔ RoutesBytesByRanges self.now.layout.ports address size port }
+            → (result ≡ port) ↔ RoutesBytes self.now.layout.ports address size port }
         ensures port { (number : ℕ) → link ≡ Link.Port number → result ≡ number }
         ensures in_ports { result < length self.now.slaves }
     {
@@ -285,9 +286,9 @@ impl GroupWatch {
 
     /// The port of the request in flight of a wide source at a link.
     pub(crate) fn port_in_flight(&self, link: Link, wide: usize) -> usize
-        requires known { HasGroupLink self.now.layout link }
+        requires known { HasLink self.now.layout link }
         requires wide { wide < wides_in self.now }
-        ensures port { (plan : GroupPlan) (beat : ReplyHead) → SuitsGroup plan self.now
+        ensures port { (plan : Plan) (beat : ReplyHead) → SuitsGroup plan self.now
             → result ≡ port_of plan link (flight_in self.now link wide).turn (D beat) }
         ensures in_ports { result < length self.now.slaves }
     {
@@ -302,7 +303,7 @@ impl GroupWatch {
     /// Whether the address map has bytes with the port of a link.
     pub(crate) fn is_at_port(&self, port: usize, address: u64, size: u8) -> bool
         requires { size ≤ MAX_SIZE }
-        ensures { IsTrue result ↔ RoutesBytesByRanges self.now.layout.ports address size port }
+        ensures { IsTrue result ↔ RoutesBytes self.now.layout.ports address size port }
     {
         self.map.route_bytes(address, size) == port
     }
@@ -310,16 +311,16 @@ impl GroupWatch {
     /// Whether both sides are watched.
     pub(crate) fn watches_both(&self) -> bool
         ensures value { result ≡ are_both self.now.layout.links }
-        ensures both { IsTrue result ↔ (self.now.layout.links ≡ GroupLinks.Both) }
+        ensures both { IsTrue result ↔ (self.now.layout.links ≡ Links.Both) }
     {
-        matches!(self.links, GroupLinks::Both)
+        matches!(self.links, Links::Both)
     }
 
     /// Whether requests to a port are seen on both sides.
     fn crosses(&self, port: usize) -> bool
         ensures { result ≡ crosses_at_port self.now.layout port }
     {
-        matches!(self.links, GroupLinks::Both) && port < self.map.ports() - 1
+        matches!(self.links, Links::Both) && port < self.map.ports() - 1
     }
 
     /// Whether the reply that must come at a link is what a port gave.
@@ -344,7 +345,7 @@ impl GroupWatch {
 
     /// Whether the slave of a port answers as the next beat of channel D crosses at a link.
     pub(crate) fn is_answering(&self, link: Link, port: usize) -> bool
-        requires known { HasGroupLink self.now.layout link }
+        requires known { HasLink self.now.layout link }
         ensures { result ≡ is_answering_in self.now link port }
     {
         self.takes_effect(link, port) && self.link(link).begins_reply()
@@ -359,7 +360,7 @@ impl GroupWatch {
         port: usize,
         room: &'a mut Answer,
     ) -> Option<&'a Answer>
-        requires known { HasGroupLink self.now.layout link }
+        requires known { HasLink self.now.layout link }
         requires wide { wide < wides_in self.now }
         requires port { port < length self.now.slaves }
         ensures { option_map (λ answer. answer.now) result ≡ due_in self.now link wide port }
@@ -387,7 +388,7 @@ impl GroupWatch {
         place: FlightPlace,
         room: &'a mut Answer,
     ) -> Option<&'a Answer>
-        requires known { HasGroupLink self.now.layout link }
+        requires known { HasLink self.now.layout link }
         requires wide { place.wide < wides_in self.now }
         requires port { place.port < length self.now.slaves }
         ensures { option_map (λ answer. answer.now) result
@@ -410,7 +411,7 @@ impl GroupWatch {
         lanes: &[u8],
         reply: &mut Pattern,
     )
-        requires known { HasGroupLink self.now.layout link }
+        requires known { HasLink self.now.layout link }
         requires wide { wide < wides_in self.now }
         requires fits { FitsReply (first_reply (under_in self.now link).replying) beat.now }
         requires ends { let under = under_in self.now link in IsTrue (ends_reply under.bus under.replying beat.now) }

@@ -13,12 +13,12 @@ use Rattle.check_watch.specs.declared.beat.Beat.{Beat}
 use Rattle.check_watch.specs.declared.beat.Beat.TheVariants.{A, D}
 use Rattle.check_watch.specs.declared.beat.Link.{Link}
 use Rattle.check_watch.specs.declared.beat.Link.TheVariants.{Master, Port}
-use Rattle.check_watch.specs.declared.links.GroupLinks.{GroupLinks}
-use Rattle.check_watch.specs.declared.links.GroupLinks.TheVariants.{Both, Masters, Ports}
+use Rattle.check_watch.specs.declared.links.Links.{Links}
+use Rattle.check_watch.specs.declared.links.Links.TheVariants.{Both, Masters, Ports, Each}
 use Rattle.check_watch.specs.Allowed.{IsSent, OfAsked, HasKnownLanes, IsAnswer, IsMust, EndsWell, IsAllowedAsk, IsAllowedReply}
 use Rattle.check_watch.specs.Lawful.{IsLawfulGroup, IsAllowed}
 use Rattle.check_watch.specs.Past.{State, port_in, scene_found, scene_of, state}
-use Rattle.check_watch.specs.Plan.{GroupPlan, IsGroupPlan, GroupLayout, Sighting, side_of, link_number, wide_of, are_both, bus_in_group, HasGroupLink, IsGroupLink}
+use Rattle.check_watch.specs.Plan.{Plan, IsPlan, Layout, Sighting, side_of, link_number, wide_of, are_both, bus_of, HasLink, IsGroupLink}
 use Rattle.check_watch.specs.Plan.LinkSide.{AtMasters, AtPorts}
 use Rattle.check_watch.specs.Scene.{captured, is_given}
 use Rattle.check_watch.proofs.InFlight.{ask_at, reply_at}
@@ -42,8 +42,8 @@ use Rattle.check_watch_laws.proofs.Standing.{IsOut, Stands, is_out}
 use Rattle.check_watch_laws.proofs.Taking.{next_is}
 use Rattle.check_watch_laws.proofs.Whole.{slave_found, unknown_stays}
 
-module _ (plan : GroupPlan) (is_plan : IsGroupPlan plan) (past : List Sighting) (watched : AreWatched plan.layout past)
-    (lawful : IsLawfulGroup plan past) (link : Link) (known : ℕ) (lanes : List ℕ) (has : HasGroupLink plan.layout link)
+module _ (plan : Plan) (is_plan : IsPlan plan) (past : List Sighting) (watched : AreWatched plan.layout past)
+    (lawful : IsLawfulGroup plan past) (link : Link) (known : ℕ) (lanes : List ℕ) (has : HasLink plan.layout link)
     (seen_here : IsGroupLink plan.layout.links link) where
   abbrev s : State
   s = state plan past
@@ -54,16 +54,16 @@ module _ (plan : GroupPlan) (is_plan : IsGroupPlan plan) (past : List Sighting) 
   heads : (at : Link) → AskHeads (asking_at plan.layout at past) (begun_at plan.layout at past)
   heads at =
       let bus = bus_is plan.layout at in
-      ask_heads (bus_in_group plan.layout at) bus.0 bus.1 (asks_over plan.layout at past) (asks_fit plan past watched lawful at)
+      ask_heads (bus_of plan.layout at) bus.0 bus.1 (asks_over plan.layout at past) (asks_fit plan past watched lawful at)
 
   -- ---- a beat of a request
 
   abbrev ask_now : Link → AskHead → Request
-  ask_now at beat = ask_of (bus_in_group plan.layout at) (asking_at plan.layout at past) beat
-      (take (bus_in_group plan.layout at) lanes)
+  ask_now at beat = ask_of (bus_of plan.layout at) (asking_at plan.layout at past) beat
+      (take (bus_of plan.layout at) lanes)
 
   sent_so : (at : Link) (beat : AskHead) → KeepsRules plan (ask_at at known lanes beat ∷ past)
-      → ends_ask (bus_in_group plan.layout at) (asking_at plan.layout at past) beat ≡ true
+      → ends_ask (bus_of plan.layout at) (asking_at plan.layout at past) beat ≡ true
       → IsSent plan.layout at (scene_of plan s at (A beat)).sent (scene_of plan s at (A beat)).crossing (ask_now at beat)
   sent_so (Master m) beat rules ends = tt
   sent_so (Port p) beat rules ends = λ both.
@@ -95,20 +95,21 @@ module _ (plan : GroupPlan) (is_plan : IsGroupPlan plan) (past : List Sighting) 
 
   -- ---- a beat of a reply
 
-  both_of : (layout : GroupLayout) (m port : ℕ) → is_given layout (Master m) port ≡ true → (layout.links ≡ Both)
+  both_of : (layout : Layout) (m port : ℕ) → is_given layout (Master m) port ≡ true → (layout.links ≡ Both)
       × (nat_lt port (length layout.ports) ≡ true)
   both_of layout m port is = go layout.links refl is
     where
-      go : (links : GroupLinks) → layout.links ≡ links → (are_both links && nat_lt port (length layout.ports)) ≡ true
+      go : (links : Links) → layout.links ≡ links → (are_both links && nat_lt port (length layout.ports)) ≡ true
           → (layout.links ≡ Both) × (nat_lt port (length layout.ports) ≡ true)
       go Both so given = (so, given)
       go Masters so given = cc
       go Ports so given = cc
+      go Each so given = cc
 
   -- what is captured of the reply that ends, by the beats of its link
   abbrev got_now : Link → ReplyHead → ℕ → Pattern
-  got_now at beat address = reply_of (bus_in_group plan.layout at) (replying_at plan.layout at past) address beat
-      (known % 2 ^ bus_in_group plan.layout at) (take (bus_in_group plan.layout at) lanes)
+  got_now at beat address = reply_of (bus_of plan.layout at) (replying_at plan.layout at past) address beat
+      (known % 2 ^ bus_of plan.layout at) (take (bus_of plan.layout at) lanes)
 
   -- the reply that ends is the one that must come
   abbrev IsWell : Link → ReplyHead → Request → Bool → Type 0
@@ -119,7 +120,7 @@ module _ (plan : GroupPlan) (is_plan : IsGroupPlan plan) (past : List Sighting) 
   -- from a port
   given_so : (at : Link) (beat : ReplyHead) → KeepsRules plan (reply_at at known lanes beat ∷ past) → (ask : Request)
       → (s.flights (side_of at) (wide_of plan at beat.source)).turn ≡ Asked (link_number at) ask
-      → ends_reply (bus_in_group plan.layout at) (replying_at plan.layout at past) beat ≡ true
+      → ends_reply (bus_of plan.layout at) (replying_at plan.layout at past) beat ≡ true
       → is_given plan.layout at (scene_found plan s at (D beat)).port ≡ true → IsWell at beat ask true
   given_so (Port p) beat rules ask in_flight ends given = cc
   given_so (Master m) beat rules ask in_flight ends given =
@@ -143,7 +144,7 @@ module _ (plan : GroupPlan) (is_plan : IsGroupPlan plan) (past : List Sighting) 
   well beat rules ask in_flight ends_here =
       let found = (scene_found plan s link (D beat)).port in
       let scene = scene_of plan s link (D beat) in
-      let ends : ends_reply (bus_in_group plan.layout link) (replying_at plan.layout link past) beat ≡ true =
+      let ends : ends_reply (bus_of plan.layout link) (replying_at plan.layout link past) beat ≡ true =
       ap (λ (u : Under). ends_reply u.bus u.replying beat) (sym (under_is link)) ∙ ends_here in
       let got_is : captured (s.links (side_of link) (link_number link))
       (s.flights (side_of link) (wide_of plan link beat.source)).turn beat known lanes ≡ got_now link beat ask.address =
@@ -154,7 +155,7 @@ module _ (plan : GroupPlan) (is_plan : IsGroupPlan plan) (past : List Sighting) 
       (go (is_given plan.layout link found) refl ends)
     where
       go : (given : Bool) → is_given plan.layout link (scene_found plan s link (D beat)).port ≡ given
-          → ends_reply (bus_in_group plan.layout link) (replying_at plan.layout link past) beat ≡ true
+          → ends_reply (bus_of plan.layout link) (replying_at plan.layout link past) beat ≡ true
           → IsWell link beat ask given
       go true given ends = given_so link beat rules ask in_flight ends given
       go false given ends =
@@ -178,10 +179,10 @@ module _ (plan : GroupPlan) (is_plan : IsGroupPlan plan) (past : List Sighting) 
       slave_found plan s link (D beat) ∙ unknown_stays plan past scene.port
       ∙ ap (λ p. may_be_unknown (reset_of plan p)) (sym (reply_goes plan link turn (link_number link) beat answering.ask
       answering.in_flight)) in
-      let bus : bus_in_group plan.layout link ≡ scene.under.bus = sym (ap (λ (u : Under). u.bus) (under_is link)) in
+      let bus : bus_of plan.layout link ≡ scene.under.bus = sym (ap (λ (u : Under). u.bus) (under_is link)) in
       let lanes_known : HasKnownLanes scene.under.bus (may_be_unknown scene.slave) answering.ask beat known =
       subst (λ n. HasKnownLanes n (may_be_unknown scene.slave) answering.ask beat known) bus
-      (subst (λ b. HasKnownLanes (bus_in_group plan.layout link) b answering.ask beat known) (sym unknown)
+      (subst (λ b. HasKnownLanes (bus_of plan.layout link) b answering.ask beat known) (sym unknown)
       (seen answering.ask next)) in
       record {
         fits = subst (λ (u : Under). FitsReply (first_reply u.replying) beat) (sym (under_is link)) fits;
@@ -194,7 +195,7 @@ module _ (plan : GroupPlan) (is_plan : IsGroupPlan plan) (past : List Sighting) 
         ends = well beat rules answering.ask answering.in_flight;
       }
 
-pub rules_make_lawful : (plan : GroupPlan) (past : List Sighting) → IsGroupPlan plan → AreWatched plan.layout past
+pub rules_make_lawful : (plan : Plan) (past : List Sighting) → IsPlan plan → AreWatched plan.layout past
     → AreSeenWhole plan past → AlwaysKeepsRules plan past → IsLawfulGroup plan past
 rules_make_lawful plan [] is watched seen always = tt
 rules_make_lawful plan (x ∷ past) is watched seen always =

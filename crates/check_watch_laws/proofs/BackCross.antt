@@ -10,7 +10,7 @@ use Rattle.check_flight.specs.Flight.{Turn}
 use Rattle.check_flight.specs.Flight.Turn.{Idle, Asking, Asked}
 use Rattle.check_watch.specs.declared.beat.Link.TheVariants.{Port}
 use Rattle.check_watch.specs.Allowed.{IsAskedAs}
-use Rattle.check_watch.specs.Plan.{GroupPlan, Sighting, bus_in_group}
+use Rattle.check_watch.specs.Plan.{Plan, Sighting, bus_of}
 use Rattle.check_watch.specs.Plan.LinkSide.{AtMasters, AtPorts}
 use Rattle.check_watch.proofs.InFlight.{ask_at}
 use Rattle.check_watch_laws.specs.Crossed.{AskSeen, asking_at, asks}
@@ -27,15 +27,15 @@ abbrev head_of : Request → List Request → Request
 head_of other [] = other
 head_of other (ask ∷ more) = ask
 
-module _ (plan : GroupPlan) (past : List Sighting) (p known : ℕ) (lanes : List ℕ) (beat : AskHead)
-    (ends : ends_ask (bus_in_group plan.layout (Port p)) (asking_at plan.layout (Port p) past) beat ≡ true)
+module _ (plan : Plan) (past : List Sighting) (p known : ℕ) (lanes : List ℕ) (beat : AskHead)
+    (ends : ends_ask (bus_of plan.layout (Port p)) (asking_at plan.layout (Port p) past) beat ≡ true)
     (crossing : MessagesCross plan (ask_at (Port p) known lanes beat ∷ past) beat.source) where
   abbrev wide : ℕ
   wide = beat.source
 
   abbrev ask : Request
-  ask = ask_of (bus_in_group plan.layout (Port p)) (asking_at plan.layout (Port p) past) beat
-      (take (bus_in_group plan.layout (Port p)) lanes)
+  ask = ask_of (bus_of plan.layout (Port p)) (asking_at plan.layout (Port p) past) beat
+      (take (bus_of plan.layout (Port p)) lanes)
 
   abbrev taken : List AskSeen
   taken = asks plan AtPorts wide past

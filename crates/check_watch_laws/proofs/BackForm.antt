@@ -11,7 +11,7 @@ use Rattle.check_beats.specs.State.{AskBegun, ReplyBegun, first_ask, first_reply
 use Rattle.check_beats.specs.declared.beat.AskHead.{AskHead}
 use Rattle.check_beats.specs.declared.beat.ReplyHead.{ReplyHead}
 use Rattle.check_watch.specs.declared.beat.Link.{Link}
-use Rattle.check_watch.specs.Plan.{GroupLayout, Sighting, bus_in_group}
+use Rattle.check_watch.specs.Plan.{Layout, Sighting, bus_of}
 use Rattle.check_watch.proofs.InFlight.{ask_at, reply_at}
 use Rattle.check_watch_laws.specs.Crossed.{ask_beat, reply_beat, asks_over, replies_over, more_asks, more_replies, asking_at, begun_at, ended_at, replying_at, begun_replies_at, ended_replies_at}
 use Rattle.check_watch_laws.specs.Messages.{CarriesMessages}
@@ -20,18 +20,18 @@ use Rattle.check_watch_laws.proofs.Heads.{AskHeads, ReplyHeads}
 use Rattle.check_watch_laws.proofs.Turns.{own_is}
 
 -- the beats of a link, with one more there
-pub asks_here : (layout : GroupLayout) (past : List Sighting) (x : Sighting)
+pub asks_here : (layout : Layout) (past : List Sighting) (x : Sighting)
     → asks_over layout x.link (x ∷ past)
-    ≡ more_asks (bus_in_group layout x.link) x x.beat (asks_over layout x.link past)
+    ≡ more_asks (bus_of layout x.link) x x.beat (asks_over layout x.link past)
 asks_here layout past x =
-    ap (λ b. if b then more_asks (bus_in_group layout x.link) x x.beat (asks_over layout x.link past)
+    ap (λ b. if b then more_asks (bus_of layout x.link) x x.beat (asks_over layout x.link past)
     else asks_over layout x.link past) (own_is x.link)
 
-pub replies_here : (layout : GroupLayout) (past : List Sighting) (x : Sighting)
+pub replies_here : (layout : Layout) (past : List Sighting) (x : Sighting)
     → replies_over layout x.link (x ∷ past)
-    ≡ more_replies (bus_in_group layout x.link) x x.beat (replies_over layout x.link past)
+    ≡ more_replies (bus_of layout x.link) x x.beat (replies_over layout x.link past)
 replies_here layout past x =
-    ap (λ b. if b then more_replies (bus_in_group layout x.link) x x.beat (replies_over layout x.link past)
+    ap (λ b. if b then more_replies (bus_of layout x.link) x x.beat (replies_over layout x.link past)
     else replies_over layout x.link past) (own_is x.link)
 
 slice_at : {X : Type 0} (xs : List X) (y : X) (rest : List X) → slice_get ((xs ++ y ∷ []) ++ rest) (length xs) ≡ Some y
@@ -113,71 +113,71 @@ some_more : {X : Type 0} (xs : List X) (x : X) → xs ++ x ∷ [] ≢ []
 some_more [] x is = absurd (cc)
 some_more (y ∷ xs) x is = absurd (cc)
 
-module _ (layout : GroupLayout) (past : List Sighting) (link : Link) (known : ℕ) (lanes : List ℕ) where
+module _ (layout : Layout) (past : List Sighting) (link : Link) (known : ℕ) (lanes : List ℕ) where
   pub ask_fits : (beat : AskHead) → AskHeads (asking_at layout link past) (begun_at layout link past)
       → CarriesMessages layout (ask_at link known lanes beat ∷ past) link
-      → FitsAsk (bus_in_group layout link) (first_ask (asking_at layout link past)) beat
+      → FitsAsk (bus_of layout link) (first_ask (asking_at layout link past)) beat
   ask_fits beat heads carries =
-      go (ends_ask (bus_in_group layout link) (asking_at layout link past) beat)
-      (ask_of (bus_in_group layout link) (asking_at layout link past) beat (take (bus_in_group layout link) lanes))
-      (subst (λ l. AllByRecursion (IsSpelled (bus_in_group layout link)) (ended_asks (bus_in_group layout link) l))
+      go (ends_ask (bus_of layout link) (asking_at layout link past) beat)
+      (ask_of (bus_of layout link) (asking_at layout link past) beat (take (bus_of layout link) lanes))
+      (subst (λ l. AllByRecursion (IsSpelled (bus_of layout link)) (ended_asks (bus_of layout link) l))
       (asks_here layout past (ask_at link known lanes beat)) carries.asks_spelled)
-      (subst (λ l. begun (bus_in_group layout link) l ≢ [] → CanEnd (bus_in_group layout link) (begun (bus_in_group layout link) l))
+      (subst (λ l. begun (bus_of layout link) l ≢ [] → CanEnd (bus_of layout link) (begun (bus_of layout link) l))
       (asks_here layout past (ask_at link known lanes beat)) carries.ask_begun)
     where
       b : AskBeat
-      b = ask_beat (bus_in_group layout link) beat lanes
+      b = ask_beat (bus_of layout link) beat lanes
 
-      go : (ends : Bool) (ask : Request) → AllByRecursion (IsSpelled (bus_in_group layout link))
+      go : (ends : Bool) (ask : Request) → AllByRecursion (IsSpelled (bus_of layout link))
           (if ends then ended_at layout link past
-          ++ (ask, begun_at layout link past ++ ask_beat (bus_in_group layout link) beat lanes ∷ []) ∷ []
+          ++ (ask, begun_at layout link past ++ ask_beat (bus_of layout link) beat lanes ∷ []) ∷ []
           else ended_at layout link past)
-          → ((if ends then [] else begun_at layout link past ++ ask_beat (bus_in_group layout link) beat lanes ∷ []) ≢ []
-          → CanEnd (bus_in_group layout link)
-          (if ends then [] else begun_at layout link past ++ ask_beat (bus_in_group layout link) beat lanes ∷ []))
-          → FitsAsk (bus_in_group layout link) (first_ask (asking_at layout link past)) beat
+          → ((if ends then [] else begun_at layout link past ++ ask_beat (bus_of layout link) beat lanes ∷ []) ≢ []
+          → CanEnd (bus_of layout link)
+          (if ends then [] else begun_at layout link past ++ ask_beat (bus_of layout link) beat lanes ∷ []))
+          → FitsAsk (bus_of layout link) (first_ask (asking_at layout link past)) beat
       go true ask all can =
           let message : List AskBeat = begun_at layout link past ++ b ∷ [] in
-          spelled_fits (bus_in_group layout link) ask (asking_at layout link past) (begun_at layout link past) b [] heads
-          (subst (λ (l : List AskBeat). IsSpelled (bus_in_group layout link) (ask, l)) (sym (append-nil message))
-          (last_of_all (IsSpelled (bus_in_group layout link)) (ended_at layout link past) (ask, message) all))
+          spelled_fits (bus_of layout link) ask (asking_at layout link past) (begun_at layout link past) b [] heads
+          (subst (λ (l : List AskBeat). IsSpelled (bus_of layout link) (ask, l)) (sym (append-nil message))
+          (last_of_all (IsSpelled (bus_of layout link)) (ended_at layout link past) (ask, message) all))
       go false ask all can =
           let end = can (some_more (begun_at layout link past) b) in
-          spelled_fits (bus_in_group layout link) end.0 (asking_at layout link past) (begun_at layout link past) b end.1 heads
+          spelled_fits (bus_of layout link) end.0 (asking_at layout link past) (begun_at layout link past) b end.1 heads
           end.2
 
   pub reply_fits : (beat : ReplyHead) → ReplyHeads (replying_at layout link past) (begun_replies_at layout link past)
       → CarriesMessages layout (reply_at link known lanes beat ∷ past) link
       → FitsReply (first_reply (replying_at layout link past)) beat
   reply_fits beat heads carries =
-      go (ends_reply (bus_in_group layout link) (replying_at layout link past) beat)
-      (λ address. reply_of (bus_in_group layout link) (replying_at layout link past) address beat
-      (known % 2 ^ bus_in_group layout link) (take (bus_in_group layout link) lanes))
-      (subst (λ l. AllByRecursion (IsReplySpelled (bus_in_group layout link)) (ended_replies (bus_in_group layout link) l))
+      go (ends_reply (bus_of layout link) (replying_at layout link past) beat)
+      (λ address. reply_of (bus_of layout link) (replying_at layout link past) address beat
+      (known % 2 ^ bus_of layout link) (take (bus_of layout link) lanes))
+      (subst (λ l. AllByRecursion (IsReplySpelled (bus_of layout link)) (ended_replies (bus_of layout link) l))
       (replies_here layout past (reply_at link known lanes beat)) carries.replies_spelled)
-      (subst (λ l. begun_reply (bus_in_group layout link) l ≢ []
-      → ReplyCanEndSo (bus_in_group layout link) (begun_reply (bus_in_group layout link) l))
+      (subst (λ l. begun_reply (bus_of layout link) l ≢ []
+      → ReplyCanEndSo (bus_of layout link) (begun_reply (bus_of layout link) l))
       (replies_here layout past (reply_at link known lanes beat)) carries.reply_begun)
     where
       b : ReplyBeat
-      b = reply_beat (bus_in_group layout link) beat known lanes
+      b = reply_beat (bus_of layout link) beat known lanes
 
-      go : (ends : Bool) (reply : ℕ → Pattern) → AllByRecursion (IsReplySpelled (bus_in_group layout link))
+      go : (ends : Bool) (reply : ℕ → Pattern) → AllByRecursion (IsReplySpelled (bus_of layout link))
           (if ends then ended_replies_at layout link past
-          ++ (reply, begun_replies_at layout link past ++ reply_beat (bus_in_group layout link) beat known lanes ∷ []) ∷ []
+          ++ (reply, begun_replies_at layout link past ++ reply_beat (bus_of layout link) beat known lanes ∷ []) ∷ []
           else ended_replies_at layout link past)
           → ((if ends then []
-          else begun_replies_at layout link past ++ reply_beat (bus_in_group layout link) beat known lanes ∷ []) ≢ []
-          → ReplyCanEndSo (bus_in_group layout link) (if ends then []
-          else begun_replies_at layout link past ++ reply_beat (bus_in_group layout link) beat known lanes ∷ []))
+          else begun_replies_at layout link past ++ reply_beat (bus_of layout link) beat known lanes ∷ []) ≢ []
+          → ReplyCanEndSo (bus_of layout link) (if ends then []
+          else begun_replies_at layout link past ++ reply_beat (bus_of layout link) beat known lanes ∷ []))
           → FitsReply (first_reply (replying_at layout link past)) beat
       go true reply all can =
           let message : List ReplyBeat = begun_replies_at layout link past ++ b ∷ [] in
-          reply_spelled_fits (bus_in_group layout link) reply (replying_at layout link past)
+          reply_spelled_fits (bus_of layout link) reply (replying_at layout link past)
           (begun_replies_at layout link past) b [] heads
-          (subst (λ (l : List ReplyBeat). IsReplySpelled (bus_in_group layout link) (reply, l)) (sym (append-nil message))
-          (last_of_all (IsReplySpelled (bus_in_group layout link)) (ended_replies_at layout link past) (reply, message) all))
+          (subst (λ (l : List ReplyBeat). IsReplySpelled (bus_of layout link) (reply, l)) (sym (append-nil message))
+          (last_of_all (IsReplySpelled (bus_of layout link)) (ended_replies_at layout link past) (reply, message) all))
       go false reply all can =
           let end = can (some_more (begun_replies_at layout link past) b) in
-          reply_spelled_fits (bus_in_group layout link) end.0 (replying_at layout link past)
+          reply_spelled_fits (bus_of layout link) end.0 (replying_at layout link past)
           (begun_replies_at layout link past) b end.1 heads end.2

@@ -15,7 +15,7 @@ use Rattle.check_watch.specs.declared.beat.Link.{Link}
 use Rattle.check_watch.specs.declared.beat.Link.TheVariants.{Master, Port}
 use Rattle.check_watch.specs.Lawful.{IsLawfulGroup}
 use Rattle.check_watch.specs.Past.{State, scene_found, scene_of, state}
-use Rattle.check_watch.specs.Plan.{GroupPlan, GroupLayout, Sighting, side_of, link_number, wide_of, same_side, bus_in_group, HasGroupLink, IsGroupLink}
+use Rattle.check_watch.specs.Plan.{Plan, Layout, Sighting, side_of, link_number, wide_of, same_side, bus_of, HasLink, IsGroupLink}
 use Rattle.check_watch.specs.Plan.LinkSide.{AtMasters, AtPorts}
 use Rattle.check_watch.specs.Scene.{takes_effect, is_given}
 use Rattle.check_watch.proofs.InFlight.{reply_at}
@@ -66,7 +66,7 @@ last_given wide (x ∷ seen) [] last one all are = absurd all
 last_given wide (x ∷ seen) (g ∷ front) last one all are = last_given wide seen front last one all.1 are.1
 
 -- if a reply is not given by a port, the slave answers here
-effect_of : (layout : GroupLayout) (link : Link) (port : ℕ) → is_given layout link port ≡ false
+effect_of : (layout : Layout) (link : Link) (port : ℕ) → is_given layout link port ≡ false
     → takes_effect layout link port ≡ true
 effect_of layout (Port p) port is = refl
 effect_of layout (Master m) port is = ap (λ b. if b then false else true) is
@@ -76,7 +76,7 @@ first_entry other [] = other
 first_entry other (entry ∷ more) = entry
 
 -- the reply that is owed is the entry
-owed_entry : (plan : GroupPlan) (port wide n : ℕ) (link : Link) (ask : Request) (due : Option Answer)
+owed_entry : (plan : Plan) (port wide n : ℕ) (link : Link) (ask : Request) (due : Option Answer)
     (entry : Request × Pattern) (more : List (Request × Pattern)) (reply : ReplySeen) → n ≡ link_number link
     → (port_for plan link ask == port) ≡ true
     → owed plan port wide (side_of link) (Asked n ask) due ≡ entry ∷ more → IsSourced (Asked n ask) due
@@ -96,12 +96,12 @@ owed_entry plan port wide n link ask (Some answer) entry more reply number goes 
 
 -- ---- a reply that ends
 
-module _ (plan : GroupPlan) (past : List Sighting) (watched : AreWatched plan.layout past) (lawful : IsLawfulGroup plan past)
-    (link : Link) (known : ℕ) (lanes : List ℕ) (has : HasGroupLink plan.layout link)
+module _ (plan : Plan) (past : List Sighting) (watched : AreWatched plan.layout past) (lawful : IsLawfulGroup plan past)
+    (link : Link) (known : ℕ) (lanes : List ℕ) (has : HasLink plan.layout link)
     (seen_here : IsGroupLink plan.layout.links link) (beat : ReplyHead) (ask : Request)
     (in_flight : ((state plan past).flights (side_of link) (wide_of plan link beat.source)).turn ≡ Asked
     (link_number link) ask)
-    (ends : ends_reply (bus_in_group plan.layout link) (replying_at plan.layout link past) beat ≡ true) where
+    (ends : ends_reply (bus_of plan.layout link) (replying_at plan.layout link past) beat ≡ true) where
   abbrev s : State
   s = state plan past
 
@@ -118,7 +118,7 @@ module _ (plan : GroupPlan) (past : List Sighting) (watched : AreWatched plan.la
   due = (scene_of plan s link (D beat)).flight.due
 
   abbrev bus : ℕ
-  bus = bus_in_group plan.layout link
+  bus = bus_of plan.layout link
 
   abbrev pub ended_now : ReplySeen
   ended_now = record {
@@ -196,10 +196,10 @@ module _ (plan : GroupPlan) (past : List Sighting) (watched : AreWatched plan.la
       (sourced_late plan s past linked steps dues replayed link known lanes has seen_here beat ask in_flight) entry.3
 
 -- the reply that a port gave
-module _ (plan : GroupPlan) (past : List Sighting) (lawful : IsLawfulGroup plan past) (m known : ℕ) (lanes : List ℕ)
+module _ (plan : Plan) (past : List Sighting) (lawful : IsLawfulGroup plan past) (m known : ℕ) (lanes : List ℕ)
     (beat : ReplyHead) (ask : Request)
     (in_flight : ((state plan past).flights AtMasters (plan.wide m beat.source)).turn ≡ Asked m ask)
-    (ends : ends_reply (bus_in_group plan.layout (Master m)) (replying_at plan.layout (Master m) past) beat ≡ true)
+    (ends : ends_reply (bus_of plan.layout (Master m)) (replying_at plan.layout (Master m) past) beat ≡ true)
     (out : is_out plan (plan.wide m beat.source) ask ≡ true)
     (crossing : MessagesCross plan (reply_at (Master m) known lanes beat ∷ past) (plan.wide m beat.source)) where
   abbrev wide : ℕ
@@ -209,7 +209,7 @@ module _ (plan : GroupPlan) (past : List Sighting) (lawful : IsLawfulGroup plan 
   story = story_at plan wide past
 
   abbrev width : ℕ
-  width = bus_in_group plan.layout (Master m)
+  width = bus_of plan.layout (Master m)
 
   abbrev got_now : ReplySeen
   got_now = record {

@@ -3,7 +3,7 @@ use Rattle.std.proofs.Common.{◌≡◌, ◌∙◌, ℕ, suc, ◌+◌, ◌-◌, 
 use Rattle.std.specs.Prelude.{slice_range}
 use Rattle.std.specs.List.{AllByRecursion}
 use Rattle.tl_types.specs.Request.{Request}
-use Rattle.check_map.specs.Ranges.{RoutesBytesByRanges}
+use Rattle.tl_map.specs.Map.{RoutesBytes}
 use Rattle.check_beats.specs.Form.{Continues, SameFields, SameReplyFields}
 use Rattle.check_beats.specs.Laws.{begun, begun_reply}
 use Rattle.check_beats.specs.Spelling.{AskBeat, ReplyBeat}
@@ -18,7 +18,7 @@ use Rattle.check_watch.specs.declared.beat.Link.TheVariants.{Master, Port}
 use Rattle.check_watch.specs.Allowed.{IsPlaced}
 use Rattle.check_watch.specs.Lawful.{IsLawfulGroup}
 use Rattle.check_watch.specs.Past.{state}
-use Rattle.check_watch.specs.Plan.{GroupPlan, Sighting, LinkSide, side_of, link_number, wide_of, is_link, bus_in_group}
+use Rattle.check_watch.specs.Plan.{Plan, Sighting, LinkSide, side_of, link_number, wide_of, is_link, bus_of}
 use Rattle.check_watch.specs.Plan.LinkSide.{AtMasters, AtPorts}
 use Rattle.check_watch.proofs.InFlight.{ask_at, reply_at, of_own}
 use Rattle.check_watch_laws.specs.Crossed.{AskSeen, ReplySeen, ask_beat, reply_beat, more_asks, asks_over, asking_at, begun_at, replying_at, begun_replies_at, ask_ended, reply_ended, asks, replies, next_answered}
@@ -35,7 +35,7 @@ use Rattle.check_watch_laws.proofs.Turns.{link_on}
 
 -- ---- what one beat adds to the messages of its source
 
-module _ (plan : GroupPlan) (past : List Sighting) (link : Link) (known : ℕ) (lanes : List ℕ) where
+module _ (plan : Plan) (past : List Sighting) (link : Link) (known : ℕ) (lanes : List ℕ) where
   pub asks_with_ask : (beat : AskHead) → asks plan (side_of link) (wide_of plan link beat.source)
       (ask_at link known lanes beat ∷ past) ≡ asks plan (side_of link) (wide_of plan link beat.source) past
       ++ ask_ended plan.layout past (ask_at link known lanes beat) (A beat)
@@ -82,7 +82,7 @@ first_of_kept kept [] v heads is = absurd (heads.some v is refl)
 first_of_kept kept (f ∷ beats) v heads is =
     (f, beats, refl, (heads.each 0 f refl v.first (ap first_ask is)).source)
 
-module _ (plan : GroupPlan) (past : List Sighting) (lawful : IsLawfulGroup plan past) (link : Link) (known : ℕ) (lanes : List ℕ)
+module _ (plan : Plan) (past : List Sighting) (lawful : IsLawfulGroup plan past) (link : Link) (known : ℕ) (lanes : List ℕ)
     (beat : AskHead) (heads : (l : Link) → AskHeads (asking_at plan.layout l past) (begun_at plan.layout l past))
     (same : Continues SameFields (first_ask (asking_at plan.layout link past)) beat)
     (turns : TakeTurns plan (ask_at link known lanes beat ∷ past) (side_of link) (wide_of plan link beat.source)) where
@@ -93,11 +93,11 @@ module _ (plan : GroupPlan) (past : List Sighting) (lawful : IsLawfulGroup plan 
   turn = ((state plan past).flights (side_of link) own).turn
 
   abbrev ends_now : Bool
-  ends_now = ends_ask (bus_in_group plan.layout link) (asking_at plan.layout link past) beat
+  ends_now = ends_ask (bus_of plan.layout link) (asking_at plan.layout link past) beat
 
   abbrev ask_now : Request
-  ask_now = ask_of (bus_in_group plan.layout link) (asking_at plan.layout link past) beat
-      (take (bus_in_group plan.layout link) lanes)
+  ask_now = ask_of (bus_of plan.layout link) (asking_at plan.layout link past) beat
+      (take (bus_of plan.layout link) lanes)
 
   step : InStep (side_of link) turn (asks plan (side_of link) own past) (replies plan (side_of link) own past)
   step = in_step plan past lawful (side_of link) own
@@ -131,12 +131,12 @@ module _ (plan : GroupPlan) (past : List Sighting) (lawful : IsLawfulGroup plan 
   -- its own request is under way, if it does not end it
   asks_own : ends_now ≡ false → AsksAt plan (ask_at link known lanes beat ∷ past) own link
   asks_own goes_on =
-      let b = ask_beat (bus_in_group plan.layout link) beat lanes in
+      let b = ask_beat (bus_of plan.layout link) beat lanes in
       let parts = first_ask_in (asking_at plan.layout link past) (begun_at plan.layout link past) b (heads link) same in
       record {
         first = parts.0;
         more = parts.1;
-        begun = ap (λ l. begun (bus_in_group plan.layout link) l) (asks_here plan.layout past (ask_at link known lanes beat))
+        begun = ap (λ l. begun (bus_of plan.layout link) l) (asks_here plan.layout past (ask_at link known lanes beat))
             ∙ ap (λ e. if e then [] else begun_at plan.layout link past ++ b ∷ []) goes_on ∙ parts.2;
         of = ap (λ n. wide_of plan link n) parts.3;
       }
@@ -150,8 +150,8 @@ module _ (plan : GroupPlan) (past : List Sighting) (lawful : IsLawfulGroup plan 
       record {
         first = parts.0;
         more = parts.1;
-        begun = ap (λ e. begun (bus_in_group plan.layout at) (if e
-            then more_asks (bus_in_group plan.layout at) (ask_at link known lanes beat) (A beat) (asks_over plan.layout at past)
+        begun = ap (λ e. begun (bus_of plan.layout at) (if e
+            then more_asks (bus_of plan.layout at) (ask_at link known lanes beat) (A beat) (asks_over plan.layout at past)
             else asks_over plan.layout at past)) other ∙ parts.2;
         of = ap (λ n. wide_of plan at n) parts.3 ∙ was_so.2;
       }
@@ -211,20 +211,20 @@ module _ (plan : GroupPlan) (past : List Sighting) (lawful : IsLawfulGroup plan 
               (asks_own e) (asks_elsewhere (link_on (side_of link) n) here under_way)))
 
 -- a request begins at its port
-pub placed_back : (plan : GroupPlan) (past : List Sighting) (link : Link) (known : ℕ) (lanes : List ℕ) (beat : AskHead)
+pub placed_back : (plan : Plan) (past : List Sighting) (link : Link) (known : ℕ) (lanes : List ℕ) (beat : AskHead)
     → AskHeads (asking_at plan.layout link past) (begun_at plan.layout link past)
     → AreMessages plan (ask_at link known lanes beat ∷ past) → asking_at plan.layout link past ≡ None
     → IsPlaced plan.layout link beat
 placed_back plan past (Master m) known lanes beat heads messages empty = tt
 placed_back plan past (Port p) known lanes beat heads messages empty =
-    go (ends_ask (bus_in_group plan.layout (Port p)) (asking_at plan.layout (Port p) past) beat) refl
+    go (ends_ask (bus_of plan.layout (Port p)) (asking_at plan.layout (Port p) past) beat) refl
   where
-    go : (ends : Bool) → ends_ask (bus_in_group plan.layout (Port p)) (asking_at plan.layout (Port p) past) beat ≡ ends
-        → RoutesBytesByRanges plan.layout.ports beat.address beat.size p
+    go : (ends : Bool) → ends_ask (bus_of plan.layout (Port p)) (asking_at plan.layout (Port p) past) beat ≡ ends
+        → RoutesBytes plan.layout.ports beat.address beat.size p
     go false e =
-        let b = ask_beat (bus_in_group plan.layout (Port p)) beat lanes in
+        let b = ask_beat (bus_of plan.layout (Port p)) beat lanes in
         let begun_is : begun_at plan.layout (Port p) (ask_at (Port p) known lanes beat ∷ past) ≡ b ∷ [] =
-        ap (λ l. begun (bus_in_group plan.layout (Port p)) l) (asks_here plan.layout past (ask_at (Port p) known lanes beat))
+        ap (λ l. begun (bus_of plan.layout (Port p)) l) (asks_here plan.layout past (ask_at (Port p) known lanes beat))
         ∙ ap (λ h. if h then [] else begun_at plan.layout (Port p) past ++ b ∷ []) e
         ∙ ap (λ l. l ++ b ∷ []) (heads.empty empty) in
         messages.begun_placed p b [] begun_is
@@ -233,8 +233,8 @@ placed_back plan past (Port p) known lanes beat heads messages empty =
         let side = side_of (Port p) in
         let seen : AskSeen = record {
           link = Port p;
-          ask = ask_of (bus_in_group plan.layout (Port p)) (asking_at plan.layout (Port p) past) beat
-              (take (bus_in_group plan.layout (Port p)) lanes);
+          ask = ask_of (bus_of plan.layout (Port p)) (asking_at plan.layout (Port p) past) beat
+              (take (bus_of plan.layout (Port p)) lanes);
         } in
         let all : AllByRecursion (IsInPlace plan.layout) (asks plan side wide past ++ seen ∷ []) =
         subst (λ l. AllByRecursion (IsInPlace plan.layout) l)
@@ -253,7 +253,7 @@ first_seen other [] = other
 first_seen other (seen ∷ more) = seen
 
 -- the request that the next reply answers is the one that is pending
-next_pending : (plan : GroupPlan) (past : List Sighting) (side : LinkSide) (wide : ℕ) (turn : Turn)
+next_pending : (plan : Plan) (past : List Sighting) (side : LinkSide) (wide : ℕ) (turn : Turn)
     → InStep side turn (asks plan side wide past) (replies plan side wide past)
     → next_answered plan side wide past ≡ pending side turn
 next_pending plan past side wide turn step =
@@ -289,7 +289,7 @@ first_reply_in (Some v) (f ∷ beats) b heads same =
       },
     )
 
-module _ (plan : GroupPlan) (past : List Sighting) (lawful : IsLawfulGroup plan past) (link : Link) (known : ℕ) (lanes : List ℕ)
+module _ (plan : Plan) (past : List Sighting) (lawful : IsLawfulGroup plan past) (link : Link) (known : ℕ) (lanes : List ℕ)
     (beat : ReplyHead) (heads : ReplyHeads (replying_at plan.layout link past) (begun_replies_at plan.layout link past))
     (same : Continues SameReplyFields (first_reply (replying_at plan.layout link past)) beat)
     (turns : TakeTurns plan (reply_at link known lanes beat ∷ past) (side_of link) (wide_of plan link beat.source)) where
@@ -300,7 +300,7 @@ module _ (plan : GroupPlan) (past : List Sighting) (lawful : IsLawfulGroup plan 
   at = ((state plan past).flights (side_of link) mine).turn
 
   abbrev bus : ℕ
-  bus = bus_in_group plan.layout link
+  bus = bus_of plan.layout link
 
   abbrev ends_here : Bool
   ends_here = ends_reply bus (replying_at plan.layout link past) beat
@@ -345,7 +345,7 @@ module _ (plan : GroupPlan) (past : List Sighting) (lawful : IsLawfulGroup plan 
       let there : RepliesAt plan (reply_at link known lanes beat ∷ past) mine link = record {
         first = parts.0;
         more = parts.1;
-        begun = ap (λ l. begun_reply (bus_in_group plan.layout link) l)
+        begun = ap (λ l. begun_reply (bus_of plan.layout link) l)
             (replies_here plan.layout past (reply_at link known lanes beat))
             ∙ ap (λ h. if h then [] else message) e ∙ parts.2;
         of = ap (λ n. wide_of plan link n) parts.3;

@@ -14,7 +14,7 @@ use Rattle.check_watch.specs.declared.beat.Link.{Link}
 use Rattle.check_watch.specs.Allowed.{IsAllowedAsk, IsAllowedReply}
 use Rattle.check_watch.specs.Lawful.{IsLawfulGroup, IsAllowed}
 use Rattle.check_watch.specs.Past.{State, scene_of, state, state_after}
-use Rattle.check_watch.specs.Plan.{GroupPlan, Sighting, LinkSide, side_of, link_number, wide_of, is_link, is_of}
+use Rattle.check_watch.specs.Plan.{Plan, Sighting, LinkSide, side_of, link_number, wide_of, is_link, is_of}
 use Rattle.check_watch.specs.Scene.{turn_by, flight_after, under_after}
 use Rattle.check_watch.proofs.InFlight.{ask_at, reply_at, of_is, of_own, idle_or_asking}
 use Rattle.check_watch_laws.proofs.Dues.{side_on}
@@ -22,12 +22,12 @@ use Rattle.check_watch_laws.proofs.Links.{same_link}
 use Rattle.check_watch_laws.proofs.Turns.{link_on, own_link, own_is, asking_same, asked_at, true_or_false}
 
 -- a request of this wide source is under way at the link
-abbrev pub IsAsking : GroupPlan → State → ℕ → Link → Type 0
+abbrev pub IsAsking : Plan → State → ℕ → Link → Type 0
 IsAsking plan s wide link =
     (begun : AskBegun) × ((s.links (side_of link) (link_number link)).asking ≡ Some begun)
     × (wide_of plan link begun.first.source ≡ wide)
 
-abbrev pub AskingHasBegun : GroupPlan → State → Type 0
+abbrev pub AskingHasBegun : Plan → State → Type 0
 AskingHasBegun plan s =
     (side : LinkSide) (wide n : ℕ) → (s.flights side wide).turn ≡ Asking n → IsAsking plan s wide (link_on side n)
 
@@ -44,7 +44,7 @@ first_source : (kept : Option AskBegun) (beat : AskHead) → Continues SameField
 first_source None beat same = refl
 first_source (Some b) beat same = sym (same b.first refl).source
 
-module _ (plan : GroupPlan) (s : State) (before : AskingHasBegun plan s) (link : Link) (known : ℕ) (lanes : List ℕ) where
+module _ (plan : Plan) (s : State) (before : AskingHasBegun plan s) (link : Link) (known : ℕ) (lanes : List ℕ) where
   ask_begun : (beat : AskHead) → IsAllowedAsk plan.layout link (scene_of plan s link (A beat)) beat known lanes
       → AskingHasBegun plan (state_after plan s (ask_at link known lanes beat))
   ask_begun beat allowed side wide n = go (is_of plan (ask_at link known lanes beat) side wide) refl
@@ -146,7 +146,7 @@ module _ (plan : GroupPlan) (s : State) (before : AskingHasBegun plan s) (link :
             was.2,
           )
 
-pub asking_begun : (plan : GroupPlan) (past : List Sighting) → IsLawfulGroup plan past → AskingHasBegun plan (state plan past)
+pub asking_begun : (plan : Plan) (past : List Sighting) → IsLawfulGroup plan past → AskingHasBegun plan (state plan past)
 asking_begun plan [] lawful = λ side wide n is. absurd (idle_or_asking n is)
 asking_begun plan (x ∷ past) lawful = go (asking_begun plan past lawful.0) x.beat lawful.1
   where

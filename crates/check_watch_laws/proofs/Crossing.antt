@@ -3,11 +3,11 @@ use Rattle.std.proofs.Common.{◌≡◌, ◌∙◌, ℕ, ◌%◌, ◌^◌, ◌<�
 use Rattle.std.specs.Prelude.{◌==◌, ◌&&◌, nat_lt}
 use Rattle.std.specs.List.{AllByRecursion}
 use Rattle.tl_types.specs.Request.{Request}
-use Rattle.tl_map.specs.declared.map.Range.{Range}
-use Rattle.check_map.specs.Owner.{IsWideSource}
-use Rattle.check_map.specs.Ranges.{PortHolds, RoutesBytesByRanges}
-use Rattle.check_map.proofs.Kept.{one_owner}
-use Rattle.check_map.proofs.Overlaps.{port_within}
+use Rattle.tl_map.specs.declared.range.Range.{Range}
+use Rattle.tl_map.specs.Owner.{IsWideSource}
+use Rattle.tl_map.specs.Map.{PortHolds, RoutesBytes}
+use Rattle.tl_map.proofs.Kept.{one_owner}
+use Rattle.tl_map.proofs.Overlaps.{port_within}
 use Rattle.check_cells.specs.Pattern.{Pattern}
 use Rattle.check_beats.specs.State.{Under, ends_ask, ends_reply, ask_of, reply_of}
 use Rattle.check_beats.specs.declared.beat.AskHead.{AskHead}
@@ -20,11 +20,11 @@ use Rattle.check_watch.specs.declared.beat.Beat.{Beat}
 use Rattle.check_watch.specs.declared.beat.Beat.TheVariants.{A, D}
 use Rattle.check_watch.specs.declared.beat.Link.{Link}
 use Rattle.check_watch.specs.declared.beat.Link.TheVariants.{Master, Port}
-use Rattle.check_watch.specs.declared.links.GroupLinks.TheVariants.{Both}
+use Rattle.check_watch.specs.declared.links.Links.TheVariants.{Both}
 use Rattle.check_watch.specs.Allowed.{IsAskedAs, IsMust, IsAllowedAsk, IsAllowedReply}
 use Rattle.check_watch.specs.Lawful.{IsLawfulGroup, IsAllowed}
 use Rattle.check_watch.specs.Past.{State, port_in, scene_of, state, state_after}
-use Rattle.check_watch.specs.Plan.{GroupPlan, IsGroupPlan, Sighting, LinkSide, side_of, link_number, is_of, are_both, bus_in_group, HasGroupLink, HasSource, seen_at}
+use Rattle.check_watch.specs.Plan.{Plan, IsPlan, Sighting, LinkSide, side_of, link_number, is_of, are_both, bus_of, HasLink, HasSource, seen_at}
 use Rattle.check_watch.specs.Plan.LinkSide.{AtMasters, AtPorts}
 use Rattle.check_watch.specs.Scene.{ask_by, turn_by, captured, flight_after, is_given, given_by}
 use Rattle.check_watch.proofs.InFlight.{ask_at, reply_at}
@@ -46,12 +46,12 @@ last_of_all P (y ∷ xs) x all = last_of_all P xs x all.1
 -- ---- owners
 
 -- a source at a master's link is one of this master, with this wide source
-wide_here : (plan : GroupPlan) → IsGroupPlan plan → (m source : ℕ) → HasSource plan.layout (Master m) source
+wide_here : (plan : Plan) → IsPlan plan → (m source : ℕ) → HasSource plan.layout (Master m) source
     → IsWideSource plan.layout.owners m source (plan.wide m source)
 wide_here plan is m source has =
     subst (λ w. IsWideSource plan.layout.owners m source w) (sym (is.wide m source has.0 has.1)) has.1
 
-pub asks_owned : (plan : GroupPlan) → IsGroupPlan plan → (past : List Sighting) → IsLawfulGroup plan past → (wide : ℕ)
+pub asks_owned : (plan : Plan) → IsPlan plan → (past : List Sighting) → IsLawfulGroup plan past → (wide : ℕ)
     → AllByRecursion (IsOfMaster plan.layout wide) (asks plan AtMasters wide past)
 asks_owned plan is [] lawful wide = tt
 asks_owned plan is (x ∷ past) lawful wide = go x.link x.beat lawful.1 (asks_owned plan is past lawful.0 wide)
@@ -96,9 +96,9 @@ asks_owned plan is (x ∷ past) lawful wide = go x.link x.beat lawful.1 (asks_ow
             else asks plan AtMasters wide past)
         by_source false so = before
         by_source true so = by_end so
-            (ask_of (bus_in_group plan.layout (Master m)) (asking_at plan.layout (Master m) past) beat
-            (take (bus_in_group plan.layout (Master m)) x.lanes)) refl
-            (ends_ask (bus_in_group plan.layout (Master m)) (asking_at plan.layout (Master m) past) beat)
+            (ask_of (bus_of plan.layout (Master m)) (asking_at plan.layout (Master m) past) beat
+            (take (bus_of plan.layout (Master m)) x.lanes)) refl
+            (ends_ask (bus_of plan.layout (Master m)) (asking_at plan.layout (Master m) past) beat)
 
 -- ---- ports that have links
 
@@ -109,14 +109,14 @@ holds_within ports address size port held = port_within ports port held.place he
 
 -- if some range holds the bytes, the port of the bytes has a link
 goes_out_by : (ports : List (List Range)) (address size port route : ℕ) → port < length ports
-    → RoutesBytesByRanges ports address size port → RoutesBytesByRanges ports address size route → route < length ports
+    → RoutesBytes ports address size port → RoutesBytes ports address size route → route < length ports
 goes_out_by ports address size port route within at (inl held) = holds_within ports address size route held
 goes_out_by ports address size port route within (inr none) (inr nowhere) = absurd (omega (arith, within, none.0))
 goes_out_by ports address size port route within (inl held) (inr nowhere) = absurd (nowhere.1 port held)
 
 -- ---- one beat more
 
-abbrev pub story_at : GroupPlan → ℕ → List Sighting → Story
+abbrev pub story_at : Plan → ℕ → List Sighting → Story
 story_at plan wide past = record {
   sent = asks plan AtMasters wide past;
   collected = replies plan AtMasters wide past;
@@ -124,12 +124,12 @@ story_at plan wide past = record {
   gave = replies plan AtPorts wide past;
 }
 
-abbrev pub AllStand : GroupPlan → State → List Sighting → Type 0
+abbrev pub AllStand : Plan → State → List Sighting → Type 0
 AllStand plan s past =
     (wide : ℕ) → Stands plan wide (story_at plan wide past) (s.flights AtMasters wide).turn (s.crossings wide)
     (s.flights AtPorts wide).turn
 
-at_rest : (plan : GroupPlan) (wide : ℕ) (story : Story) (n : ℕ) (turn : Turn) (crossing : Crossing) (there : Turn)
+at_rest : (plan : Plan) (wide : ℕ) (story : Story) (n : ℕ) (turn : Turn) (crossing : Crossing) (there : Turn)
     → (turn ≡ Idle) ⊎ (turn ≡ Asking n) → Stands plan wide story turn crossing there → IsAtRest plan wide story there
 at_rest plan wide story n turn crossing there (inl is) stands =
     subst (λ t. Stands plan wide story t crossing there) is stands
@@ -157,36 +157,36 @@ turn_after : (ends : Bool) (flight : Flight)
 turn_after true flight = refl
 turn_after false flight = refl
 
-module _ (plan : GroupPlan) (is_plan : IsGroupPlan plan) (both : plan.layout.links ≡ Both) (past : List Sighting)
+module _ (plan : Plan) (is_plan : IsPlan plan) (both : plan.layout.links ≡ Both) (past : List Sighting)
     (lawful : IsLawfulGroup plan past) (before : AllStand plan (state plan past) past) (known : ℕ) (lanes : List ℕ) where
   abbrev s : State
   s = state plan past
 
   -- the request and the reply that a beat ends at a link, with the lanes of its bus
   abbrev asked_here : Link → AskHead → Request
-  asked_here link beat = ask_of (bus_in_group plan.layout link) (asking_at plan.layout link past) beat
-      (take (bus_in_group plan.layout link) lanes)
+  asked_here link beat = ask_of (bus_of plan.layout link) (asking_at plan.layout link past) beat
+      (take (bus_of plan.layout link) lanes)
 
   abbrev got_here : Link → ReplyHead → ℕ → Pattern
-  got_here link beat address = reply_of (bus_in_group plan.layout link) (replying_at plan.layout link past) address beat
-      (known % 2 ^ bus_in_group plan.layout link) (take (bus_in_group plan.layout link) lanes)
+  got_here link beat address = reply_of (bus_of plan.layout link) (replying_at plan.layout link past) address beat
+      (known % 2 ^ bus_of plan.layout link) (take (bus_of plan.layout link) lanes)
 
   abbrev reply_here : Link → ReplyHead → ReplySeen
   reply_here link beat = record {
     link = link;
     reply = λ address. got_here link beat address;
-    beats = begun_replies_at plan.layout link past ++ reply_beat (bus_in_group plan.layout link) beat known lanes ∷ [];
+    beats = begun_replies_at plan.layout link past ++ reply_beat (bus_of plan.layout link) beat known lanes ∷ [];
   }
 
   abbrev ends_ask_here : Link → AskHead → Bool
-  ends_ask_here link beat = ends_ask (bus_in_group plan.layout link) (asking_at plan.layout link past) beat
+  ends_ask_here link beat = ends_ask (bus_of plan.layout link) (asking_at plan.layout link past) beat
 
   abbrev ends_reply_here : Link → ReplyHead → Bool
-  ends_reply_here link beat = ends_reply (bus_in_group plan.layout link) (replying_at plan.layout link past) beat
+  ends_reply_here link beat = ends_reply (bus_of plan.layout link) (replying_at plan.layout link past) beat
 
   -- what the judge keeps at a link says the same
   ask_is : (link : Link) (beat : AskHead)
-      → ask_of (bus_in_group plan.layout link) (asking_at plan.layout link past) beat lanes ≡ asked_here link beat
+      → ask_of (bus_of plan.layout link) (asking_at plan.layout link past) beat lanes ≡ asked_here link beat
   ask_is link beat = sym (ask_on_bus plan.layout link (asking_at plan.layout link past) beat lanes)
 
   got_is : (link : Link) (beat : ReplyHead) (turn : Turn) (n : ℕ) (ask : Request) → turn ≡ Asked n ask
@@ -375,7 +375,7 @@ module _ (plan : GroupPlan) (is_plan : IsGroupPlan plan) (both : plan.layout.lin
         (ap (λ (u : Under). ask_of u.bus u.asking beat lanes) (links_are plan past (Port p)) ∙ ask_is (Port p) beat)
         sent.0 in
         let found = asked_as (s.flights AtMasters took).turn ask asked in
-        let placed : RoutesBytesByRanges plan.layout.ports beat.address beat.size p =
+        let placed : RoutesBytes plan.layout.ports beat.address beat.size p =
         beat_placed plan s (asks_placed_so plan past lawful) (Port p) known lanes beat allowed in
         let within : plan.route beat.address beat.size < length plan.layout.ports =
         goes_out_by plan.layout.ports beat.address beat.size p (plan.route beat.address beat.size) has placed
@@ -529,13 +529,13 @@ module _ (plan : GroupPlan) (is_plan : IsGroupPlan plan) (both : plan.layout.lin
 
 -- ---- all beats
 
-pub all_stand : (plan : GroupPlan) → IsGroupPlan plan → plan.layout.links ≡ Both → (past : List Sighting)
+pub all_stand : (plan : Plan) → IsPlan plan → plan.layout.links ≡ Both → (past : List Sighting)
     → AreWatched plan.layout past → IsLawfulGroup plan past → AllStand plan (state plan past) past
 all_stand plan is both [] watched lawful = λ wide. record { same = refl; free = refl; given = tt }
 all_stand plan is both (x ∷ past) watched lawful =
     go x.link x.beat watched.0.link lawful.1 (all_stand plan is both past watched.1 lawful.0)
   where
-    go : (link : Link) (beat : Beat) → HasGroupLink plan.layout link
+    go : (link : Link) (beat : Beat) → HasLink plan.layout link
         → IsAllowed plan (scene_of plan (state plan past) link beat) (seen_at link beat x.known x.lanes)
         → AllStand plan (state plan past) past
         → AllStand plan (state_after plan (state plan past) (seen_at link beat x.known x.lanes))
@@ -551,7 +551,7 @@ all_stand plan is both (x ∷ past) watched lawful =
 
 -- ---- in words
 
-module _ (plan : GroupPlan) (past : List Sighting) (wide : ℕ)
+module _ (plan : Plan) (past : List Sighting) (wide : ℕ)
     (owned : AllByRecursion (IsOfMaster plan.layout wide) (asks plan AtMasters wide past)) where
   abbrev story : Story
   story = story_at plan wide past
@@ -610,7 +610,7 @@ module _ (plan : GroupPlan) (past : List Sighting) (wide : ℕ)
       go (Asking n) crossing stands = rest stands
       go (Asked n ask) crossing stands = out (is_out plan wide ask) ask crossing stands
 
-pub crossing : (plan : GroupPlan) (past : List Sighting) → IsGroupPlan plan → plan.layout.links ≡ Both
+pub crossing : (plan : Plan) (past : List Sighting) → IsPlan plan → plan.layout.links ≡ Both
     → AreWatched plan.layout past → IsLawfulGroup plan past → (wide : ℕ) → MessagesCross plan past wide
 crossing plan past is both watched lawful wide =
     let s = state plan past in

@@ -14,7 +14,7 @@ use Rattle.check_watch.specs.declared.beat.Link.{Link}
 use Rattle.check_watch.specs.declared.beat.Link.TheVariants.{Master, Port}
 use Rattle.check_watch.specs.Lawful.{IsLawfulGroup, IsAllowed}
 use Rattle.check_watch.specs.Past.{State, port_of, scene_found, scene_of, state, state_after}
-use Rattle.check_watch.specs.Plan.{GroupPlan, Sighting, side_of, link_number, wide_of, HasGroupLink, IsGroupLink}
+use Rattle.check_watch.specs.Plan.{Plan, Sighting, side_of, link_number, wide_of, HasLink, IsGroupLink}
 use Rattle.check_watch.specs.Scene.{ask_by, ask_if, takes_effect, accepted, begins_reply, answered}
 use Rattle.check_watch.proofs.InFlight.{ask_at, reply_at}
 use Rattle.check_watch_laws.specs.Crossed.{AreWatched}
@@ -29,17 +29,17 @@ use Rattle.check_watch_laws.proofs.Turns.{asked_at}
 
 -- ---- ports
 
-pub port_own : (plan : GroupPlan) (link : Link) (turn : Turn) (beat : Beat) (p : ℕ) → link ≡ Port p
+pub port_own : (plan : Plan) (link : Link) (turn : Turn) (beat : Beat) (p : ℕ) → link ≡ Port p
     → port_of plan link turn beat ≡ p
 port_own plan (Master m) turn beat p is = cc
 port_own plan (Port q) turn beat p is = ap (λ l. link_number l) is
 
-pub ask_goes : (plan : GroupPlan) (link : Link) (turn : Turn) (beat : AskHead) (ask : Request) → ask.address ≡ beat.address
+pub ask_goes : (plan : Plan) (link : Link) (turn : Turn) (beat : AskHead) (ask : Request) → ask.address ≡ beat.address
     → ask.size ≡ beat.size → port_for plan link ask ≡ port_of plan link turn (A beat)
 ask_goes plan (Master m) turn beat ask address size = rw (address, size) refl
 ask_goes plan (Port p) turn beat ask address size = refl
 
-pub reply_goes : (plan : GroupPlan) (link : Link) (turn : Turn) (n : ℕ) (beat : ReplyHead) (ask : Request)
+pub reply_goes : (plan : Plan) (link : Link) (turn : Turn) (n : ℕ) (beat : ReplyHead) (ask : Request)
     → turn ≡ Asked n ask → port_for plan link ask ≡ port_of plan link turn (D beat)
 reply_goes plan link turn n beat ask is = go link ∙ ap (λ t. port_of plan link t (D beat)) (sym is)
   where
@@ -48,7 +48,7 @@ reply_goes plan link turn n beat ask is = go link ∙ ap (λ t. port_of plan lin
     go (Port p) = refl
 
 -- the request that a beat ends goes to the port that the beat finds
-pub ended_goes : (plan : GroupPlan) (link : Link) (turn : Turn) (under : Under) (lanes : List ℕ) (beat : AskHead)
+pub ended_goes : (plan : Plan) (link : Link) (turn : Turn) (under : Under) (lanes : List ℕ) (beat : AskHead)
     (ask : Request) → ask_by under beat lanes ≡ Some ask → port_for plan link ask ≡ port_of plan link turn (A beat)
 ended_goes plan link turn under lanes beat ask =
     there (ask_of under.bus under.asking beat lanes) refl refl (ends_ask under.bus under.asking beat)
@@ -63,28 +63,28 @@ ended_goes plan link turn under lanes beat ask =
 
 -- ---- the request that is accepted or answered with a beat
 
-abbrev pub accepts_now : GroupPlan → State → Link → List ℕ → AskHead → Option Request
+abbrev pub accepts_now : Plan → State → Link → List ℕ → AskHead → Option Request
 accepts_now plan s link lanes beat = accepted plan.layout link (scene_found plan s link (A beat)) (A beat) lanes
 
-abbrev pub answers_now : GroupPlan → State → Link → ReplyHead → Option Request
+abbrev pub answers_now : Plan → State → Link → ReplyHead → Option Request
 answers_now plan s link beat =
     let found = scene_found plan s link (D beat) in
     answered plan.layout link found.port found.under.replying found.flight.turn
 
 -- what each slave holds is what these moments leave
-abbrev pub AreReplayed : GroupPlan → State → List Sighting → Type 0
+abbrev pub AreReplayed : Plan → State → List Sighting → Type 0
 AreReplayed plan s past =
     (port : ℕ) → s.slaves port ≡ slave_after_all (reset_of plan port) (moments plan port past)
 
 -- when requests take effect at a slave stays as it is
-pub orders : (plan : GroupPlan) (s : State) (past : List Sighting) → AreReplayed plan s past → (port : ℕ)
+pub orders : (plan : Plan) (s : State) (past : List Sighting) → AreReplayed plan s past → (port : ℕ)
     → order_at plan port ≡ (s.slaves port).order
 orders plan s past replayed port =
     sym (ap (λ (slave : PortSlave). slave.order) (replayed port)
     ∙ after_order (reset_of plan port) (moments plan port past))
 
-module _ (plan : GroupPlan) (s : State) (past : List Sighting) (linked : LinksAre plan s past) (link : Link) (known : ℕ)
-    (lanes : List ℕ) (has : HasGroupLink plan.layout link) (watched : IsGroupLink plan.layout.links link) where
+module _ (plan : Plan) (s : State) (past : List Sighting) (linked : LinksAre plan s past) (link : Link) (known : ℕ)
+    (lanes : List ℕ) (has : HasLink plan.layout link) (watched : IsGroupLink plan.layout.links link) where
   pub ask_does : (beat : AskHead) (port : ℕ)
       → moments_with plan port past (ask_at link known lanes beat) (A beat)
       ≡ (if (scene_found plan s link (A beat)).port == port then moment_if Accepts (wide_of plan link beat.source)
@@ -145,7 +145,7 @@ slave_done act slaves reset before port found wide done is = go (found == port) 
             ∙ sym (after_more reset before (record { act = act; wide = wide; ask = ask }))
     go false here = is ∙ ap (λ l. slave_after_all reset l) (sym (append-nil before))
 
-pub are_replayed : (plan : GroupPlan) (past : List Sighting) → AreWatched plan.layout past → IsLawfulGroup plan past
+pub are_replayed : (plan : Plan) (past : List Sighting) → AreWatched plan.layout past → IsLawfulGroup plan past
     → AreReplayed plan (state plan past) past
 are_replayed plan [] watched lawful = λ port. refl
 are_replayed plan (x ∷ past) watched lawful = go (are_replayed plan past watched.1 lawful.0) x.beat lawful.1

@@ -22,7 +22,7 @@ use Rattle.check_watch.specs.declared.beat.Link.{Link}
 use Rattle.check_watch.specs.Allowed.{IsAllowedReply}
 use Rattle.check_watch.specs.Lawful.{IsLawfulGroup, IsAllowed}
 use Rattle.check_watch.specs.Past.{State, scene_found, scene_of, state, state_after}
-use Rattle.check_watch.specs.Plan.{GroupPlan, Sighting, LinkSide, side_of, link_number, wide_of, is_link, is_of}
+use Rattle.check_watch.specs.Plan.{Plan, Sighting, LinkSide, side_of, link_number, wide_of, is_link, is_of}
 use Rattle.check_watch.specs.Plan.LinkSide.{AtMasters, AtPorts}
 use Rattle.check_watch.specs.Scene.{ask_by, ask_if, turn_by, takes_effect, begins_reply, flight_after, under_after}
 use Rattle.check_watch.proofs.InFlight.{ask_at, reply_at, of_is, of_own}
@@ -41,12 +41,12 @@ IsSourced (Asked n ask) None = Unit {0}
 IsSourced (Asked n ask) (Some answer) = answer.reply.source ≡ ask.source
 
 -- a reply of this wide source is under way at the link
-abbrev pub IsReplying : GroupPlan → State → ℕ → Link → Type 0
+abbrev pub IsReplying : Plan → State → ℕ → Link → Type 0
 IsReplying plan s wide link =
     (begun : ReplyBegun) × ((s.links (side_of link) (link_number link)).replying ≡ Some begun)
     × (wide_of plan link begun.first.source ≡ wide)
 
-abbrev pub HasBegun : GroupPlan → State → LinkSide → ℕ → Turn → Option Answer → Type 0
+abbrev pub HasBegun : Plan → State → LinkSide → ℕ → Turn → Option Answer → Type 0
 HasBegun plan s side wide Idle due = Unit {0}
 HasBegun plan s side wide (Asking n) due = Unit {0}
 HasBegun plan s side wide (Asked n ask) None = Unit {0}
@@ -54,11 +54,11 @@ HasBegun plan s side wide (Asked n ask) (Some answer) =
     is_due_at_reply (order_at plan (port_for plan (link_on side n) ask)) ≡ true
     → IsReplying plan s wide (link_on side n)
 
-pub record IsDue (plan : GroupPlan) (s : State) (side : LinkSide) (wide : ℕ) (flight : Flight) : Type 0 where
+pub record IsDue (plan : Plan) (s : State) (side : LinkSide) (wide : ℕ) (flight : Flight) : Type 0 where
   pub sourced : IsSourced flight.turn flight.due
   pub begun : HasBegun plan s side wide flight.turn flight.due
 
-abbrev pub AreDue : GroupPlan → State → Type 0
+abbrev pub AreDue : Plan → State → Type 0
 AreDue plan s = (side : LinkSide) (wide : ℕ) → IsDue plan s side wide (s.flights side wide)
 
 -- ---- as a request ends
@@ -76,7 +76,7 @@ new_sourced n port slave true (Some ask) = accepted_sourced n port slave ask sla
 new_sourced n port slave false (Some ask) = tt
 
 -- if a reply is due as its request is accepted, it is so before the request is answered
-accepted_begun : (plan : GroupPlan) (s : State) (side : LinkSide) (wide n port : ℕ) (slave : PortSlave) (ask : Request)
+accepted_begun : (plan : Plan) (s : State) (side : LinkSide) (wide n port : ℕ) (slave : PortSlave) (ask : Request)
     (order : Order) → order ≡ order_at plan (port_for plan (link_on side n) ask)
     → HasBegun plan s side wide (Asked n ask) (due_accepted_by order port slave ask)
 accepted_begun plan s side wide n port slave ask Accept is =
@@ -85,7 +85,7 @@ accepted_begun plan s side wide n port slave ask Accept is =
 accepted_begun plan s side wide n port slave ask Reply is = tt
 accepted_begun plan s side wide n port slave ask Any is = tt
 
-new_begun : (plan : GroupPlan) (s : State) (side : LinkSide) (wide n port : ℕ) (slave : PortSlave) (effect : Bool)
+new_begun : (plan : Plan) (s : State) (side : LinkSide) (wide n port : ℕ) (slave : PortSlave) (effect : Bool)
     (ended : Option Request)
     → ((ask : Request) → ended ≡ Some ask → slave.order ≡ order_at plan (port_for plan (link_on side n) ask))
     → HasBegun plan s side wide (turn_by n ended) (due_accepting port slave (ask_if effect ended))
@@ -117,7 +117,7 @@ side_on AtMasters n = refl
 side_on AtPorts n = refl
 
 -- the facts of a turn and what is due, in another state
-begun_by : (plan : GroupPlan) (s later : State) (side : LinkSide) (wide : ℕ) (turn : Turn) (due : Option Answer)
+begun_by : (plan : Plan) (s later : State) (side : LinkSide) (wide : ℕ) (turn : Turn) (due : Option Answer)
     → ((n : ℕ) (ask : Request) → turn ≡ Asked n ask → IsReplying plan s wide (link_on side n)
     → IsReplying plan later wide (link_on side n))
     → HasBegun plan s side wide turn due → HasBegun plan later side wide turn due
@@ -126,7 +126,7 @@ begun_by plan s later side wide (Asking n) due keeps was = tt
 begun_by plan s later side wide (Asked n ask) None keeps was = tt
 begun_by plan s later side wide (Asked n ask) (Some answer) keeps was = λ late. keeps n ask refl (was late)
 
-module _ (plan : GroupPlan) (s : State) (same_order : (port : ℕ) → order_at plan port ≡ (s.slaves port).order)
+module _ (plan : Plan) (s : State) (same_order : (port : ℕ) → order_at plan port ≡ (s.slaves port).order)
     (dues : AreDue plan s) (link : Link) (known : ℕ) (lanes : List ℕ) where
   -- a beat of a request leaves the replies that are under way
   keeps_replying : (beat : AskHead) (wide : ℕ) (at : Link) → IsReplying plan s wide at
@@ -283,7 +283,7 @@ module _ (plan : GroupPlan) (s : State) (same_order : (port : ℕ) → order_at 
                   (s.flights side wide).due (λ n ask at. other_replying side wide n is) was.begun;
             }
 
-pub are_due : (plan : GroupPlan) (past : List Sighting) → AreWatched plan.layout past → IsLawfulGroup plan past
+pub are_due : (plan : Plan) (past : List Sighting) → AreWatched plan.layout past → IsLawfulGroup plan past
     → AreDue plan (state plan past)
 are_due plan [] watched lawful = λ side wide. record { sourced = tt; begun = tt }
 are_due plan (x ∷ past) watched lawful = go (are_due plan past watched.1 lawful.0) x.beat lawful.1

@@ -12,7 +12,7 @@ use Rattle.check_watch.specs.declared.beat.Link.{Link}
 use Rattle.check_watch.specs.Allowed.{IsAllowedAsk, IsAllowedReply}
 use Rattle.check_watch.specs.Lawful.{IsLawfulGroup, IsAllowed}
 use Rattle.check_watch.specs.Past.{State, scene_of, state, state_after}
-use Rattle.check_watch.specs.Plan.{GroupPlan, GroupLayout, Sighting, LinkSide, side_of, link_number, wide_of, is_of, bus_in_group}
+use Rattle.check_watch.specs.Plan.{Plan, Layout, Sighting, LinkSide, side_of, link_number, wide_of, is_of, bus_of}
 use Rattle.check_watch.specs.Scene.{ask_by, turn_by, flight_after}
 use Rattle.check_watch.proofs.InFlight.{ask_at, reply_at, of_is}
 use Rattle.check_watch_laws.specs.Crossed.{AskSeen, ReplySeen, asking_at, ask_ended, reply_ended, asks, replies}
@@ -32,7 +32,7 @@ pub record InStep (side : LinkSide) (turn : Turn) (asked : List AskSeen) (answer
   pub asks_are : asked ≡ done ++ pending side turn
   pub counted : length answered ≡ length done
 
-abbrev pub AreInStep : GroupPlan → State → List Sighting → Type 0
+abbrev pub AreInStep : Plan → State → List Sighting → Type 0
 AreInStep plan s past =
     (side : LinkSide) (wide : ℕ) → InStep side (s.flights side wide).turn (asks plan side wide past)
     (replies plan side wide past)
@@ -52,11 +52,11 @@ as_list link ask true = refl
 as_list link ask false = refl
 
 -- the request that a beat ends is the one that is seen
-pub ask_seen : (layout : GroupLayout) (past : List Sighting) (link : Link) (known : ℕ) (lanes : List ℕ) (beat : AskHead)
+pub ask_seen : (layout : Layout) (past : List Sighting) (link : Link) (known : ℕ) (lanes : List ℕ) (beat : AskHead)
     → ask_ended layout past (ask_at link known lanes beat) (A beat)
     ≡ ask_list link (ask_by (under_by layout link past) beat lanes)
 ask_seen layout past link known lanes beat =
-    let n = bus_in_group layout link in
+    let n = bus_of layout link in
     let before = asking_at layout link past in
     as_list link (ask_of n before beat (take n lanes)) (ends_ask n before beat)
     ∙ ap (λ r. ask_list link (if ends_ask n before beat then Some r else None)) (ask_on_bus layout link before beat lanes)
@@ -108,7 +108,7 @@ reply_steps link turn ask reply flight asked answered is same step false = recor
   counted = ap (λ (l : List ReplySeen). length l) (append-nil answered) ∙ step.counted;
 }
 
-module _ (plan : GroupPlan) (s : State) (past : List Sighting) (linked : LinksAre plan s past)
+module _ (plan : Plan) (s : State) (past : List Sighting) (linked : LinksAre plan s past)
     (busy : AsksFly plan s) (steps : AreInStep plan s past) (link : Link) (known : ℕ) (lanes : List ℕ) where
   -- what a beat of a request finds pending
   pub nothing_pending : (beat : AskHead) → IsAllowedAsk plan.layout link (scene_of plan s link (A beat)) beat known lanes
@@ -171,7 +171,7 @@ module _ (plan : GroupPlan) (s : State) (past : List Sighting) (linked : LinksAr
           (asks plan (side_of link) (wide_of plan link beat.source) past)
           (replies plan (side_of link) (wide_of plan link beat.source) past) found.1 refl
           (steps (side_of link) (wide_of plan link beat.source))
-          (ends_reply (bus_in_group plan.layout link) (under_by plan.layout link past).replying beat)
+          (ends_reply (bus_of plan.layout link) (under_by plan.layout link past).replying beat)
 
       go : (of : Bool) → is_of plan (reply_at link known lanes beat) side wide ≡ of
           → InStep side (if of then flight_after plan.layout link (scene_of plan s link (D beat))
@@ -186,7 +186,7 @@ module _ (plan : GroupPlan) (s : State) (past : List Sighting) (linked : LinksAr
           (subst (λ v. Steps v (side_of link) (wide_of plan link beat.source)) (sym (linked link)) here))
       go false is = steps side wide
 
-pub in_step : (plan : GroupPlan) (past : List Sighting) → IsLawfulGroup plan past → AreInStep plan (state plan past) past
+pub in_step : (plan : Plan) (past : List Sighting) → IsLawfulGroup plan past → AreInStep plan (state plan past) past
 in_step plan [] lawful = λ side wide. record { done = []; asks_are = refl; counted = refl }
 in_step plan (x ∷ past) lawful = go (in_step plan past lawful.0) x.beat lawful.1
   where

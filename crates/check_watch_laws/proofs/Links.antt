@@ -7,7 +7,7 @@ use Rattle.check_watch.specs.declared.beat.Beat.TheVariants.{A, D}
 use Rattle.check_watch.specs.declared.beat.Link.{Link}
 use Rattle.check_watch.specs.declared.beat.Link.TheVariants.{Master, Port}
 use Rattle.check_watch.specs.Past.{State, scene_found, state, scene_in_group}
-use Rattle.check_watch.specs.Plan.{GroupPlan, GroupLayout, Sighting, side_of, link_number, is_link, bus_in_group}
+use Rattle.check_watch.specs.Plan.{Plan, Layout, Sighting, side_of, link_number, is_link, bus_of}
 use Rattle.check_watch.specs.Scene.{once_answered, under_after}
 use Rattle.check_watch_laws.specs.Crossed.{asks_over, replies_over, more_asks, more_replies, asking_at, replying_at}
 use Rattle.check_watch_laws.proofs.Buses.{ask_on_bus_after, reply_on_bus_after}
@@ -20,23 +20,23 @@ same_link (Port m) (Master n) is = cc
 same_link (Port m) (Port n) is = ap (λ k. Port k) (eqb-true m n is)
 
 -- what beats leave under way at a link
-abbrev pub under_by : GroupLayout → Link → List Sighting → Under
+abbrev pub under_by : Layout → Link → List Sighting → Under
 under_by layout link past = record {
-  bus = bus_in_group layout link;
+  bus = bus_of layout link;
   asking = asking_at layout link past;
   replying = replying_at layout link past;
 }
 
 -- the messages that are under way at a link are so by its beats
-abbrev pub LinksAre : GroupPlan → State → List Sighting → Type 0
+abbrev pub LinksAre : Plan → State → List Sighting → Type 0
 LinksAre plan s past = (link : Link) → s.links (side_of link) (link_number link) ≡ under_by plan.layout link past
 
-under_more : (layout : GroupLayout) (link : Link) (past : List Sighting) (x : Sighting) (beat : Beat)
+under_more : (layout : Layout) (link : Link) (past : List Sighting) (x : Sighting) (beat : Beat)
     → under_after (under_by layout link past) beat x.known x.lanes
     ≡ record {
-      bus = bus_in_group layout link;
-      asking = asking (bus_in_group layout link) (more_asks (bus_in_group layout link) x beat (asks_over layout link past));
-      replying = replying (bus_in_group layout link) (more_replies (bus_in_group layout link) x beat (replies_over layout link past));
+      bus = bus_of layout link;
+      asking = asking (bus_of layout link) (more_asks (bus_of layout link) x beat (asks_over layout link past));
+      replying = replying (bus_of layout link) (more_replies (bus_of layout link) x beat (replies_over layout link past));
     }
 under_more layout link past x (A beat) =
     ap (λ a. record (under_by layout link past) { asking = a })
@@ -45,13 +45,13 @@ under_more layout link past x (D beat) =
     ap (λ r. record (under_by layout link past) { replying = r })
     (sym (reply_on_bus_after layout link (replying_at layout link past) beat x.known x.lanes))
 
-under_found : (plan : GroupPlan) (s : State) (link : Link) (beat : Beat)
+under_found : (plan : Plan) (s : State) (link : Link) (beat : Beat)
     → (once_answered plan.layout link (scene_found plan s link beat) beat).under ≡ s.links (side_of link) (link_number link)
 under_found plan s link (A beat) = refl
 under_found plan s link (D beat) = refl
 
 -- what is under way at a link is so by the beats of that link alone
-pub links_are : (plan : GroupPlan) (past : List Sighting) → LinksAre plan (state plan past) past
+pub links_are : (plan : Plan) (past : List Sighting) → LinksAre plan (state plan past) past
 links_are plan [] link = refl
 links_are plan (x ∷ past) link =
     go (is_link x.link (side_of link) (link_number link)) refl (links_are plan past x.link) (links_are plan past link)
@@ -62,12 +62,12 @@ links_are plan (x ∷ past) link =
         → (if here then under_after (scene_in_group plan past x).under x.beat x.known x.lanes
         else (state plan past).links (side_of link) (link_number link))
         ≡ record {
-          bus = bus_in_group plan.layout link;
-          asking = asking (bus_in_group plan.layout link) (if here
-              then more_asks (bus_in_group plan.layout link) x x.beat (asks_over plan.layout link past)
+          bus = bus_of plan.layout link;
+          asking = asking (bus_of plan.layout link) (if here
+              then more_asks (bus_of plan.layout link) x x.beat (asks_over plan.layout link past)
               else asks_over plan.layout link past);
-          replying = replying (bus_in_group plan.layout link) (if here
-              then more_replies (bus_in_group plan.layout link) x x.beat (replies_over plan.layout link past)
+          replying = replying (bus_of plan.layout link) (if here
+              then more_replies (bus_of plan.layout link) x x.beat (replies_over plan.layout link past)
               else replies_over plan.layout link past);
         }
     go true is there before =

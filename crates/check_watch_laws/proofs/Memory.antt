@@ -10,7 +10,7 @@ use Rattle.check_flight.specs.PortSlave.{PortSlave, due_accepting, due_answering
 use Rattle.check_watch.specs.declared.beat.Link.{Link}
 use Rattle.check_watch.specs.declared.beat.Link.TheVariants.{Port}
 use Rattle.check_watch.specs.Past.{State}
-use Rattle.check_watch.specs.Plan.{GroupPlan, Sighting, LinkSide, side_of, link_number, same_side, HasGroupLink, IsGroupLink}
+use Rattle.check_watch.specs.Plan.{Plan, Sighting, LinkSide, side_of, link_number, same_side, HasLink, IsGroupLink}
 use Rattle.check_watch.specs.Scene.{ask_if, turn_by, takes_effect}
 use Rattle.check_watch_laws.specs.Crossed.{AskSeen, ReplySeen}
 use Rattle.check_watch_laws.specs.Memories.{side_for, port_for, reset_of, exchanges_at, entries_of}
@@ -21,7 +21,7 @@ use Rattle.check_watch_laws.proofs.Taking.{takes}
 use Rattle.check_watch_laws.proofs.Told.{gains, AreMatched}
 
 -- the entry of the request in flight, if its reply is due at this port
-abbrev pub owed : GroupPlan → ℕ → ℕ → LinkSide → Turn → Option Answer → List (Request × Pattern)
+abbrev pub owed : Plan → ℕ → ℕ → LinkSide → Turn → Option Answer → List (Request × Pattern)
 owed plan port wide side Idle due = []
 owed plan port wide side (Asking n) due = []
 owed plan port wide side (Asked n ask) None = []
@@ -30,16 +30,16 @@ owed plan port wide side (Asked n ask) (Some answer) =
     (record ask { source = wide }, record answer.reply { source = wide }) ∷ [] else []
 
 -- the entries of a source are those that were captured, and the one of the request in flight
-pub record IsTold (plan : GroupPlan) (port wide : ℕ) (side : LinkSide) (flight : Flight) (seen : List (AskSeen × ReplySeen))
+pub record IsTold (plan : Plan) (port wide : ℕ) (side : LinkSide) (flight : Flight) (seen : List (AskSeen × ReplySeen))
     (entries : List (Request × Pattern)) : Type 0 where
   pub front : List (Request × Pattern)
   pub entries_are : entries ≡ front ++ owed plan port wide side flight.turn flight.due
   pub matched : AreMatched wide seen front
 
-abbrev pub history_at : GroupPlan → ℕ → List Sighting → List (Request × Pattern)
+abbrev pub history_at : Plan → ℕ → List Sighting → List (Request × Pattern)
 history_at plan port past = dues_of port (reset_of plan port) (moments plan port past)
 
-abbrev pub AreTold : GroupPlan → State → List Sighting → Type 0
+abbrev pub AreTold : Plan → State → List Sighting → Type 0
 AreTold plan s past =
     (port wide : ℕ) → IsTold plan port wide (side_for plan.layout port) (s.flights (side_for plan.layout port) wide)
     (exchanges_at plan port wide past) (entries_of wide (history_at plan port past))
@@ -51,7 +51,7 @@ no_entry true = refl
 no_entry false = refl
 
 -- what is owed of a request in flight is its entry
-owed_entry : (plan : GroupPlan) (port wide found : ℕ) (link : Link) (ask : Request) (due : Option Answer)
+owed_entry : (plan : Plan) (port wide found : ℕ) (link : Link) (ask : Request) (due : Option Answer)
     → port_for plan link ask ≡ found → owed plan port wide (side_of link) (Asked (link_number link) ask) due
     ≡ (if found == port then entry_due wide ask due else [])
 owed_entry plan port wide found link ask None goes = no_entry (found == port)
@@ -61,7 +61,7 @@ owed_entry plan port wide found link ask (Some answer) goes =
     ∙ ap (λ p. if p == port then (record ask { source = wide }, record answer.reply { source = wide }) ∷ [] else []) goes
 
 -- the entry of a request whose reply is due as it is accepted
-pub new_owed : (plan : GroupPlan) (port wide found : ℕ) (link : Link) (slave : PortSlave) (effect : Bool)
+pub new_owed : (plan : Plan) (port wide found : ℕ) (link : Link) (slave : PortSlave) (effect : Bool)
     (ended : Option Request) → ((ask : Request) → ended ≡ Some ask → port_for plan link ask ≡ found)
     → owed plan port wide (side_of link) (turn_by (link_number link) ended)
     (due_accepting found slave (ask_if effect ended)) ≡
@@ -73,7 +73,7 @@ new_owed plan port wide found link slave true (Some ask) goes =
 new_owed plan port wide found link slave false (Some ask) goes = no_entry (found == port)
 
 -- the entry of a request whose reply is due as it is answered
-pub late_owed : (plan : GroupPlan) (port wide found : ℕ) (link : Link) (slave : PortSlave) (effect : Bool) (turn : Turn)
+pub late_owed : (plan : Plan) (port wide found : ℕ) (link : Link) (slave : PortSlave) (effect : Bool) (turn : Turn)
     (ask : Request) (due : Option Answer) → turn ≡ Asked (link_number link) ask → port_for plan link ask ≡ found
     → ((answer : Answer) → due_answering found slave wide (ask_if effect (Some ask)) ≡ Some answer → due ≡ None)
     → owed plan port wide (side_of link) turn due
@@ -114,7 +114,7 @@ late_owed plan port wide found link slave effect turn ask due is goes fresh =
 
 -- ---- one beat more
 
-module _ (plan : GroupPlan) (link : Link) (has : HasGroupLink plan.layout link) (watched : IsGroupLink plan.layout.links link)
+module _ (plan : Plan) (link : Link) (has : HasLink plan.layout link) (watched : IsGroupLink plan.layout.links link)
     (found own : ℕ) (done : Option Request)
     (at_port : (p : ℕ) → link ≡ Port p → found ≡ p)
     (unseen : takes_effect plan.layout link found ≡ false → done ≡ None) where

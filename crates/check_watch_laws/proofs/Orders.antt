@@ -9,7 +9,7 @@ use Rattle.check_flight.specs.declared.order.Order.TheVariants.{Accept, Reply, A
 use Rattle.check_flight.specs.PortSlave.{PortSlave, accepted_by, answered_by, due_accepted_by, due_answered_by, served_by}
 use Rattle.check_watch.specs.declared.beat.Beat.{Beat}
 use Rattle.check_watch.specs.declared.beat.Beat.TheVariants.{A, D}
-use Rattle.check_watch.specs.Plan.{GroupPlan, Sighting, source_of, wide_of}
+use Rattle.check_watch.specs.Plan.{Plan, Sighting, source_of, wide_of}
 use Rattle.check_watch_laws.specs.Crossed.{AskSeen, ask_ended}
 use Rattle.check_watch_laws.specs.Memories.{is_for, order_at, ask_answered, ask_done, widened, asks_done, replay_slave, reset_of, IsDoneAt, IsSlaveHistory}
 use Rattle.check_watch_laws.specs.Moments.{Act, RequestMoment, moment_of, moments_with, moments, due_acting, slave_then, slave_after_all, entry_due, dues_of, IsDueAt}
@@ -59,7 +59,7 @@ none_done order act does_not wide (one ∷ seen) =
     ∙ none_done order act does_not wide seen
 
 -- with one beat
-done_with : (plan : GroupPlan) (port : ℕ) (past : List Sighting) (x : Sighting) (beat : Beat) (order : Order)
+done_with : (plan : Plan) (port : ℕ) (past : List Sighting) (x : Sighting) (beat : Beat) (order : Order)
     → done_in order (moments_with plan port past (record x { beat = beat }) beat)
     ≡ map (widened (wide_of plan x.link (source_of beat)))
     (filter (is_for plan port) (ask_done plan order past (record x { beat = beat })))
@@ -82,7 +82,7 @@ done_with plan port past x (D beat) Reply =
     all_done Reply Answers refl (wide_of plan x.link beat.source)
     (filter (is_for plan port) (ask_answered plan past (record x { beat = D beat }) (D beat)))
 
-asks_are_done : (plan : GroupPlan) (port : ℕ) (past : List Sighting)
+asks_are_done : (plan : Plan) (port : ℕ) (past : List Sighting)
     → done_in (order_at plan port) (moments plan port past) ≡ asks_done plan port past
 asks_are_done plan port [] = refl
 asks_are_done plan port (x ∷ past) =
@@ -129,7 +129,7 @@ all_served order slave (moment ∷ moments) known is =
     ∙ ap (λ s. replay_slave s (done_in order moments)) (served_then order slave moment known is)
     ∙ sym (replay_append slave (done_then order moment) (done_in order moments))
 
-pub slave_is_replayed : (plan : GroupPlan) (port : ℕ) (past : List Sighting) → order_at plan port ≢ Any
+pub slave_is_replayed : (plan : Plan) (port : ℕ) (past : List Sighting) → order_at plan port ≢ Any
     → slave_after_all (reset_of plan port) (moments plan port past)
     ≡ replay_slave (reset_of plan port) (asks_done plan port past)
 slave_is_replayed plan port past known =
@@ -182,7 +182,7 @@ all_due order port slave (moment ∷ moments) known is =
     ∙ ap (λ s. told s (done_in order moments)) (served_then order slave moment known is))
     ∙ sym (told_append slave (done_then order moment) (done_in order moments))
 
-dues_are_told : (plan : GroupPlan) (port : ℕ) (past : List Sighting) → order_at plan port ≢ Any
+dues_are_told : (plan : Plan) (port : ℕ) (past : List Sighting) → order_at plan port ≢ Any
     → dues_of port (reset_of plan port) (moments plan port past)
     ≡ told (reset_of plan port) (asks_done plan port past)
 dues_are_told plan port past known =
@@ -192,7 +192,7 @@ dues_are_told plan port past known =
 -- ---- both ways
 
 -- what is due is what the slave has done
-pub done_of_due : (plan : GroupPlan) (past : List Sighting) (port : ℕ) (history : List (Request × Pattern))
+pub done_of_due : (plan : Plan) (past : List Sighting) (port : ℕ) (history : List (Request × Pattern))
     → order_at plan port ≢ Any → IsDueAt plan past port history → IsDoneAt plan past port history
 done_of_due plan past port history known due =
     let reset = reset_of plan port in
@@ -204,7 +204,7 @@ done_of_due plan past port history known due =
       captured = due.captured;
     }
 
-pub due_of_done : (plan : GroupPlan) (past : List Sighting) (port : ℕ) (history : List (Request × Pattern))
+pub due_of_done : (plan : Plan) (past : List Sighting) (port : ℕ) (history : List (Request × Pattern))
     → order_at plan port ≢ Any → IsDoneAt plan past port history → IsDueAt plan past port history
 due_of_done plan past port history known done =
     let reset = reset_of plan port in
@@ -215,7 +215,7 @@ due_of_done plan past port history known done =
     }
 
 -- what the rules say of the port's replies, by its order
-pub due_by_rules : (plan : GroupPlan) (past : List Sighting) (port : ℕ) → KeepsRules plan past
+pub due_by_rules : (plan : Plan) (past : List Sighting) (port : ℕ) → KeepsRules plan past
     → (history : List (Request × Pattern)) × IsDueAt plan past port history
 due_by_rules plan past port rules = go (order_at plan port) refl
   where

@@ -2,7 +2,7 @@
 use Rattle.std.proofs.Common.{◌≡◌, ◌∙◌, ℕ, Bool, true, false, if◌then◌else◌, List, [], ◌∷◌, ◌++◌, Option, Some, None, unwrap_or, take, refl, ap, sym, subst, append-nil}
 use Rattle.std.specs.List.{AllByRecursion}
 use Rattle.tl_types.specs.Request.{Request}
-use Rattle.check_map.specs.Ranges.{RoutesBytesByRanges}
+use Rattle.tl_map.specs.Map.{RoutesBytes}
 use Rattle.check_beats.specs.Form.{SameFields}
 use Rattle.check_beats.specs.State.{AskBegun, first_ask, ask_of, ends_ask}
 use Rattle.check_beats.specs.declared.beat.AskHead.{AskHead}
@@ -14,7 +14,7 @@ use Rattle.check_watch.specs.declared.beat.Link.TheVariants.{Master, Port}
 use Rattle.check_watch.specs.Allowed.{IsPlaced, IsAllowedAsk}
 use Rattle.check_watch.specs.Lawful.{IsLawfulGroup, IsAllowed}
 use Rattle.check_watch.specs.Past.{State, state, scene_of, state_after}
-use Rattle.check_watch.specs.Plan.{GroupPlan, GroupLayout, Sighting, LinkSide, side_of, link_number, source_of, is_link, is_of, bus_in_group, HasSource}
+use Rattle.check_watch.specs.Plan.{Plan, Layout, Sighting, LinkSide, side_of, link_number, source_of, is_link, is_of, bus_of, HasSource}
 use Rattle.check_watch.specs.Scene.{under_after}
 use Rattle.check_watch.proofs.InFlight.{ask_at, reply_at}
 use Rattle.check_watch_laws.specs.Crossed.{asking_at, ask_ended, asks}
@@ -23,7 +23,7 @@ use Rattle.check_watch_laws.proofs.Heads.{first_after}
 use Rattle.check_watch_laws.proofs.Links.{same_link}
 use Rattle.check_watch_laws.proofs.Replying.{all_more}
 
-pub known_sources : (plan : GroupPlan) (past : List Sighting) → IsLawfulGroup plan past
+pub known_sources : (plan : Plan) (past : List Sighting) → IsLawfulGroup plan past
     → AllByRecursion (λ (x : Sighting). HasSource plan.layout x.link (source_of x.beat)) past
 known_sources plan [] lawful = tt
 known_sources plan (x ∷ past) lawful = (go x.beat lawful.1, known_sources plan past lawful.0)
@@ -35,19 +35,19 @@ known_sources plan (x ∷ past) lawful = (go x.beat lawful.1, known_sources plan
 
 -- ---- requests under way
 
-abbrev pub AsksPlaced : GroupPlan → State → Type 0
+abbrev pub AsksPlaced : Plan → State → Type 0
 AsksPlaced plan s =
     (link : Link) (begun : AskBegun) → (s.links (side_of link) (link_number link)).asking ≡ Some begun
     → IsPlaced plan.layout link begun.first
 
-pub placed_as : (layout : GroupLayout) (link : Link) (first beat : AskHead) → SameFields first beat
+pub placed_as : (layout : Layout) (link : Link) (first beat : AskHead) → SameFields first beat
     → IsPlaced layout link first → IsPlaced layout link beat
 placed_as layout (Master m) first beat same is = tt
 placed_as layout (Port p) first beat same is =
-    subst (λ size. RoutesBytesByRanges layout.ports beat.address size p) (sym same.size)
-    (subst (λ address. RoutesBytesByRanges layout.ports address first.size p) (sym same.address) is)
+    subst (λ size. RoutesBytes layout.ports beat.address size p) (sym same.size)
+    (subst (λ address. RoutesBytes layout.ports address first.size p) (sym same.address) is)
 
-module _ (plan : GroupPlan) (s : State) (placed : AsksPlaced plan s) (link : Link) (known : ℕ) (lanes : List ℕ) where
+module _ (plan : Plan) (s : State) (placed : AsksPlaced plan s) (link : Link) (known : ℕ) (lanes : List ℕ) where
   -- each beat of a request is placed, since its first one is
   pub beat_placed : (beat : AskHead) → IsAllowedAsk plan.layout link (scene_of plan s link (A beat)) beat known lanes
       → IsPlaced plan.layout link beat
@@ -91,7 +91,7 @@ module _ (plan : GroupPlan) (s : State) (placed : AsksPlaced plan s) (link : Lin
           (ap (λ (l : Link). (s.links (side_of l) (link_number l)).asking) (sym (same_link link at here)) ∙ is)
       go false here is = placed at begun is
 
-pub asks_placed_so : (plan : GroupPlan) (past : List Sighting) → IsLawfulGroup plan past → AsksPlaced plan (state plan past)
+pub asks_placed_so : (plan : Plan) (past : List Sighting) → IsLawfulGroup plan past → AsksPlaced plan (state plan past)
 asks_placed_so plan [] lawful = λ link begun is. absurd (cc)
 asks_placed_so plan (x ∷ past) lawful = go (asks_placed_so plan past lawful.0) x.beat lawful.1
   where
@@ -103,12 +103,12 @@ asks_placed_so plan (x ∷ past) lawful = go (asks_placed_so plan past lawful.0)
 
 -- ---- whole requests
 
-in_place : (layout : GroupLayout) (link : Link) (beat : AskHead) (ask : Request) → ask.address ≡ beat.address
+in_place : (layout : Layout) (link : Link) (beat : AskHead) (ask : Request) → ask.address ≡ beat.address
     → ask.size ≡ beat.size → IsPlaced layout link beat → IsInPlace layout (record { link = link; ask = ask })
 in_place layout link beat ask address size placed port is =
     rw (address, size) (subst (λ l. IsPlaced layout l beat) is placed)
 
-pub asks_placed : (plan : GroupPlan) (past : List Sighting) → IsLawfulGroup plan past → (side : LinkSide) (wide : ℕ)
+pub asks_placed : (plan : Plan) (past : List Sighting) → IsLawfulGroup plan past → (side : LinkSide) (wide : ℕ)
     → AllByRecursion (IsInPlace plan.layout) (asks plan side wide past)
 asks_placed plan [] lawful side wide = tt
 asks_placed plan (x ∷ past) lawful side wide = go (asks_placed plan past lawful.0 side wide) (is_of plan x side wide)
@@ -124,9 +124,9 @@ asks_placed plan (x ∷ past) lawful side wide = go (asks_placed plan past lawfu
         (asks plan side wide past ++ ask_ended plan.layout past x beat)
     ended before (D beat) allowed = none before
     ended before (A beat) allowed = by_end
-        (ask_of (bus_in_group plan.layout x.link) (asking_at plan.layout x.link past) beat
-        (take (bus_in_group plan.layout x.link) x.lanes)) refl refl
-        (ends_ask (bus_in_group plan.layout x.link) (asking_at plan.layout x.link past) beat)
+        (ask_of (bus_of plan.layout x.link) (asking_at plan.layout x.link past) beat
+        (take (bus_of plan.layout x.link) x.lanes)) refl refl
+        (ends_ask (bus_of plan.layout x.link) (asking_at plan.layout x.link past) beat)
       where
         by_end : (ask : Request) → ask.address ≡ beat.address → ask.size ≡ beat.size → (ends : Bool)
             → AllByRecursion (IsInPlace plan.layout)

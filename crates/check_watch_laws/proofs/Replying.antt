@@ -15,7 +15,7 @@ use Rattle.check_watch.specs.declared.beat.Link.{Link}
 use Rattle.check_watch.specs.Allowed.{IsAllowedAsk, IsAllowedReply}
 use Rattle.check_watch.specs.Lawful.{IsLawfulGroup, IsAllowed}
 use Rattle.check_watch.specs.Past.{State, scene_of, state}
-use Rattle.check_watch.specs.Plan.{GroupPlan, Sighting, LinkSide, side_of, link_number, wide_of, is_of, bus_in_group}
+use Rattle.check_watch.specs.Plan.{Plan, Sighting, LinkSide, side_of, link_number, wide_of, is_of, bus_of}
 use Rattle.check_watch.proofs.InFlight.{ask_at, reply_at, of_is}
 use Rattle.check_watch_laws.specs.Crossed.{AreWatched, AskSeen, ReplySeen, reply_beat, begun_replies_at, replying_at, replies_over, ask_ended, reply_ended, asks, replies}
 use Rattle.check_watch_laws.specs.Messages.{IsReplyBeatTo, IsAnswered}
@@ -53,23 +53,23 @@ begun_answers (Some b) beats beat ask heads same answers =
       opcode = fields.opcode ∙ sym last.opcode ∙ answers.opcode;
     })
 
-abbrev pub AreAnswered : GroupPlan → List Sighting → Type 0
+abbrev pub AreAnswered : Plan → List Sighting → Type 0
 AreAnswered plan past =
     (side : LinkSide) (wide : ℕ) → AllByRecursion IsAnswered (zip (asks plan side wide past) (replies plan side wide past))
 
 -- the beats of the reply that is under way at each link have the fields of its first
-abbrev pub RepliesHaveHeads : GroupPlan → List Sighting → Type 0
+abbrev pub RepliesHaveHeads : Plan → List Sighting → Type 0
 RepliesHaveHeads plan past =
     (link : Link) → ReplyHeads (replying_at plan.layout link past) (begun_replies_at plan.layout link past)
 
-pub replies_have_heads : (plan : GroupPlan) (past : List Sighting) → AreWatched plan.layout past → IsLawfulGroup plan past
+pub replies_have_heads : (plan : Plan) (past : List Sighting) → AreWatched plan.layout past → IsLawfulGroup plan past
     → RepliesHaveHeads plan past
 replies_have_heads plan past watched lawful link =
     let bus = bus_is plan.layout link in
-    reply_heads (bus_in_group plan.layout link) bus.0 bus.1 (replies_over plan.layout link past)
+    reply_heads (bus_of plan.layout link) bus.0 bus.1 (replies_over plan.layout link past)
     (replies_fit plan past watched lawful link)
 
-module _ (plan : GroupPlan) (s : State) (past : List Sighting) (linked : LinksAre plan s past)
+module _ (plan : Plan) (s : State) (past : List Sighting) (linked : LinksAre plan s past)
     (busy : AsksFly plan s) (steps : AreInStep plan s past)
     (heads : RepliesHaveHeads plan past) (before : AreAnswered plan past) (link : Link)
     (known : ℕ) (lanes : List ℕ) where
@@ -112,11 +112,11 @@ module _ (plan : GroupPlan) (s : State) (past : List Sighting) (linked : LinksAr
         (found.0, found.1, record { size = found.2.size; opcode = found.2.opcode })
 
     abbrev message : List ReplyBeat
-    message = begun_replies_at plan.layout link past ++ reply_beat (bus_in_group plan.layout link) beat known lanes ∷ []
+    message = begun_replies_at plan.layout link past ++ reply_beat (bus_of plan.layout link) beat known lanes ∷ []
 
     whole : AllByRecursion (λ (b : ReplyBeat). IsReplyBeatTo answers.0 b.head) message
     whole = all_more (λ (b : ReplyBeat). IsReplyBeatTo answers.0 b.head) (begun_replies_at plan.layout link past)
-        (reply_beat (bus_in_group plan.layout link) beat known lanes)
+        (reply_beat (bus_of plan.layout link) beat known lanes)
         (begun_answers (replying_at plan.layout link past) (begun_replies_at plan.layout link past) beat answers.0
         (heads link)
         (subst (λ (u : Under). Continues SameReplyFields (first_reply u.replying) beat) (linked link)
@@ -126,7 +126,7 @@ module _ (plan : GroupPlan) (s : State) (past : List Sighting) (linked : LinksAr
         (zip (asks plan (side_of link) own past ++ [])
         (replies plan (side_of link) own past
         ++ reply_ended plan.layout past (reply_at link known lanes beat) (D beat)))
-    own_answered = go (ends_reply (bus_in_group plan.layout link) (replying_at plan.layout link past) beat) _ whole
+    own_answered = go (ends_reply (bus_of plan.layout link) (replying_at plan.layout link past) beat) _ whole
       where
         go : (ends : Bool) (reply : ℕ → Pattern)
             → AllByRecursion (λ (b : ReplyBeat). IsReplyBeatTo answers.0 b.head) message
@@ -171,7 +171,7 @@ module _ (plan : GroupPlan) (s : State) (past : List Sighting) (linked : LinksAr
             (replies plan sd w past ++ reply_ended plan.layout past (reply_at link known lanes beat) (D beat))) in
             subst (λ sd. P sd wide) both.0 (subst (λ w. P (side_of link) w) both.1 own_answered)
 
-pub are_answered : (plan : GroupPlan) (past : List Sighting) → AreWatched plan.layout past → IsLawfulGroup plan past
+pub are_answered : (plan : Plan) (past : List Sighting) → AreWatched plan.layout past → IsLawfulGroup plan past
     → AreAnswered plan past
 are_answered plan [] watched lawful = λ side wide. tt
 are_answered plan (x ∷ past) watched lawful = go (are_answered plan past watched.1 lawful.0) x.beat lawful.1

@@ -9,7 +9,7 @@ use Rattle.check_flight.specs.Flight.{Turn}
 use Rattle.check_flight.specs.Flight.Turn.{Idle, Asking, Asked}
 use Rattle.check_watch.specs.Lawful.{IsLawfulGroup}
 use Rattle.check_watch.specs.Past.{state}
-use Rattle.check_watch.specs.Plan.{GroupPlan, Sighting, LinkSide}
+use Rattle.check_watch.specs.Plan.{Plan, Sighting, LinkSide}
 use Rattle.check_watch_laws.specs.Crossed.{AreWatched}
 use Rattle.check_watch_laws.specs.Memories.{side_for, port_for, order_at, asks_done, replay_slave, reset_of, IsDoneAt, AreEntries, exchanges_at}
 use Rattle.check_watch_laws.specs.Moments.{IsDueAt}
@@ -20,7 +20,7 @@ use Rattle.check_watch_laws.proofs.Memory.{owed, history_at}
 use Rattle.check_watch_laws.proofs.Orders.{done_of_due, slave_is_replayed}
 use Rattle.check_watch_laws.proofs.Telling.{are_told}
 
-few_owed : (plan : GroupPlan) (port wide : ℕ) (side : LinkSide) (turn : Turn) (due : Option Answer)
+few_owed : (plan : Plan) (port wide : ℕ) (side : LinkSide) (turn : Turn) (due : Option Answer)
     → length (owed plan port wide side turn due) ≤ 1
 few_owed plan port wide side Idle due = omega arith
 few_owed plan port wide side (Asking n) due = omega arith
@@ -32,7 +32,7 @@ few_owed plan port wide side (Asked n ask) (Some answer) = go (port_for plan (li
     go true = omega arith
     go false = omega arith
 
-pub due_at : (plan : GroupPlan) (past : List Sighting) → AreWatched plan.layout past → IsLawfulGroup plan past → (port : ℕ)
+pub due_at : (plan : Plan) (past : List Sighting) → AreWatched plan.layout past → IsLawfulGroup plan past → (port : ℕ)
     → (history : List (Request × Pattern)) × IsDueAt plan past port history
 due_at plan past watched lawful port = (
   history_at plan port past,
@@ -49,14 +49,14 @@ due_at plan past watched lawful port = (
   },
 )
 
-pub done_at : (plan : GroupPlan) (past : List Sighting) → AreWatched plan.layout past → IsLawfulGroup plan past → (port : ℕ)
+pub done_at : (plan : Plan) (past : List Sighting) → AreWatched plan.layout past → IsLawfulGroup plan past → (port : ℕ)
     → order_at plan port ≢ Any → (history : List (Request × Pattern)) × IsDoneAt plan past port history
 done_at plan past watched lawful port known =
     let due = due_at plan past watched lawful port in
     (due.0, done_of_due plan past port due.0 known due.1)
 
 -- what the judge keeps of the slave is what these requests leave
-pub kept_at : (plan : GroupPlan) (past : List Sighting) → AreWatched plan.layout past → IsLawfulGroup plan past → (port : ℕ)
+pub kept_at : (plan : Plan) (past : List Sighting) → AreWatched plan.layout past → IsLawfulGroup plan past → (port : ℕ)
     → order_at plan port ≢ Any
     → (state plan past).slaves port ≡ replay_slave (reset_of plan port) (asks_done plan port past)
 kept_at plan past watched lawful port known =

@@ -14,7 +14,7 @@ use Rattle.check_watch.specs.declared.beat.Beat.TheVariants.{A, D}
 use Rattle.check_watch.specs.declared.beat.Link.{Link}
 use Rattle.check_watch.specs.Lawful.{IsLawfulGroup, IsAllowed}
 use Rattle.check_watch.specs.Past.{state, scene_of}
-use Rattle.check_watch.specs.Plan.{GroupPlan, GroupLayout, Sighting, side_of, link_number, source_of, wide_of, is_link, is_of, bus_in_group}
+use Rattle.check_watch.specs.Plan.{Plan, Layout, Sighting, side_of, link_number, source_of, wide_of, is_link, is_of, bus_of}
 use Rattle.check_watch_laws.specs.Crossed.{AreWatched, AskSeen, ReplySeen, ask_beat, reply_beat, asks_over, replies_over, more_asks, more_replies, asking_at, begun_at, ended_at, replying_at, begun_replies_at, ended_replies_at, ask_ended, reply_ended, asks, replies}
 use Rattle.check_watch_laws.specs.Messages.{asks_at, replies_at, asks_of_source, replies_of_source, source_of_reply}
 use Rattle.check_watch_laws.proofs.Heads.{ReplyHeads}
@@ -33,12 +33,12 @@ asks_more link seen more =
     ∙ map-append (λ (one : AskSeen). one.ask) (filter test seen) (filter test more)
 
 -- what a beat adds that is at another link
-asks_other : (layout : GroupLayout) (past : List Sighting) (link : Link) (x : Sighting) (beat : Beat)
+asks_other : (layout : Layout) (past : List Sighting) (link : Link) (x : Sighting) (beat : Beat)
     → is_link x.link (side_of link) (link_number link) ≡ false → asks_at link (ask_ended layout past x beat) ≡ []
 asks_other layout past link x (D beat) is = refl
 asks_other layout past link x (A beat) is =
-    go (ask_of (bus_in_group layout x.link) (asking_at layout x.link past) beat (take (bus_in_group layout x.link) x.lanes))
-    (ends_ask (bus_in_group layout x.link) (asking_at layout x.link past) beat)
+    go (ask_of (bus_of layout x.link) (asking_at layout x.link past) beat (take (bus_of layout x.link) x.lanes))
+    (ends_ask (bus_of layout x.link) (asking_at layout x.link past) beat)
   where
     go : (ask : Request) (ends : Bool) → asks_at link (if ends then record { link = x.link; ask = ask } ∷ [] else []) ≡ []
     go ask true = ap (λ b. map (λ (one : AskSeen). one.ask) (if b then record { link = x.link; ask = ask } ∷ [] else []))
@@ -46,9 +46,9 @@ asks_other layout past link x (A beat) is =
     go ask false = refl
 
 -- at its own link: it is one of the link's messages
-asks_own : (plan : GroupPlan) (past : List Sighting) (x : Sighting) (wide : ℕ) (beat : Beat)
-    → asks_of_source plan x.link wide (ended_asks (bus_in_group plan.layout x.link)
-    (more_asks (bus_in_group plan.layout x.link) x beat (asks_over plan.layout x.link past)))
+asks_own : (plan : Plan) (past : List Sighting) (x : Sighting) (wide : ℕ) (beat : Beat)
+    → asks_of_source plan x.link wide (ended_asks (bus_of plan.layout x.link)
+    (more_asks (bus_of plan.layout x.link) x beat (asks_over plan.layout x.link past)))
     ≡ asks_of_source plan x.link wide (ended_at plan.layout x.link past)
     ++ (if wide_of plan x.link (source_of beat) == wide then asks_at x.link (ask_ended plan.layout past x beat) else [])
 asks_own plan past x wide beat = by beat
@@ -63,16 +63,16 @@ asks_own plan past x wide beat = by beat
     nothing : (b : Bool) → before ≡ before ++ (if b then [] else [])
     nothing b = sym (ap (λ l. before ++ l) (none b) ∙ append-nil before)
 
-    by : (beat : Beat) → asks_of_source plan x.link wide (ended_asks (bus_in_group plan.layout x.link)
-        (more_asks (bus_in_group plan.layout x.link) x beat (asks_over plan.layout x.link past)))
+    by : (beat : Beat) → asks_of_source plan x.link wide (ended_asks (bus_of plan.layout x.link)
+        (more_asks (bus_of plan.layout x.link) x beat (asks_over plan.layout x.link past)))
         ≡ asks_of_source plan x.link wide (ended_at plan.layout x.link past)
         ++ (if wide_of plan x.link (source_of beat) == wide
         then asks_at x.link (ask_ended plan.layout past x beat) else [])
     by (D beat) = nothing (wide_of plan x.link beat.source == wide)
-    by (A beat) = go (ends_ask (bus_in_group plan.layout x.link) (asking_at plan.layout x.link past) beat)
-        (ask_of (bus_in_group plan.layout x.link) (asking_at plan.layout x.link past) beat
-        (take (bus_in_group plan.layout x.link) x.lanes)) refl
-        (begun_at plan.layout x.link past ++ ask_beat (bus_in_group plan.layout x.link) beat x.lanes ∷ [])
+    by (A beat) = go (ends_ask (bus_of plan.layout x.link) (asking_at plan.layout x.link past) beat)
+        (ask_of (bus_of plan.layout x.link) (asking_at plan.layout x.link past) beat
+        (take (bus_of plan.layout x.link) x.lanes)) refl
+        (begun_at plan.layout x.link past ++ ask_beat (bus_of plan.layout x.link) beat x.lanes ∷ [])
       where
         go : (ends : Bool) (ask : Request) → ask.source ≡ beat.source → (message : List AskBeat)
             → asks_of_source plan x.link wide (if ends then ended_at plan.layout x.link past ++ (ask, message) ∷ []
@@ -100,12 +100,12 @@ asks_own plan past x wide beat = by beat
             each false = refl
 
 -- the list of a source after one beat more at its own link
-asks_here : (plan : GroupPlan) (past : List Sighting) (x : Sighting) (wide : ℕ)
+asks_here : (plan : Plan) (past : List Sighting) (x : Sighting) (wide : ℕ)
     → asks_at x.link (asks plan (side_of x.link) wide past)
     ≡ asks_of_source plan x.link wide (ended_at plan.layout x.link past)
     → asks_at x.link (asks plan (side_of x.link) wide (x ∷ past))
-    ≡ asks_of_source plan x.link wide (ended_asks (bus_in_group plan.layout x.link)
-    (more_asks (bus_in_group plan.layout x.link) x x.beat (asks_over plan.layout x.link past)))
+    ≡ asks_of_source plan x.link wide (ended_asks (bus_of plan.layout x.link)
+    (more_asks (bus_of plan.layout x.link) x x.beat (asks_over plan.layout x.link past)))
 asks_here plan past x wide was =
     ap (λ b. asks_at x.link (if b then asks plan (side_of x.link) wide past ++ ask_ended plan.layout past x x.beat
     else asks plan (side_of x.link) wide past)) of_is
@@ -124,7 +124,7 @@ asks_here plan past x wide was =
     by true = asks_more x.link (asks plan (side_of x.link) wide past) (ask_ended plan.layout past x x.beat)
     by false = sym (append-nil (asks_at x.link (asks plan (side_of x.link) wide past)))
 
-pub asks_sorted : (plan : GroupPlan) (past : List Sighting) (link : Link) (wide : ℕ)
+pub asks_sorted : (plan : Plan) (past : List Sighting) (link : Link) (wide : ℕ)
     → asks_at link (asks plan (side_of link) wide past)
     ≡ asks_of_source plan link wide (ended_at plan.layout link past)
 asks_sorted plan [] link wide = refl
@@ -133,8 +133,8 @@ asks_sorted plan (x ∷ past) link wide =
   where
     Sorted : Bool → Link → Type 0
     Sorted at l = asks_at l (asks plan (side_of l) wide (x ∷ past))
-        ≡ asks_of_source plan l wide (ended_asks (bus_in_group plan.layout l)
-        (if at then more_asks (bus_in_group plan.layout l) x x.beat (asks_over plan.layout l past)
+        ≡ asks_of_source plan l wide (ended_asks (bus_of plan.layout l)
+        (if at then more_asks (bus_of plan.layout l) x x.beat (asks_over plan.layout l past)
         else asks_over plan.layout l past))
 
     go : (at : Bool) → is_link x.link (side_of link) (link_number link) ≡ at
@@ -169,14 +169,14 @@ replies_more link seen more =
     ap (λ l. map (λ (one : ReplySeen). (one.reply, one.beats)) l) (filter-append test seen more)
     ∙ map-append (λ (one : ReplySeen). (one.reply, one.beats)) (filter test seen) (filter test more)
 
-replies_other : (layout : GroupLayout) (past : List Sighting) (link : Link) (x : Sighting) (beat : Beat)
+replies_other : (layout : Layout) (past : List Sighting) (link : Link) (x : Sighting) (beat : Beat)
     → is_link x.link (side_of link) (link_number link) ≡ false → replies_at link (reply_ended layout past x beat) ≡ []
 replies_other layout past link x (A beat) is = refl
 replies_other layout past link x (D beat) is =
-    go (λ address. reply_of (bus_in_group layout x.link) (replying_at layout x.link past) address beat
-    (x.known % 2 ^ bus_in_group layout x.link) (take (bus_in_group layout x.link) x.lanes))
-    (begun_replies_at layout x.link past ++ reply_beat (bus_in_group layout x.link) beat x.known x.lanes ∷ [])
-    (ends_reply (bus_in_group layout x.link) (replying_at layout x.link past) beat)
+    go (λ address. reply_of (bus_of layout x.link) (replying_at layout x.link past) address beat
+    (x.known % 2 ^ bus_of layout x.link) (take (bus_of layout x.link) x.lanes))
+    (begun_replies_at layout x.link past ++ reply_beat (bus_of layout x.link) beat x.known x.lanes ∷ [])
+    (ends_reply (bus_of layout x.link) (replying_at layout x.link past) beat)
   where
     go : (reply : ℕ → Pattern) (message : List ReplyBeat) (ends : Bool)
         → replies_at link (if ends then record { link = x.link; reply = reply; beats = message } ∷ [] else []) ≡ []
@@ -193,16 +193,16 @@ source_is (Some b) (first ∷ more) last heads same =
     (heads.each 0 first refl b.first refl).source ∙ sym (same b.first refl).source
 
 -- a beat of a reply has the source of its first beat
-abbrev HasSame : GroupLayout → List Sighting → Sighting → Beat → Type 0
+abbrev HasSame : Layout → List Sighting → Sighting → Beat → Type 0
 HasSame layout past x (A beat) = Unit {0}
 HasSame layout past x (D beat) =
     source_of_reply (begun_replies_at layout x.link past
-    ++ reply_beat (bus_in_group layout x.link) beat x.known x.lanes ∷ []) ≡ beat.source
+    ++ reply_beat (bus_of layout x.link) beat x.known x.lanes ∷ []) ≡ beat.source
 
-replies_own : (plan : GroupPlan) (past : List Sighting) (x : Sighting) (wide : ℕ) (beat : Beat)
+replies_own : (plan : Plan) (past : List Sighting) (x : Sighting) (wide : ℕ) (beat : Beat)
     → HasSame plan.layout past x beat
-    → replies_of_source plan x.link wide (ended_replies (bus_in_group plan.layout x.link)
-    (more_replies (bus_in_group plan.layout x.link) x beat (replies_over plan.layout x.link past)))
+    → replies_of_source plan x.link wide (ended_replies (bus_of plan.layout x.link)
+    (more_replies (bus_of plan.layout x.link) x beat (replies_over plan.layout x.link past)))
     ≡ replies_of_source plan x.link wide (ended_replies_at plan.layout x.link past)
     ++ (if wide_of plan x.link (source_of beat) == wide
     then replies_at x.link (reply_ended plan.layout past x beat) else [])
@@ -219,17 +219,17 @@ replies_own plan past x wide beat = by beat
     nothing b = sym (ap (λ l. before ++ l) (none b) ∙ append-nil before)
 
     by : (beat : Beat) → HasSame plan.layout past x beat
-        → replies_of_source plan x.link wide (ended_replies (bus_in_group plan.layout x.link)
-        (more_replies (bus_in_group plan.layout x.link) x beat (replies_over plan.layout x.link past)))
+        → replies_of_source plan x.link wide (ended_replies (bus_of plan.layout x.link)
+        (more_replies (bus_of plan.layout x.link) x beat (replies_over plan.layout x.link past)))
         ≡ replies_of_source plan x.link wide (ended_replies_at plan.layout x.link past)
         ++ (if wide_of plan x.link (source_of beat) == wide
         then replies_at x.link (reply_ended plan.layout past x beat) else [])
     by (A beat) same = nothing (wide_of plan x.link beat.source == wide)
-    by (D beat) same = go (ends_reply (bus_in_group plan.layout x.link) (replying_at plan.layout x.link past) beat)
-        (λ address. reply_of (bus_in_group plan.layout x.link) (replying_at plan.layout x.link past) address beat
-        (x.known % 2 ^ bus_in_group plan.layout x.link) (take (bus_in_group plan.layout x.link) x.lanes))
+    by (D beat) same = go (ends_reply (bus_of plan.layout x.link) (replying_at plan.layout x.link past) beat)
+        (λ address. reply_of (bus_of plan.layout x.link) (replying_at plan.layout x.link past) address beat
+        (x.known % 2 ^ bus_of plan.layout x.link) (take (bus_of plan.layout x.link) x.lanes))
         (begun_replies_at plan.layout x.link past
-        ++ reply_beat (bus_in_group plan.layout x.link) beat x.known x.lanes ∷ []) same
+        ++ reply_beat (bus_of plan.layout x.link) beat x.known x.lanes ∷ []) same
       where
         go : (ends : Bool) (reply : ℕ → Pattern) (message : List ReplyBeat) → source_of_reply message ≡ beat.source
             → replies_of_source plan x.link wide
@@ -252,12 +252,12 @@ replies_own plan past x wide beat = by beat
                 (if h then record { link = x.link; reply = reply; beats = message } ∷ [] else [])) (sym (own_is x.link))
             each false = refl
 
-replies_here : (plan : GroupPlan) (past : List Sighting) (x : Sighting) (wide : ℕ) → HasSame plan.layout past x x.beat
+replies_here : (plan : Plan) (past : List Sighting) (x : Sighting) (wide : ℕ) → HasSame plan.layout past x x.beat
     → replies_at x.link (replies plan (side_of x.link) wide past)
     ≡ replies_of_source plan x.link wide (ended_replies_at plan.layout x.link past)
     → replies_at x.link (replies plan (side_of x.link) wide (x ∷ past))
-    ≡ replies_of_source plan x.link wide (ended_replies (bus_in_group plan.layout x.link)
-    (more_replies (bus_in_group plan.layout x.link) x x.beat (replies_over plan.layout x.link past)))
+    ≡ replies_of_source plan x.link wide (ended_replies (bus_of plan.layout x.link)
+    (more_replies (bus_of plan.layout x.link) x x.beat (replies_over plan.layout x.link past)))
 replies_here plan past x wide same was =
     ap (λ b. replies_at x.link (if b then replies plan (side_of x.link) wide past
     ++ reply_ended plan.layout past x x.beat else replies plan (side_of x.link) wide past)) of_is
@@ -276,7 +276,7 @@ replies_here plan past x wide same was =
     by true = replies_more x.link (replies plan (side_of x.link) wide past) (reply_ended plan.layout past x x.beat)
     by false = sym (append-nil (replies_at x.link (replies plan (side_of x.link) wide past)))
 
-pub replies_sorted : (plan : GroupPlan) (past : List Sighting) → AreWatched plan.layout past → IsLawfulGroup plan past
+pub replies_sorted : (plan : Plan) (past : List Sighting) → AreWatched plan.layout past → IsLawfulGroup plan past
     → (link : Link) (wide : ℕ)
     → replies_at link (replies plan (side_of link) wide past)
     ≡ replies_of_source plan link wide (ended_replies_at plan.layout link past)
@@ -290,15 +290,15 @@ replies_sorted plan (x ∷ past) watched lawful link wide =
     same_at (A beat) allowed = tt
     same_at (D beat) allowed =
         source_is (replying_at plan.layout x.link past) (begun_replies_at plan.layout x.link past)
-        (reply_beat (bus_in_group plan.layout x.link) beat x.known x.lanes)
+        (reply_beat (bus_of plan.layout x.link) beat x.known x.lanes)
         (replies_have_heads plan past watched.1 lawful.0 x.link)
         (subst (λ (u : Under). Continues SameReplyFields (first_reply u.replying) beat) (links_are plan past x.link)
         allowed.fits.same)
 
     Sorted : Bool → Link → Type 0
     Sorted at l = replies_at l (replies plan (side_of l) wide (x ∷ past))
-        ≡ replies_of_source plan l wide (ended_replies (bus_in_group plan.layout l)
-        (if at then more_replies (bus_in_group plan.layout l) x x.beat (replies_over plan.layout l past)
+        ≡ replies_of_source plan l wide (ended_replies (bus_of plan.layout l)
+        (if at then more_replies (bus_of plan.layout l) x x.beat (replies_over plan.layout l past)
         else replies_over plan.layout l past))
 
     go : (at : Bool) → is_link x.link (side_of link) (link_number link) ≡ at

@@ -11,7 +11,7 @@ use Rattle.check_flight.specs.Crossing.Crossing.{Waiting, Crossed, Given}
 use Rattle.check_flight.specs.Flight.{Turn}
 use Rattle.check_flight.specs.Flight.Turn.{Idle, Asking, Asked}
 use Rattle.check_watch.specs.declared.beat.Link.{Link}
-use Rattle.check_watch.specs.Plan.{GroupPlan}
+use Rattle.check_watch.specs.Plan.{Plan}
 use Rattle.check_watch.specs.Plan.LinkSide.{AtPorts}
 use Rattle.check_watch.specs.Scene.{turn_by, given_by}
 use Rattle.check_watch_laws.specs.Crossed.{AskSeen, ReplySeen}
@@ -47,7 +47,7 @@ pub record Story : Type 0 where
   pub taken : List AskSeen
   pub gave : List ReplySeen
 
-module _ (plan : GroupPlan) (wide : ℕ) where
+module _ (plan : Plan) (wide : ℕ) where
   abbrev pub outside : Story → List (AskSeen × ReplySeen)
   outside story = answered_from_outside plan (zip story.sent story.collected)
 

@@ -9,9 +9,9 @@ use Rattle.check_flight.specs.Flight.Turn.{Asked}
 use Rattle.check_watch.specs.declared.beat.Beat.TheVariants.{A, D}
 use Rattle.check_watch.specs.declared.beat.Link.{Link}
 use Rattle.check_watch.specs.declared.beat.Link.TheVariants.{Master, Port}
-use Rattle.check_watch.specs.declared.links.GroupLinks.{GroupLinks}
-use Rattle.check_watch.specs.declared.links.GroupLinks.TheVariants.{Both, Masters, Ports}
-use Rattle.check_watch.specs.Plan.{GroupPlan, GroupLayout, Sighting, side_of, link_number, wide_of, same_side, are_both, HasGroupLink, IsGroupLink}
+use Rattle.check_watch.specs.declared.links.Links.{Links}
+use Rattle.check_watch.specs.declared.links.Links.TheVariants.{Both, Masters, Ports, Each}
+use Rattle.check_watch.specs.Plan.{Plan, Layout, Sighting, side_of, link_number, wide_of, same_side, are_both, HasLink, IsGroupLink}
 use Rattle.check_watch.specs.Plan.LinkSide.{AtMasters, AtPorts}
 use Rattle.check_watch.specs.Scene.{ask_by, ask_if, takes_effect, begins_reply}
 use Rattle.check_watch.proofs.InFlight.{ask_at, reply_at}
@@ -33,22 +33,24 @@ less m n h = go (nat_lt m n) refl
     go true is = refl
     go false is = absurd (omega (arith, h, nltb→le m n (subst (λ b. T (not b)) (sym is) tt)))
 
-at_masters : (links : GroupLinks) (has_link : Bool) (m : ℕ) → IsGroupLink links (Master m)
+at_masters : (links : Links) (has_link : Bool) (m : ℕ) → IsGroupLink links (Master m)
     → (if are_both links && has_link then false else true) ≡ same_side AtMasters (side_by links has_link)
 at_masters Both true m watched = refl
 at_masters Both false m watched = refl
 at_masters Masters has_link m watched = refl
 at_masters Ports has_link m watched = absurd watched
+at_masters Each has_link m watched = refl
 
-at_ports : (links : GroupLinks) (has_link : Bool) (p : ℕ) → IsGroupLink links (Port p) → has_link ≡ true
+at_ports : (links : Links) (has_link : Bool) (p : ℕ) → IsGroupLink links (Port p) → has_link ≡ true
     → true ≡ same_side AtPorts (side_by links has_link)
 at_ports Both true p watched is = refl
 at_ports Both false p watched is = cc
 at_ports Masters has_link p watched is = absurd watched
 at_ports Ports has_link p watched is = refl
+at_ports Each has_link p watched is = absurd watched
 
 -- a port's slave accepts requests at a link that is watched just if it is seen there
-pub takes : (layout : GroupLayout) (link : Link) (port : ℕ) → HasGroupLink layout link → IsGroupLink layout.links link
+pub takes : (layout : Layout) (link : Link) (port : ℕ) → HasLink layout link → IsGroupLink layout.links link
     → ((p : ℕ) → link ≡ Port p → port ≡ p)
     → takes_effect layout link port ≡ same_side (side_of link) (side_for layout port)
 takes layout (Master m) port has watched own = at_masters layout.links (nat_lt port (length layout.ports)) m watched
@@ -72,7 +74,7 @@ none_here : (act : Act) (wide : ℕ) (here : Bool) → [] ≡ (if here then mome
 none_here act wide true = refl
 none_here act wide false = refl
 
-module _ (plan : GroupPlan) (link : Link) (wide port found : ℕ) (has : HasGroupLink plan.layout link)
+module _ (plan : Plan) (link : Link) (wide port found : ℕ) (has : HasLink plan.layout link)
     (watched : IsGroupLink plan.layout.links link) (own : (p : ℕ) → link ≡ Port p → found ≡ p) where
   -- a request that is seen is one of this port, if it goes there
   taken : (act : Act) (ask : Request) → port_for plan link ask ≡ found
@@ -156,7 +158,7 @@ module _ (plan : GroupPlan) (link : Link) (wide port found : ℕ) (has : HasGrou
       go false = off (takes_effect plan.layout link found)
 
 -- the request that the next reply of a source answers is the one in flight
-pub next_is : (plan : GroupPlan) (past : List Sighting) (link : Link) (wide : ℕ) (turn : Turn) (ask : Request)
+pub next_is : (plan : Plan) (past : List Sighting) (link : Link) (wide : ℕ) (turn : Turn) (ask : Request)
     → InStep (side_of link) turn (asks plan (side_of link) wide past) (replies plan (side_of link) wide past)
     → turn ≡ Asked (link_number link) ask → next_answered plan
     (side_of link) wide past ≡ record { link = link; ask = ask } ∷ []

@@ -22,7 +22,7 @@ use Rattle.check_watch.specs.declared.beat.Link.TheVariants.{Master, Port}
 use Rattle.check_watch.specs.Allowed.{IsMust, IsAllowedAsk, IsAllowedReply}
 use Rattle.check_watch.specs.Lawful.{IsLawfulGroup, IsAllowed}
 use Rattle.check_watch.specs.Past.{State, scene_found, scene_of, state, state_after}
-use Rattle.check_watch.specs.Plan.{GroupPlan, GroupLayout, Sighting, LinkSide, side_of, link_number, wide_of, same_side, crosses_at_port, is_of, bus_in_group, HasGroupLink, IsGroupLink}
+use Rattle.check_watch.specs.Plan.{Plan, Layout, Sighting, LinkSide, side_of, link_number, wide_of, same_side, crosses_at_port, is_of, bus_of, HasLink, IsGroupLink}
 use Rattle.check_watch.specs.Scene.{ask_by, ask_if, takes_effect, begins_reply, is_given, captured, flight_after}
 use Rattle.check_watch.proofs.InFlight.{ask_at, reply_at, of_is}
 use Rattle.check_watch_laws.specs.Crossed.{AskSeen, ReplySeen, AreWatched, reply_beat, replying_at, begun_replies_at, ask_ended, reply_ended, asks, replies}
@@ -41,11 +41,11 @@ use Rattle.check_watch_laws.proofs.Told.{dues_none, gains, entries_more, AreMatc
 use Rattle.check_watch_laws.proofs.Turns.{AsksFly, asks_fly, asked_at, link_on, own_link, eqb_own, same_side-refl}
 
 -- the exchanges with a port among these requests and replies
-abbrev pub at_port : GroupPlan → ℕ → List AskSeen → List ReplySeen → List (AskSeen × ReplySeen)
+abbrev pub at_port : Plan → ℕ → List AskSeen → List ReplySeen → List (AskSeen × ReplySeen)
 at_port plan port asked answered = filter (λ (seen : AskSeen × ReplySeen). is_for plan port seen.0) (zip asked answered)
 
 -- what is kept, at a side and a wide source that are written another way
-pub told_at : (plan : GroupPlan) (s : State) (past : List Sighting) (port wide own : ℕ) (side mine : LinkSide) → mine ≡ side
+pub told_at : (plan : Plan) (s : State) (past : List Sighting) (port wide own : ℕ) (side mine : LinkSide) → mine ≡ side
     → own ≡ wide
     → IsTold plan port wide side (s.flights side wide)
     (at_port plan port (asks plan side wide past) (replies plan side wide past))
@@ -70,16 +70,16 @@ unseen_late false begins ended is = refl
 -- ---- a beat of a request
 
 -- nothing was owed if nothing was in flight
-none_owed : (plan : GroupPlan) (port wide : ℕ) (side : LinkSide) (turn : Turn) (due : Option Answer) → pending side turn ≡ []
+none_owed : (plan : Plan) (port wide : ℕ) (side : LinkSide) (turn : Turn) (due : Option Answer) → pending side turn ≡ []
     → owed plan port wide side turn due ≡ []
 none_owed plan port wide side Idle due none = refl
 none_owed plan port wide side (Asking n) due none = refl
 none_owed plan port wide side (Asked n ask) due none = cc
 
-module _ (plan : GroupPlan) (s : State) (past : List Sighting) (linked : LinksAre plan s past)
+module _ (plan : Plan) (s : State) (past : List Sighting) (linked : LinksAre plan s past)
     (busy : AsksFly plan s) (steps : AreInStep plan s past) (replayed : AreReplayed plan s past)
     (told_so : AreTold plan s past) (link : Link) (known : ℕ) (lanes : List ℕ)
-    (has : HasGroupLink plan.layout link) (watched : IsGroupLink plan.layout.links link) (beat : AskHead)
+    (has : HasLink plan.layout link) (watched : IsGroupLink plan.layout.links link) (beat : AskHead)
     (allowed : IsAllowedAsk plan.layout link (scene_of plan s link (A beat)) beat known lanes) where
   abbrev own : ℕ
   own = wide_of plan link beat.source
@@ -196,7 +196,7 @@ module _ (plan : GroupPlan) (s : State) (past : List Sighting) (linked : LinksAr
 -- ---- a beat of a reply
 
 -- if a request takes effect, its reply is what the slave gives
-pub not_given : (layout : GroupLayout) (link : Link) (port : ℕ) → takes_effect layout link port ≡ true
+pub not_given : (layout : Layout) (link : Link) (port : ℕ) → takes_effect layout link port ≡ true
     → is_given layout link port ≡ false
 not_given layout (Port p) port is = refl
 not_given layout (Master m) port is = go (crosses_at_port layout port) is
@@ -205,7 +205,7 @@ not_given layout (Master m) port is = go (crosses_at_port layout port) is
     go true e = cc
     go false e = refl
 
-fresh_due : (plan : GroupPlan) (s : State) (side : LinkSide) (wide n : ℕ) (turn : Turn) (ask : Request)
+fresh_due : (plan : Plan) (s : State) (side : LinkSide) (wide n : ℕ) (turn : Turn) (ask : Request)
     (due : Option Answer) (seen : Bool) → turn ≡ Asked n ask → HasBegun plan s side wide turn due
     → (seen && begins_reply (s.links (side_of (link_on side n)) (link_number (link_on side n))).replying) ≡ true
     → is_due_at_reply (order_at plan (port_for plan (link_on side n) ask)) ≡ true
@@ -237,7 +237,7 @@ late_if : (effect : Bool) (port : ℕ) (slave : PortSlave) (wide : ℕ) (ask : R
 late_if true port slave wide ask answer is = (refl, late_by slave.order port slave wide ask answer is)
 late_if false port slave wide ask answer is = cc
 
-owed_off : (plan : GroupPlan) (port wide n : ℕ) (link : Link) (ask : Request) (due : Option Answer)
+owed_off : (plan : Plan) (port wide n : ℕ) (link : Link) (ask : Request) (due : Option Answer)
     → (port_for plan link ask == port) ≡ false → n ≡ link_number link
     → owed plan port wide (side_of link) (Asked n ask) due ≡ []
 owed_off plan port wide n link ask None off is = refl
@@ -247,7 +247,7 @@ owed_off plan port wide n link ask (Some answer) off is =
     (ap (λ l. port_for plan l ask == port) there ∙ off)
 
 -- the last reply is the one that was owed
-last_entry : (plan : GroupPlan) (port wide : ℕ) (link : Link) (ask : Request) (reply : ℕ → Pattern) (beats : List ReplyBeat)
+last_entry : (plan : Plan) (port wide : ℕ) (link : Link) (ask : Request) (reply : ℕ → Pattern) (beats : List ReplyBeat)
     (seen : List (AskSeen × ReplySeen)) (front : List (Request × Pattern)) (due : Option Answer)
     → (port_for plan link ask == port) ≡ true → IsSourced (Asked (link_number link) ask) due
     → IsSomeAnd due (λ answer. FitsPattern answer.reply (reply ask.address)) → AreMatched wide seen front
@@ -276,7 +276,7 @@ last_entry plan port wide link ask reply beats seen front (Some answer) goes sou
     (matched_more wide seen front last entry all is)
 
 -- the exchanges with one reply more
-pub seen_more : (plan : GroupPlan) (port : ℕ) (asked done : List AskSeen) (answered : List ReplySeen) (last : AskSeen)
+pub seen_more : (plan : Plan) (port : ℕ) (asked done : List AskSeen) (answered : List ReplySeen) (last : AskSeen)
     (reply : ReplySeen) → asked ≡ done ++ last ∷ [] → length answered ≡ length done
     → at_port plan port asked answered ++ (if is_for plan port last then (last, reply) ∷ [] else []) ≡ at_port plan port
     (asked ++ []) (answered ++ reply ∷ [])
@@ -290,9 +290,9 @@ seen_more plan port asked done answered last reply is counted =
     ∙ ap (λ l. at_port plan port l (answered ++ reply ∷ [])) (sym (append-nil asked ∙ is))
 
 -- a beat of a reply to the request in flight, whether it is lawful or not
-module _ (plan : GroupPlan) (s : State) (past : List Sighting) (linked : LinksAre plan s past) (steps : AreInStep plan s past)
+module _ (plan : Plan) (s : State) (past : List Sighting) (linked : LinksAre plan s past) (steps : AreInStep plan s past)
     (dues : AreDue plan s) (replayed : AreReplayed plan s past) (link : Link) (known : ℕ) (lanes : List ℕ)
-    (has : HasGroupLink plan.layout link) (watched : IsGroupLink plan.layout.links link) (beat : ReplyHead) (ask : Request)
+    (has : HasLink plan.layout link) (watched : IsGroupLink plan.layout.links link) (beat : ReplyHead) (ask : Request)
     (in_flight : (s.flights (side_of link) (wide_of plan link beat.source)).turn ≡ Asked (link_number link) ask) where
   abbrev key : ℕ
   key = wide_of plan link beat.source
@@ -377,10 +377,10 @@ module _ (plan : GroupPlan) (s : State) (past : List Sighting) (linked : LinksAr
       (sym in_flight)
       (late_sourced to_port key (s.slaves to_port) effects (link_number link) ask flying.due before)
 
-module _ (plan : GroupPlan) (s : State) (past : List Sighting) (linked : LinksAre plan s past) (steps : AreInStep plan s past)
+module _ (plan : Plan) (s : State) (past : List Sighting) (linked : LinksAre plan s past) (steps : AreInStep plan s past)
     (dues : AreDue plan s) (replayed : AreReplayed plan s past) (told_so : AreTold plan s past) (link : Link)
     (known : ℕ) (lanes : List ℕ)
-    (has : HasGroupLink plan.layout link) (watched : IsGroupLink plan.layout.links link) (beat : ReplyHead)
+    (has : HasLink plan.layout link) (watched : IsGroupLink plan.layout.links link) (beat : ReplyHead)
     (allowed : IsAllowedReply plan.layout link (scene_of plan s link (D beat)) beat known lanes) where
   abbrev mine : ℕ
   mine = wide_of plan link beat.source
@@ -424,7 +424,7 @@ module _ (plan : GroupPlan) (s : State) (past : List Sighting) (linked : LinksAr
       sourced_late plan s past linked steps dues replayed link known lanes has watched beat answers.0 answers.1
 
   abbrev bus : ℕ
-  bus = bus_in_group plan.layout link
+  bus = bus_of plan.layout link
 
   abbrev message : List ReplyBeat
   message = begun_replies_at plan.layout link past ++ reply_beat bus beat known lanes ∷ []
@@ -588,7 +588,7 @@ module _ (plan : GroupPlan) (s : State) (past : List Sighting) (linked : LinksAr
 
 -- ---- all beats
 
-pub are_told : (plan : GroupPlan) (past : List Sighting) → AreWatched plan.layout past → IsLawfulGroup plan past
+pub are_told : (plan : Plan) (past : List Sighting) → AreWatched plan.layout past → IsLawfulGroup plan past
     → AreTold plan (state plan past) past
 are_told plan [] watched lawful =
     λ port wide. record {

@@ -18,7 +18,7 @@ use Rattle.check_watch.specs.declared.beat.Link.TheVariants.{Port}
 use Rattle.check_watch.specs.Allowed.{OfAsked}
 use Rattle.check_watch.specs.Lawful.{IsLawfulGroup}
 use Rattle.check_watch.specs.Past.{state}
-use Rattle.check_watch.specs.Plan.{GroupPlan, Sighting, LinkSide, side_of, link_number, wide_of, bus_in_group}
+use Rattle.check_watch.specs.Plan.{Plan, Sighting, LinkSide, side_of, link_number, wide_of, bus_of}
 use Rattle.check_watch_laws.specs.Crossed.{AreWatched, AskSeen, next_answered, asks_over, replies_over, asking_at, begun_at, replying_at, begun_replies_at, asks, replies}
 use Rattle.check_watch_laws.specs.Messages.{CarriesMessages, IsReplyBeatTo, AsksAt, TakeTurns, AreMessages}
 use Rattle.check_watch_laws.proofs.Buses.{bus_is}
@@ -51,10 +51,10 @@ replies_on_bus n bus is past =
     × (replying m past ≢ None → ReplyCanEndSo m (begun_reply m past))) is
     (λ fits. (replies_spelled bus past fits, reply_can_end bus past fits))
 
-module _ (plan : GroupPlan) (past : List Sighting) (watched : AreWatched plan.layout past) (lawful : IsLawfulGroup plan past) where
+module _ (plan : Plan) (past : List Sighting) (watched : AreWatched plan.layout past) (lawful : IsLawfulGroup plan past) where
   carries : (link : Link) → CarriesMessages plan.layout past link
   carries link =
-      let n = bus_in_group plan.layout link in
+      let n = bus_of plan.layout link in
       let bus = bus_is plan.layout link in
       let asked = asks_over plan.layout link past in
       let replied = replies_over plan.layout link past in
@@ -84,7 +84,7 @@ module _ (plan : GroupPlan) (past : List Sighting) (watched : AreWatched plan.la
   kept_ask link first more is =
       let bus = bus_is plan.layout link in
       let found = ask_first (asking_at plan.layout link past) (begun_at plan.layout link past) first more
-      (ask_heads (bus_in_group plan.layout link) bus.0 bus.1 (asks_over plan.layout link past)
+      (ask_heads (bus_of plan.layout link) bus.0 bus.1 (asks_over plan.layout link past)
       (asks_fit plan past watched lawful link)) is in
       (found.0, ap (λ (u : Under). u.asking) (links_are plan past link) ∙ found.1, found.2)
 

@@ -13,7 +13,7 @@ use Rattle.check_watch.specs.declared.beat.Link.TheVariants.{Master, Port}
 use Rattle.check_watch.specs.Allowed.{OfAsked, IsAllowedAsk}
 use Rattle.check_watch.specs.Lawful.{IsLawfulGroup}
 use Rattle.check_watch.specs.Past.{State, scene_of, state, state_after}
-use Rattle.check_watch.specs.Plan.{GroupPlan, Sighting, LinkSide, side_of, link_number, source_of, wide_of, same_side, is_link, is_of}
+use Rattle.check_watch.specs.Plan.{Plan, Sighting, LinkSide, side_of, link_number, source_of, wide_of, same_side, is_link, is_of}
 use Rattle.check_watch.specs.Plan.LinkSide.{AtMasters, AtPorts}
 use Rattle.check_watch.proofs.InFlight.{of_is, other_stays, under_way_flies}
 
@@ -66,16 +66,16 @@ asked_at n (Asking m) P of = absurd of
 asked_at n (Asked m ask) P of = (ask, ap (λ k. Asked k ask) of.0, of.1)
 
 -- a request that is under way at a link is in flight of its source there
-abbrev pub AsksFly : GroupPlan → State → Type 0
+abbrev pub AsksFly : Plan → State → Type 0
 AsksFly plan s =
     (link : Link) (begun : AskBegun)
     → (s.links (side_of link) (link_number link)).asking ≡ Some begun
     → (s.flights (side_of link) (wide_of plan link begun.first.source)).turn ≡ Asking (link_number link)
 
-pub asks_fly : (plan : GroupPlan) (past : List Sighting) → IsLawfulGroup plan past → AsksFly plan (state plan past)
+pub asks_fly : (plan : Plan) (past : List Sighting) → IsLawfulGroup plan past → AsksFly plan (state plan past)
 asks_fly plan past lawful = (under_way_flies plan past lawful).0
 
-module _ (plan : GroupPlan) (s : State) where
+module _ (plan : Plan) (s : State) where
   -- a beat of a request finds nothing in flight of its source, or its own request
   pub open_before : AsksFly plan s → (link : Link) (known : ℕ) (lanes : List ℕ) (beat : AskHead)
       → IsAllowedAsk plan.layout link (scene_of plan s link (A beat)) beat known lanes

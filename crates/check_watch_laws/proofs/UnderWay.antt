@@ -13,7 +13,7 @@ use Rattle.check_watch.specs.declared.beat.Link.{Link}
 use Rattle.check_watch.specs.Allowed.{OfAsked, IsAllowedAsk, IsAllowedReply}
 use Rattle.check_watch.specs.Lawful.{IsLawfulGroup, IsAllowed}
 use Rattle.check_watch.specs.Past.{State, scene_of, state, state_after}
-use Rattle.check_watch.specs.Plan.{GroupPlan, Sighting, side_of, link_number, wide_of, is_link, is_of}
+use Rattle.check_watch.specs.Plan.{Plan, Sighting, side_of, link_number, wide_of, is_link, is_of}
 use Rattle.check_watch.specs.Scene.{under_after}
 use Rattle.check_watch.proofs.InFlight.{ask_at, reply_at, of_is, of_own, own_after}
 use Rattle.check_watch_laws.specs.Messages.{IsReplyBeatTo}
@@ -21,7 +21,7 @@ use Rattle.check_watch_laws.proofs.Heads.{first_reply_after}
 use Rattle.check_watch_laws.proofs.Links.{same_link}
 use Rattle.check_watch_laws.proofs.Turns.{AsksFly, asks_fly, open_before, elsewhere, mine, is_link_by, true_or_false}
 
-abbrev pub RepliesAnswer : GroupPlan → State → Type 0
+abbrev pub RepliesAnswer : Plan → State → Type 0
 RepliesAnswer plan s =
     (link : Link) (begun : ReplyBegun) → (s.links (side_of link) (link_number link)).replying ≡ Some begun
     → OfAsked (link_number link) (s.flights (side_of link) (wide_of plan link begun.first.source)).turn
@@ -58,7 +58,7 @@ pub first_source : (kept : Option ReplyBegun) (beat : ReplyHead) → Continues S
 first_source None beat same = refl
 first_source (Some b) beat same = sym (same b.first refl).source
 
-module _ (plan : GroupPlan) (s : State) (busy : AsksFly plan s) (before : RepliesAnswer plan s) (link : Link) (known : ℕ)
+module _ (plan : Plan) (s : State) (busy : AsksFly plan s) (before : RepliesAnswer plan s) (link : Link) (known : ℕ)
     (lanes : List ℕ) where
   ask_replying : (beat : AskHead) → IsAllowedAsk plan.layout link (scene_of plan s link (A beat)) beat known lanes
       → RepliesAnswer plan (state_after plan s (ask_at link known lanes beat))
@@ -142,7 +142,7 @@ module _ (plan : GroupPlan) (s : State) (busy : AsksFly plan s) (before : Replie
             (mine plan s (reply_at link known lanes beat) (side_of at) (wide_of plan at begun.first.source) P same was)))
             here)
 
-pub replies_answer : (plan : GroupPlan) (past : List Sighting) → IsLawfulGroup plan past
+pub replies_answer : (plan : Plan) (past : List Sighting) → IsLawfulGroup plan past
     → RepliesAnswer plan (state plan past)
 replies_answer plan [] lawful = λ link begun is. absurd (cc)
 replies_answer plan (x ∷ past) lawful = go (replies_answer plan past lawful.0) x.beat lawful.1

@@ -20,7 +20,7 @@ use Rattle.check_memory.specs.declared.slave.Slave.{Slave}
 use Rattle.check_flight.specs.declared.order.Order.TheVariants.{Any}
 use Rattle.check_flight.specs.PortSlave.{PortSlave, accepted_by, answered_by, answer_of_kept, contested_by, due_accepted_by, due_answered_by}
 use Rattle.check_watch.specs.Lawful.{IsLawfulGroup}
-use Rattle.check_watch.specs.Plan.{GroupPlan, IsGroupPlan, Sighting}
+use Rattle.check_watch.specs.Plan.{Plan, IsPlan, Sighting}
 use Rattle.check_watch_laws.specs.Crossed.{AskSeen, ReplySeen, AreWatched}
 use Rattle.check_watch_laws.specs.Memories.{AreEntries, entries_of, exchanges_at, order_at, reset_of}
 use Rattle.check_watch_laws.specs.Moments.{IsDueAt, RequestMoment, dues_of, entry_due, moments, slave_then}
@@ -178,7 +178,7 @@ all_no_more port (SlaveAnswers wide ∷ later) slave truth any below may =
 
 -- ---- at a port
 
-pub whenever_is_due : (plan : GroupPlan) (past : List Sighting) (port : ℕ) (slave : Slave) (all : List SlaveMoment)
+pub whenever_is_due : (plan : Plan) (past : List Sighting) (port : ℕ) (slave : Slave) (all : List SlaveMoment)
     → order_at plan port ≡ Any → (reset_of plan port).contests ≡ [] → IsDoneWhenever plan past port slave all
     → (history : List (Request × Pattern)) × IsDueAt plan past port history
 whenever_is_due plan past port slave all any fresh done =
@@ -202,7 +202,7 @@ whenever_is_due plan past port slave all any fresh done =
 
 -- ---- all beats
 
-pub whenever_is_lawful : (plan : GroupPlan) (past : List Sighting) → IsGroupPlan plan → AreFresh plan
+pub whenever_is_lawful : (plan : Plan) (past : List Sighting) → IsPlan plan → AreFresh plan
     → AreWatched plan.layout past → AreSeenWhole plan past → AlwaysKeepsRulesWhenever plan past → IsLawfulGroup plan past
 whenever_is_lawful plan past is fresh watched seen always =
     rules_make_lawful plan past is watched seen (λ later earlier so.

@@ -11,7 +11,7 @@ use Rattle.check_watch.specs.declared.beat.Link.{Link}
 use Rattle.check_watch.specs.Allowed.{HasKnownLanes, IsAnswer}
 use Rattle.check_watch.specs.Lawful.{IsLawfulGroup, IsAllowed}
 use Rattle.check_watch.specs.Past.{State, scene_found, scene_of, scene_in_group, state}
-use Rattle.check_watch.specs.Plan.{GroupPlan, Sighting, side_of, link_number, wide_of, bus_in_group}
+use Rattle.check_watch.specs.Plan.{Plan, Sighting, side_of, link_number, wide_of, bus_of}
 use Rattle.check_watch.specs.Scene.{accepted, answered}
 use Rattle.check_watch_laws.specs.Crossed.{AskSeen}
 use Rattle.check_watch_laws.specs.Memories.{port_for, reset_of}
@@ -25,7 +25,7 @@ use Rattle.check_watch_laws.proofs.Turns.{asked_at}
 -- ---- whether lanes may be unknown stays as it is at reset
 
 -- the slave that a beat finds, once the slave has answered
-pub slave_found : (plan : GroupPlan) (s : State) (link : Link) (beat : Beat)
+pub slave_found : (plan : Plan) (s : State) (link : Link) (beat : Beat)
     → may_be_unknown (scene_of plan s link beat).slave ≡ may_be_unknown (s.slaves (scene_of plan s link beat).port)
 slave_found plan s link (A beat) = refl
 slave_found plan s link (D beat) =
@@ -33,7 +33,7 @@ slave_found plan s link (D beat) =
     (stays_answering found.slave found.wide
     (answered plan.layout link found.port found.under.replying found.flight.turn)).lanes
 
-pub unknown_stays : (plan : GroupPlan) (past : List Sighting) (port : ℕ)
+pub unknown_stays : (plan : Plan) (past : List Sighting) (port : ℕ)
     → may_be_unknown ((state plan past).slaves port) ≡ may_be_unknown (reset_of plan port)
 unknown_stays plan [] port = refl
 unknown_stays plan (x ∷ past) port = go ((scene_in_group plan past x).port == port) refl (unknown_stays plan past port)
@@ -56,7 +56,7 @@ abbrev ask_in : Request → List AskSeen → Request
 ask_in other [] = other
 ask_in other (seen ∷ more) = seen.ask
 
-pub seen_whole : (plan : GroupPlan) (past : List Sighting) → IsLawfulGroup plan past → AreSeenWhole plan past
+pub seen_whole : (plan : Plan) (past : List Sighting) → IsLawfulGroup plan past → AreSeenWhole plan past
 seen_whole plan [] lawful = tt
 seen_whole plan (x ∷ past) lawful = (seen_whole plan past lawful.0, go x.beat lawful.1)
   where
@@ -77,8 +77,8 @@ seen_whole plan (x ∷ past) lawful = (seen_whole plan past lawful.0, go x.beat 
         slave_found plan s x.link (D beat) ∙ unknown_stays plan past here.port
         ∙ ap (λ p. may_be_unknown (reset_of plan p)) (sym (reply_goes plan x.link turn (link_number x.link) beat found.0
         found.1)) in
-        let bus : here.under.bus ≡ bus_in_group plan.layout x.link = ap (λ (u : Under). u.bus) (links_are plan past x.link) in
-        subst (λ r. HasKnownLanes (bus_in_group plan.layout x.link)
+        let bus : here.under.bus ≡ bus_of plan.layout x.link = ap (λ (u : Under). u.bus) (links_are plan past x.link) in
+        subst (λ r. HasKnownLanes (bus_of plan.layout x.link)
         (may_be_unknown (reset_of plan (port_for plan x.link r))) r beat x.known) same
-        (subst (λ b. HasKnownLanes (bus_in_group plan.layout x.link) b found.0 beat x.known) unknown
+        (subst (λ b. HasKnownLanes (bus_of plan.layout x.link) b found.0 beat x.known) unknown
         (subst (λ n. HasKnownLanes n (may_be_unknown here.slave) found.0 beat x.known) bus found.2.lanes))

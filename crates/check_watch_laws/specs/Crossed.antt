@@ -13,15 +13,15 @@ use Rattle.check_beats.specs.declared.beat.ReplyHead.{ReplyHead}
 use Rattle.check_watch.specs.declared.beat.Beat.{Beat}
 use Rattle.check_watch.specs.declared.beat.Beat.TheVariants.{A, D}
 use Rattle.check_watch.specs.declared.beat.Link.{Link}
-use Rattle.check_watch.specs.Plan.{GroupPlan, GroupLayout, Sighting, LinkSide, side_of, link_number, is_link, is_of, bus_in_group, HasGroupLink, IsGroupLink}
+use Rattle.check_watch.specs.Plan.{Plan, Layout, Sighting, LinkSide, side_of, link_number, is_link, is_of, bus_of, HasLink, IsGroupLink}
 
 -- a sighting is at a link of the system that is watched, and has a lane for each byte of its bus
-pub record IsWatchedAt (layout : GroupLayout) (x : Sighting) : Type 0 where
-  pub link : HasGroupLink layout x.link
+pub record IsWatchedAt (layout : Layout) (x : Sighting) : Type 0 where
+  pub link : HasLink layout x.link
   pub watched : IsGroupLink layout.links x.link
-  pub lanes : bus_in_group layout x.link ≤ length x.lanes
+  pub lanes : bus_of layout x.link ≤ length x.lanes
 
-abbrev pub AreWatched : GroupLayout → List Sighting → Type 0
+abbrev pub AreWatched : Layout → List Sighting → Type 0
 AreWatched layout past = AllByRecursion (IsWatchedAt layout) past
 
 -- ---- the beats of a link
@@ -39,43 +39,43 @@ more_asks bus x (A beat) before = ask_beat bus beat x.lanes ∷ before
 more_asks bus x (D beat) before = before
 
 -- the beats of channel A that crossed a link
-abbrev pub asks_over : GroupLayout → Link → List Sighting → List AskBeat
+abbrev pub asks_over : Layout → Link → List Sighting → List AskBeat
 asks_over layout link [] = []
 asks_over layout link (x ∷ past) =
     if is_link x.link (side_of link) (link_number link)
-    then more_asks (bus_in_group layout link) x x.beat (asks_over layout link past) else asks_over layout link past
+    then more_asks (bus_of layout link) x x.beat (asks_over layout link past) else asks_over layout link past
 
 -- the same of channel D
 abbrev pub more_replies : ℕ → Sighting → Beat → List ReplyBeat → List ReplyBeat
 more_replies bus x (A beat) before = before
 more_replies bus x (D beat) before = reply_beat bus beat x.known x.lanes ∷ before
 
-abbrev pub replies_over : GroupLayout → Link → List Sighting → List ReplyBeat
+abbrev pub replies_over : Layout → Link → List Sighting → List ReplyBeat
 replies_over layout link [] = []
 replies_over layout link (x ∷ past) =
     if is_link x.link (side_of link) (link_number link)
-    then more_replies (bus_in_group layout link) x x.beat (replies_over layout link past)
+    then more_replies (bus_of layout link) x x.beat (replies_over layout link past)
     else replies_over layout link past
 
 -- what they leave of the request that is under way, its beats, and the requests that have ended, each with its beats
-abbrev pub asking_at : GroupLayout → Link → List Sighting → Option AskBegun
-asking_at layout link past = asking (bus_in_group layout link) (asks_over layout link past)
+abbrev pub asking_at : Layout → Link → List Sighting → Option AskBegun
+asking_at layout link past = asking (bus_of layout link) (asks_over layout link past)
 
-abbrev pub begun_at : GroupLayout → Link → List Sighting → List AskBeat
-begun_at layout link past = begun (bus_in_group layout link) (asks_over layout link past)
+abbrev pub begun_at : Layout → Link → List Sighting → List AskBeat
+begun_at layout link past = begun (bus_of layout link) (asks_over layout link past)
 
-abbrev pub ended_at : GroupLayout → Link → List Sighting → List (Request × List AskBeat)
-ended_at layout link past = ended_asks (bus_in_group layout link) (asks_over layout link past)
+abbrev pub ended_at : Layout → Link → List Sighting → List (Request × List AskBeat)
+ended_at layout link past = ended_asks (bus_of layout link) (asks_over layout link past)
 
 -- the same of replies, each by the address of its request
-abbrev pub replying_at : GroupLayout → Link → List Sighting → Option ReplyBegun
-replying_at layout link past = replying (bus_in_group layout link) (replies_over layout link past)
+abbrev pub replying_at : Layout → Link → List Sighting → Option ReplyBegun
+replying_at layout link past = replying (bus_of layout link) (replies_over layout link past)
 
-abbrev pub begun_replies_at : GroupLayout → Link → List Sighting → List ReplyBeat
-begun_replies_at layout link past = begun_reply (bus_in_group layout link) (replies_over layout link past)
+abbrev pub begun_replies_at : Layout → Link → List Sighting → List ReplyBeat
+begun_replies_at layout link past = begun_reply (bus_of layout link) (replies_over layout link past)
 
-abbrev pub ended_replies_at : GroupLayout → Link → List Sighting → List ((ℕ → Pattern) × List ReplyBeat)
-ended_replies_at layout link past = ended_replies (bus_in_group layout link) (replies_over layout link past)
+abbrev pub ended_replies_at : Layout → Link → List Sighting → List ((ℕ → Pattern) × List ReplyBeat)
+ended_replies_at layout link past = ended_replies (bus_of layout link) (replies_over layout link past)
 
 -- ---- whole messages
 
@@ -91,19 +91,19 @@ pub record ReplySeen : Type 0 where
   pub beats : List ReplyBeat
 
 -- the request that a beat ends
-abbrev pub ask_ended : GroupLayout → List Sighting → Sighting → Beat → List AskSeen
+abbrev pub ask_ended : Layout → List Sighting → Sighting → Beat → List AskSeen
 ask_ended layout past x (A beat) =
-    let bus = bus_in_group layout x.link in
+    let bus = bus_of layout x.link in
     let before = asking_at layout x.link past in
     if ends_ask bus before beat
     then record { link = x.link; ask = ask_of bus before beat (take bus x.lanes) } ∷ [] else []
 ask_ended layout past x (D beat) = []
 
 -- the reply that a beat ends
-abbrev pub reply_ended : GroupLayout → List Sighting → Sighting → Beat → List ReplySeen
+abbrev pub reply_ended : Layout → List Sighting → Sighting → Beat → List ReplySeen
 reply_ended layout past x (A beat) = []
 reply_ended layout past x (D beat) =
-    let bus = bus_in_group layout x.link in
+    let bus = bus_of layout x.link in
     let before = replying_at layout x.link past in
     if ends_reply bus before beat
     then record {
@@ -113,14 +113,14 @@ reply_ended layout past x (D beat) =
     } ∷ [] else []
 
 -- the requests of a wide source that have ended at the links of a side, in the order of their last beats
-abbrev pub asks : GroupPlan → LinkSide → ℕ → List Sighting → List AskSeen
+abbrev pub asks : Plan → LinkSide → ℕ → List Sighting → List AskSeen
 asks plan side wide [] = []
 asks plan side wide (x ∷ past) =
     if is_of plan x side wide then asks plan side wide past ++ ask_ended plan.layout past x x.beat
     else asks plan side wide past
 
 -- the replies of a wide source that have ended there, in the order of their last beats
-abbrev pub replies : GroupPlan → LinkSide → ℕ → List Sighting → List ReplySeen
+abbrev pub replies : Plan → LinkSide → ℕ → List Sighting → List ReplySeen
 replies plan side wide [] = []
 replies plan side wide (x ∷ past) =
     if is_of plan x side wide then replies plan side wide past ++ reply_ended plan.layout past x x.beat
@@ -128,12 +128,12 @@ replies plan side wide (x ∷ past) =
 
 -- the requests of a wide source with their replies: the first reply of a source is the one to its first request, and so
 -- on
-abbrev pub exchanges : GroupPlan → LinkSide → ℕ → List Sighting → List (AskSeen × ReplySeen)
+abbrev pub exchanges : Plan → LinkSide → ℕ → List Sighting → List (AskSeen × ReplySeen)
 exchanges plan side wide past = zip (asks plan side wide past) (replies plan side wide past)
 
 -- the request that the next reply of a wide source answers: as many of its requests were answered before as replies of
 -- it have ended
-abbrev pub next_answered : GroupPlan → LinkSide → ℕ → List Sighting → List AskSeen
+abbrev pub next_answered : Plan → LinkSide → ℕ → List Sighting → List AskSeen
 next_answered plan side wide past =
     let answered = length (replies plan side wide past) in
     slice_range (asks plan side wide past) answered (suc answered)

@@ -3,28 +3,28 @@
 use Rattle.std.specs.Prelude.{◌≡◌, ℕ, ◌≤◌, Bool, nat_lt, List, [], ◌∷◌, ◌++◌, length, map, filter}
 use Rattle.std.specs.List.{AllByRecursion}
 use Rattle.tl_types.specs.Request.{Request}
-use Rattle.check_map.specs.Owner.{IsWideSource}
+use Rattle.tl_map.specs.Owner.{IsWideSource}
 use Rattle.check_flight.specs.Crossing.{IsSameReply}
 use Rattle.check_watch.specs.declared.beat.Link.TheVariants.{Master}
-use Rattle.check_watch.specs.Plan.{GroupPlan, GroupLayout, Sighting}
+use Rattle.check_watch.specs.Plan.{Plan, Layout, Sighting}
 use Rattle.check_watch.specs.Plan.LinkSide.{AtMasters, AtPorts}
 use Rattle.check_watch_laws.specs.Crossed.{AskSeen, ReplySeen, asks, exchanges}
 use Rattle.check_watch_laws.specs.Memories.{widened}
 
 -- the request is one of the master that has this wide source
-abbrev pub IsOfMaster : GroupLayout → ℕ → AskSeen → Type 0
+abbrev pub IsOfMaster : Layout → ℕ → AskSeen → Type 0
 IsOfMaster layout wide seen = (master : ℕ) × (seen.link ≡ Master master) × IsWideSource layout.owners master seen.ask.source wide
 
 -- the request goes to a port that has a link, and not to the error port
-abbrev pub goes_out : GroupPlan → AskSeen → Bool
+abbrev pub goes_out : Plan → AskSeen → Bool
 goes_out plan seen = nat_lt (plan.route seen.ask.address seen.ask.size) (length plan.layout.ports)
 
 -- the requests of a wide source that masters sent to such ports, each with the wide source
-abbrev pub sent_out : GroupPlan → ℕ → List AskSeen → List Request
+abbrev pub sent_out : Plan → ℕ → List AskSeen → List Request
 sent_out plan wide sent = map (widened wide) (filter (goes_out plan) sent)
 
 -- the same with their replies, as masters saw them
-abbrev pub answered_from_outside : GroupPlan → List (AskSeen × ReplySeen) → List (AskSeen × ReplySeen)
+abbrev pub answered_from_outside : Plan → List (AskSeen × ReplySeen) → List (AskSeen × ReplySeen)
 answered_from_outside plan seen = filter (λ (one : AskSeen × ReplySeen). goes_out plan one.0) seen
 
 -- the requests alone
@@ -45,7 +45,7 @@ AreGiven wide (seen ∷ more) [] = ⊥
 AreGiven wide (seen ∷ more) (one ∷ given) = IsGiven wide seen one × AreGiven wide more given
 
 -- the messages of a wide source cross
-pub record MessagesCross (plan : GroupPlan) (past : List Sighting) (wide : ℕ) : Type 0 where
+pub record MessagesCross (plan : Plan) (past : List Sighting) (wide : ℕ) : Type 0 where
   -- masters' requests of it are those of the master that has it
   pub owned : AllByRecursion (IsOfMaster plan.layout wide) (asks plan AtMasters wide past)
   -- ports' requests of it are, in order, those that the master sent out, each once; the last may not have crossed yet

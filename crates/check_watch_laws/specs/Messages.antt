@@ -6,32 +6,32 @@ use Rattle.std.specs.List.{flat_map, AllByRecursion}
 use Rattle.tl_types.specs.Operation.{reply_op_of}
 use Rattle.tl_types.specs.Request.{Request}
 use Rattle.tl_types.specs.Wire.{reply_opcode_of}
-use Rattle.check_map.specs.Ranges.{RoutesByRanges, RoutesBytesByRanges}
+use Rattle.tl_map.specs.Map.{Routes, RoutesBytes}
 use Rattle.check_cells.specs.Pattern.{Pattern}
 use Rattle.check_beats.specs.Laws.{channel, IsSpelled, CanEnd, reply_channel, IsReplySpelled, ReplyCanEndSo}
 use Rattle.check_beats.specs.Spelling.{AskBeat, ReplyBeat}
 use Rattle.check_beats.specs.declared.beat.ReplyHead.{ReplyHead}
 use Rattle.check_watch.specs.declared.beat.Link.{Link}
 use Rattle.check_watch.specs.declared.beat.Link.TheVariants.{Port}
-use Rattle.check_watch.specs.Plan.{GroupPlan, GroupLayout, Sighting, LinkSide, side_of, link_number, source_of, wide_of, is_link, bus_in_group, HasSource}
+use Rattle.check_watch.specs.Plan.{Plan, Layout, Sighting, LinkSide, side_of, link_number, source_of, wide_of, is_link, bus_of, HasSource}
 use Rattle.check_watch_laws.specs.Crossed.{AskSeen, ReplySeen, asks_over, replies_over, begun_at, ended_at, begun_replies_at, ended_replies_at, asks, replies, exchanges, next_answered}
 
 -- ---- a link
 
 -- the beats of channel A are those of whole requests, one after the other, each spelled by its beats on the bus of the
 -- link, and those of one more that has begun and can end; and so on channel D
-pub record CarriesMessages (layout : GroupLayout) (past : List Sighting) (link : Link) : Type 0 where
+pub record CarriesMessages (layout : Layout) (past : List Sighting) (link : Link) : Type 0 where
   pub asks : channel (asks_over layout link past)
       ≡ flat_map (λ (entry : Request × List AskBeat). entry.1) (ended_at layout link past)
       ++ begun_at layout link past
-  pub asks_spelled : AllByRecursion (IsSpelled (bus_in_group layout link)) (ended_at layout link past)
-  pub ask_begun : begun_at layout link past ≢ [] → CanEnd (bus_in_group layout link) (begun_at layout link past)
+  pub asks_spelled : AllByRecursion (IsSpelled (bus_of layout link)) (ended_at layout link past)
+  pub ask_begun : begun_at layout link past ≢ [] → CanEnd (bus_of layout link) (begun_at layout link past)
   pub replies : reply_channel (replies_over layout link past)
       ≡ flat_map (λ (entry : (ℕ → Pattern) × List ReplyBeat). entry.1) (ended_replies_at layout link past)
       ++ begun_replies_at layout link past
-  pub replies_spelled : AllByRecursion (IsReplySpelled (bus_in_group layout link)) (ended_replies_at layout link past)
+  pub replies_spelled : AllByRecursion (IsReplySpelled (bus_of layout link)) (ended_replies_at layout link past)
   pub reply_begun : begun_replies_at layout link past ≢ []
-      → ReplyCanEndSo (bus_in_group layout link) (begun_replies_at layout link past)
+      → ReplyCanEndSo (bus_of layout link) (begun_replies_at layout link past)
 
 -- ---- a source
 
@@ -46,20 +46,20 @@ pub record IsAnswered (seen : AskSeen × ReplySeen) : Type 0 where
   pub beats : AllByRecursion (λ (beat : ReplyBeat). IsReplyBeatTo seen.0.ask beat.head) seen.1.beats
 
 -- a request that has begun at a link is of this wide source
-pub record AsksAt (plan : GroupPlan) (past : List Sighting) (wide : ℕ) (link : Link) : Type 0 where
+pub record AsksAt (plan : Plan) (past : List Sighting) (wide : ℕ) (link : Link) : Type 0 where
   pub first : AskBeat
   pub more : List AskBeat
   pub begun : begun_at plan.layout link past ≡ first ∷ more
   pub of : wide_of plan link first.head.source ≡ wide
 
-pub record RepliesAt (plan : GroupPlan) (past : List Sighting) (wide : ℕ) (link : Link) : Type 0 where
+pub record RepliesAt (plan : Plan) (past : List Sighting) (wide : ℕ) (link : Link) : Type 0 where
   pub first : ReplyBeat
   pub more : List ReplyBeat
   pub begun : begun_replies_at plan.layout link past ≡ first ∷ more
   pub of : wide_of plan link first.head.source ≡ wide
 
 -- the requests and replies of a source at the links of a side come in turn
-pub record TakeTurns (plan : GroupPlan) (past : List Sighting) (side : LinkSide) (wide : ℕ) : Type 0 where
+pub record TakeTurns (plan : Plan) (past : List Sighting) (side : LinkSide) (wide : ℕ) : Type 0 where
   -- the replies are those to the first requests, one each; one request at most has none
   pub no_reply_more : length (replies plan side wide past) ≤ length (asks plan side wide past)
   pub one_unanswered : length (asks plan side wide past) ≤ length (replies plan side wide past) + 1
@@ -87,7 +87,7 @@ replies_at link seen =
     (λ (one : ReplySeen). is_link one.link (side_of link) (link_number link)) seen)
 
 -- of the whole messages of a link those of this wide source
-abbrev pub asks_of_source : GroupPlan → Link → ℕ → List (Request × List AskBeat) → List Request
+abbrev pub asks_of_source : Plan → Link → ℕ → List (Request × List AskBeat) → List Request
 asks_of_source plan link wide whole =
     map (λ (one : Request × List AskBeat). one.0)
     (filter (λ (one : Request × List AskBeat). wide_of plan link one.0.source == wide) whole)
@@ -97,7 +97,7 @@ abbrev pub source_of_reply : List ReplyBeat → ℕ
 source_of_reply [] = 0
 source_of_reply (first ∷ more) = first.head.source
 
-abbrev pub replies_of_source : GroupPlan → Link → ℕ → List ((ℕ → Pattern) × List ReplyBeat)
+abbrev pub replies_of_source : Plan → Link → ℕ → List ((ℕ → Pattern) × List ReplyBeat)
     → List ((ℕ → Pattern) × List ReplyBeat)
 replies_of_source plan link wide whole =
     filter (λ (one : (ℕ → Pattern) × List ReplyBeat). wide_of plan link (source_of_reply one.1) == wide) whole
@@ -105,11 +105,11 @@ replies_of_source plan link wide whole =
 -- ---- places
 
 -- a request at a port's link is one that the address map has with the port
-abbrev pub IsInPlace : GroupLayout → AskSeen → Type 0
-IsInPlace layout seen = (port : ℕ) → seen.link ≡ Port port → RoutesByRanges layout.ports seen.ask port
+abbrev pub IsInPlace : Layout → AskSeen → Type 0
+IsInPlace layout seen = (port : ℕ) → seen.link ≡ Port port → Routes layout.ports seen.ask port
 
 -- what lawful beats say of messages
-pub record AreMessages (plan : GroupPlan) (past : List Sighting) : Type 0 where
+pub record AreMessages (plan : Plan) (past : List Sighting) : Type 0 where
   pub links : (link : Link) → CarriesMessages plan.layout past link
   pub sources : (side : LinkSide) (wide : ℕ) → TakeTurns plan past side wide
   -- the requests and replies of a source that crossed a link are those of the link that have its source, in order
@@ -125,4 +125,4 @@ pub record AreMessages (plan : GroupPlan) (past : List Sighting) : Type 0 where
   pub placed : (side : LinkSide) (wide : ℕ) → AllByRecursion (IsInPlace plan.layout) (asks plan side wide past)
   pub begun_placed : (port : ℕ) (first : AskBeat) (more : List AskBeat)
       → begun_at plan.layout (Port port) past ≡ first ∷ more
-      → RoutesBytesByRanges plan.layout.ports first.head.address first.head.size port
+      → RoutesBytes plan.layout.ports first.head.address first.head.size port

@@ -7,7 +7,7 @@ use Rattle.check_flight.specs.declared.answer.Answer.{Answer}
 use Rattle.check_flight.specs.PortSlave.{PortSlave, accepting, answering, due_accepting, due_answering}
 use Rattle.check_watch.specs.declared.beat.Beat.{Beat}
 use Rattle.check_watch.specs.declared.beat.Beat.TheVariants.{A, D}
-use Rattle.check_watch.specs.Plan.{GroupPlan, Sighting, wide_of}
+use Rattle.check_watch.specs.Plan.{Plan, Sighting, wide_of}
 use Rattle.check_watch_laws.specs.Crossed.{AskSeen, ask_ended}
 use Rattle.check_watch_laws.specs.Memories.{is_for, ask_answered, reset_of, AreEntries, exchanges_at, entries_of}
 
@@ -28,7 +28,7 @@ abbrev pub moment_of : Act → ℕ → AskSeen → RequestMoment
 moment_of act wide seen = record { act = act; wide = wide; ask = seen.ask }
 
 -- the moments of a port with a beat: one that it ends, or one whose reply it begins
-abbrev pub moments_with : GroupPlan → ℕ → List Sighting → Sighting → Beat → List RequestMoment
+abbrev pub moments_with : Plan → ℕ → List Sighting → Sighting → Beat → List RequestMoment
 moments_with plan port past x (A beat) =
     map (moment_of Accepts (wide_of plan x.link beat.source))
     (filter (is_for plan port) (ask_ended plan.layout past x (A beat)))
@@ -37,7 +37,7 @@ moments_with plan port past x (D beat) =
     (filter (is_for plan port) (ask_answered plan past x (D beat)))
 
 -- the moments of a port, in order
-abbrev pub moments : GroupPlan → ℕ → List Sighting → List RequestMoment
+abbrev pub moments : Plan → ℕ → List Sighting → List RequestMoment
 moments plan port [] = []
 moments plan port (x ∷ past) = moments plan port past ++ moments_with plan port past x x.beat
 
@@ -72,6 +72,6 @@ dues_of port slave (moment ∷ moments) =
     ++ dues_of port (slave_then slave moment) moments
 
 -- this is what is due of a port's replies, by its slave; and what was captured of each source fits it
-pub record IsDueAt (plan : GroupPlan) (past : List Sighting) (port : ℕ) (history : List (Request × Pattern)) : Type 0 where
+pub record IsDueAt (plan : Plan) (past : List Sighting) (port : ℕ) (history : List (Request × Pattern)) : Type 0 where
   pub dues : history ≡ dues_of port (reset_of plan port) (moments plan port past)
   pub captured : (wide : ℕ) → AreEntries wide (exchanges_at plan port wide past) (entries_of wide history)

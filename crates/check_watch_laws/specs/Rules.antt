@@ -7,9 +7,9 @@ use Rattle.check_flight.specs.declared.order.Order.TheVariants.{Any}
 use Rattle.check_flight.specs.PortSlave.{may_be_unknown}
 use Rattle.check_watch.specs.declared.beat.Beat.{Beat}
 use Rattle.check_watch.specs.declared.beat.Beat.TheVariants.{A, D}
-use Rattle.check_watch.specs.declared.links.GroupLinks.TheVariants.{Both}
+use Rattle.check_watch.specs.declared.links.Links.TheVariants.{Both}
 use Rattle.check_watch.specs.Allowed.{HasKnownLanes}
-use Rattle.check_watch.specs.Plan.{GroupPlan, Sighting, side_of, wide_of, bus_in_group}
+use Rattle.check_watch.specs.Plan.{Plan, Sighting, side_of, wide_of, bus_of}
 use Rattle.check_watch_laws.specs.Crossed.{next_answered}
 use Rattle.check_watch_laws.specs.Crossings.{MessagesCross}
 use Rattle.check_watch_laws.specs.Memories.{IsDoneAt, order_at, port_for, reset_of}
@@ -19,7 +19,7 @@ use Rattle.check_watch_laws.specs.Moments.{IsDueAt}
 -- the beats are whole messages that come in turn; each port's replies fit what its slave may reply, which does one request
 -- at a time, or if nobody knows when it does which, what is due then; and if both sides are watched, what ports are asked
 -- and answer is what masters asked and are answered
-pub record KeepsRules (plan : GroupPlan) (past : List Sighting) : Type 0 where
+pub record KeepsRules (plan : Plan) (past : List Sighting) : Type 0 where
   pub messages : AreMessages plan past
   pub memories : (port : ℕ) → order_at plan port ≢ Any
       → (history : List (Request × Pattern)) × IsDoneAt plan past port history
@@ -29,22 +29,22 @@ pub record KeepsRules (plan : GroupPlan) (past : List Sighting) : Type 0 where
 
 -- so it is at each moment: lists of sightings have the latest first, so what crossed up to a moment is an end of the
 -- list
-abbrev pub AlwaysKeepsRules : GroupPlan → List Sighting → Type 0
+abbrev pub AlwaysKeepsRules : Plan → List Sighting → Type 0
 AlwaysKeepsRules plan past = (later earlier : List Sighting) → later ++ earlier ≡ past → KeepsRules plan earlier
 
 -- ---- what was seen of beats
 
 -- each lane of a beat that carries a byte was known: of a request, and of a reply if its port's slave may leave none
 -- unknown. Which lanes of a reply carry one is told by the request that it answers
-abbrev pub IsSeenWhole : GroupPlan → List Sighting → Sighting → Beat → Type 0
+abbrev pub IsSeenWhole : Plan → List Sighting → Sighting → Beat → Type 0
 IsSeenWhole plan past x (A beat) = IsKnown beat x.known
 IsSeenWhole plan past x (D beat) =
     (ask : Request)
     → next_answered plan (side_of x.link) (wide_of plan x.link beat.source) past
     ≡ record { link = x.link; ask = ask } ∷ []
-    → HasKnownLanes (bus_in_group plan.layout x.link) (may_be_unknown (reset_of plan (port_for plan x.link ask))) ask beat
+    → HasKnownLanes (bus_of plan.layout x.link) (may_be_unknown (reset_of plan (port_for plan x.link ask))) ask beat
     x.known
 
-abbrev pub AreSeenWhole : GroupPlan → List Sighting → Type 0
+abbrev pub AreSeenWhole : Plan → List Sighting → Type 0
 AreSeenWhole plan [] = Unit {0}
 AreSeenWhole plan (x ∷ past) = AreSeenWhole plan past × IsSeenWhole plan past x x.beat

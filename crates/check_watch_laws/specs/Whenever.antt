@@ -9,8 +9,8 @@ use Rattle.check_contests.specs.Moments.SlaveMoment.{Accepts as SlaveAccepts, Ta
 use Rattle.check_contests.specs.Moments.Course.{Idle, Waiting, Served}
 use Rattle.check_memory.specs.declared.slave.Slave.{Slave}
 use Rattle.check_flight.specs.declared.order.Order.TheVariants.{Any}
-use Rattle.check_watch.specs.declared.links.GroupLinks.TheVariants.{Both}
-use Rattle.check_watch.specs.Plan.{GroupPlan, Sighting}
+use Rattle.check_watch.specs.declared.links.Links.TheVariants.{Both}
+use Rattle.check_watch.specs.Plan.{Plan, Sighting}
 use Rattle.check_watch_laws.specs.Crossings.{MessagesCross}
 use Rattle.check_watch_laws.specs.Memories.{IsDoneAt, order_at, reset_of, AreEntries, exchanges_at, entries_of}
 use Rattle.check_watch_laws.specs.Messages.{AreMessages}
@@ -57,7 +57,7 @@ given_in truth (moment ∷ later) = given_then truth moment ++ given_in (truth_a
 
 -- a slave, of which the judge knows no more at reset than what is so, did the port's requests at these moments; what is
 -- seen of them is what was seen at the port, and what was captured of each source fits its replies
-pub record IsDoneWhenever (plan : GroupPlan) (past : List Sighting) (port : ℕ) (slave : Slave) (all : List SlaveMoment)
+pub record IsDoneWhenever (plan : Plan) (past : List Sighting) (port : ℕ) (slave : Slave) (all : List SlaveMoment)
     : Type 0 where
   pub reset : IsBelowAtReset (reset_of plan port).kept slave
   pub may_come : MayAllCome (untouched slave) all
@@ -68,7 +68,7 @@ pub record IsDoneWhenever (plan : GroupPlan) (past : List Sighting) (port : ℕ)
 -- ---- the rules, of such slaves
 
 -- what `KeepsRules` says, but that each slave whose order nobody knows did its requests at such moments
-pub record KeepsRulesWhenever (plan : GroupPlan) (past : List Sighting) : Type 0 where
+pub record KeepsRulesWhenever (plan : Plan) (past : List Sighting) : Type 0 where
   pub messages : AreMessages plan past
   pub memories : (port : ℕ) → order_at plan port ≢ Any
       → (history : List (Request × Pattern)) × IsDoneAt plan past port history
@@ -77,10 +77,10 @@ pub record KeepsRulesWhenever (plan : GroupPlan) (past : List Sighting) : Type 0
   pub crossings : plan.layout.links ≡ Both → (wide : ℕ) → MessagesCross plan past wide
 
 -- so it is at each moment
-abbrev pub AlwaysKeepsRulesWhenever : GroupPlan → List Sighting → Type 0
+abbrev pub AlwaysKeepsRulesWhenever : Plan → List Sighting → Type 0
 AlwaysKeepsRulesWhenever plan past =
     (later earlier : List Sighting) → later ++ earlier ≡ past → KeepsRulesWhenever plan earlier
 
 -- no slave has accepted a request at reset
-abbrev pub AreFresh : GroupPlan → Type 0
+abbrev pub AreFresh : Plan → Type 0
 AreFresh plan = (port : ℕ) → (reset_of plan port).contests ≡ []

@@ -6,7 +6,7 @@ use Rattle.std.specs.Str.{is_utf8}
 use Rattle.toml.specs.Data.{Data, Items, Members, as_array, get_member}
 use Rattle.toml.specs.Parse.{parse_document}
 use Rattle.tl_script.specs.Value.{list_of}
-use Rattle.check_map.specs.declared.limits.TheConstants.{MAX_JUDGED_MASTERS, MAX_JUDGED_PORTS}
+use Rattle.tl_map.specs.declared.limits.TheConstants.{MAX_JUDGED_MASTERS, MAX_JUDGED_PORTS}
 use Rattle.check_signals.specs.Names.{SignalNames, all_names, clock_in, is_low_in, link_of, links_by, links_in, names_of_file, optional_text}
 use Rattle.check_signals.specs.declared.fault.SignalKey.{SignalKey}
 use Rattle.check_signals.specs.declared.fault.SignalKey.TheVariants as key

@@ -8,8 +8,8 @@ use Rattle.check_vcd.specs.declared.fault.Mistake.{Mistake}
 use Rattle.check_vcd.specs.declared.fault.Mistake.TheVariants.{CutInHeader}
 use Rattle.check_keys.specs.declared.fault.SystemFault.{SystemFault}
 use Rattle.check_description.specs.Description.{Description, IsFirstFaultOf, Makes}
-use Rattle.check_description.specs.File.{Parts, parts_of}
-use Rattle.check_description.specs.Name.{AreDistinct, IsFirstPartFault, names_of}
+use Rattle.check_description.specs.File.{Parts}
+use Rattle.check_description.specs.Name.{IsFirstPartFault, NamesParts}
 use Rattle.check_description.specs.declared.read.TheConstants.{MAX_SYSTEM}
 use Rattle.check_samples.specs.Left.{RowsLeft, left_of}
 use Rattle.check_signals.specs.Found.{Found, find_of, found_in, sampling_of}
@@ -50,11 +50,6 @@ unfoldable pub rows_in : WaveLinks → List ℕ → Result RowsLeft NoRows
 rows_in links text = rows_after links (opening (dump_words text) blank)
 
 -- ---- the system
-
--- the file names these parts, no two of which have the same name
-pub record NamesParts (file : List ℕ) (parts : Parts) : Type 0 where
-  pub are : parts_of file ≡ Ok parts
-  pub distinct : AreDistinct (names_of parts)
 
 -- the file describes this system
 pub record Describes (file : List ℕ) (system : Description) : Type 0 where

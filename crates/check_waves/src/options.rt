@@ -1,6 +1,15 @@
 //! The command line: `tlvcd SYSTEM [DUMP]`.
-use clap::{Arg, ArgAction, Command, Error};
+ghost use Rattle.std.specs.Prelude.{◌≡◌, IfOk, false, map};
+ghost use Rattle.clap.specs.Words.{FailsBy, app_of, fault_of, rule_of};
+ghost use Rattle.check_waves.specs.Options.{dump_rule, files_asked, files_in, wave_line};
+
+use clap::{Arg, Command, Error};
 use std::alloc::{AllocError, Global};
+use std::convert::AsStr;
+use tl_cli::{program, read_file, system_word, value, valued};
+
+/// What help says first.
+const ABOUT: &str = "Writes the capture of a TileLink crossbar from a value change dump";
 
 /// What help says at its end.
 const AFTER_HELP: &str = "\
@@ -19,34 +28,20 @@ pub struct WaveOptions<'a> {
     pub dump: Option<&'a str>,
 }
 
-/// The word of the file with the system.
-fn system_word<'a>(alloc: Global) -> Arg<'a> {
-    Arg::new(alloc, "system")
-        .action(ArgAction::Set)
-        .value_name("SYSTEM")
-        .required(true)
-        .help("The file with the system")
-}
-
-/// The word of the file with the dump.
-fn dump_word<'a>(alloc: Global) -> Arg<'a> {
-    Arg::new(alloc, "dump")
-        .action(ArgAction::Set)
-        .value_name("DUMP")
-        .help("The file with the dump; standard input if there is none, or -")
-}
-
-/// The program, before it has words.
-fn program<'a>(alloc: Global) -> Command<'a> {
-    Command::new(alloc, "tlvcd")
-        .version("0.1.0")
-        .about("Writes the capture of a TileLink crossbar from a value change dump")
-        .after_help(AFTER_HELP)
+/// DUMP.
+fn dump_word<'a>(alloc: Global) -> Arg<'a>
+    ensures rule { rule_of result ≡ dump_rule }
+    ensures local { result.global ≡ false }
+{
+    let help = "The file with the dump; standard input if there is none, or -";
+    valued(alloc, "dump", "DUMP", help)
 }
 
 /// The words that there are.
-fn command<'a>(alloc: Global) -> Result<Command<'a>, AllocError> {
-    program(alloc)
+fn command<'a>(alloc: Global) -> Result<Command<'a>, AllocError>
+    ensures { IfOk result (λ command. app_of command ≡ wave_line) }
+{
+    program(alloc, "tlvcd", ABOUT, AFTER_HELP)
         .arg(system_word(alloc))?
         .arg(dump_word(alloc))
 }
@@ -55,17 +50,19 @@ fn command<'a>(alloc: Global) -> Result<Command<'a>, AllocError> {
 ///
 /// Errors: help or the version that was asked for, an unknown option, no SYSTEM, or a stray word; each is clap's own
 /// text.
-pub fn read_wave_options<'a>(
+pub fn read_wave_options<'a, S: AsStr>(
     alloc: Global,
-    words: &'a [&'a str],
-) -> Result<WaveOptions<'a>, Error> {
+    words: &'a [S],
+) -> Result<WaveOptions<'a>, Error>
+    // The files are those that the words name.
+    ensures asked { IfOk result (λ options. files_asked options ≡ files_in (map S.text words.now)) }
+
+    // The words are taken or refused as the command line says.
+    ensures faults { FailsBy (fault_of wave_line (map S.text words.now)) result }
+{
     let matches = command(alloc)?.try_get_matches_from(words)?;
-    let dump = match matches.get_str("dump") {
-        Some("-") => None,
-        name => name,
-    };
     Ok(WaveOptions {
-        system: matches.get_str("system").unwrap_or(""),
-        dump,
+        system: value(&matches, "system"),
+        dump: read_file(matches.get_str("dump")),
     })
 }

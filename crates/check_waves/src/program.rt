@@ -6,7 +6,7 @@ ghost use Rattle.check_waves.specs.Fault.{status_of};
 use crate::fault::WaveFault;
 use std::io::Eprint;
 use std::process::ExitCode;
-use tl_streams::fail;
+use tl_cli::fail;
 
 /// Ends the program after all rows were written, or with the line and the status of a fault.
 pub fn end_waves<R: Eprint>(rt: &R, outcome: Result<(), WaveFault>) -> ExitCode

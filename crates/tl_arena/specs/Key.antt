@@ -8,6 +8,6 @@ about_in key = record {
   slots = key.slots;
   masters = key.masters;
   ports = key.ports;
-  counts = key.sources.value;
+  owners = key.sources.value;
   resets = map (λ bank. bank.value) key.resets.items;
 }

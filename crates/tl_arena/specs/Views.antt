@@ -5,6 +5,7 @@ use Rattle.tl_types.specs.Request.{Request}
 use Rattle.tl_types.specs.Response.{Response}
 use Rattle.tl_types.specs.declared.trace.Entry.{Entry}
 use Rattle.tl_ops.specs.Store.{Store}
+use Rattle.tl_map.specs.declared.owners.Owner.{Owner}
 use Rattle.tl_rule.specs.declared.view.About.{About}
 use Rattle.tl_rule.specs.declared.view.Held.{Held}
 use Rattle.tl_rule.specs.declared.view.Held.TheVariants.{Nothing, Taken}
@@ -52,10 +53,10 @@ pub record ServedView : Type 0 where
 
 -- ---- the arena
 
--- the counts, the blocks of the sources and the resets of the ports
-abbrev pub about_of : ℕ → List ℕ → List Store → About
-about_of slots counts resets =
-    record { slots = slots; masters = length counts; ports = length resets; counts = counts; resets = resets }
+-- the counts, the owners of the sources and the resets of the ports
+abbrev pub about_of : ℕ → List Owner → List Store → About
+about_of slots owners resets =
+    record { slots = slots; masters = length owners; ports = length resets; owners = owners; resets = resets }
 
 -- ---- a master's seat
 

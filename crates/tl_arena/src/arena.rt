@@ -1,6 +1,7 @@
 //! The arena, which one it is, and the dealing of its seats.
 ghost use Rattle.std.specs.Prelude.{◌≡◌, ◌≤◌, ◌<◌, ◌↔◌, ◌+◌, length, [], IfOk, Err, All, IsSome};
 ghost use Rattle.tl_slots.specs.Machine.{IsInLimits};
+ghost use Rattle.tl_map.specs.Owners.{AreLawfulOwners};
 ghost use Rattle.tl_rule.specs.declared.view.View.TheVariants.{Dealer};
 ghost use Rattle.tl_arena.specs.declared.arena.ArenaFault.TheVariants.{BadCount};
 ghost use Rattle.tl_arena.specs.Key.{about_in};
@@ -16,7 +17,7 @@ use std::collections::VecDeque;
 use std::marker::{Brand, Model};
 use std::snapshot::Snapshot;
 use thiserror::Error;
-use tl_map::Sources;
+use tl_map::SourceOwners;
 use tl_ops::Bank;
 use tl_rule::View;
 use tl_types::{MAX_MASTERS, MAX_PORTS, MAX_SLOTS};
@@ -88,6 +89,7 @@ fn new_berths(alloc: Global, slots: usize) -> Result<Vec<Berth>, AllocError>
 /// An arena with no seats but the dealer's.
 fn open(alloc: Global, key: &Key) -> Result<(Arena, TableSeat), AllocError>
     requires limits { IsInLimits key.now.slots key.now.masters key.now.ports }
+    requires owners { AreLawfulOwners key.now.sources.value }
     ensures arena { IfOk result (λ opened. opened.0.about ≡ about_in key.now) }
     ensures table { IfOk result (λ opened. opened.1.table_id ≡ opened.0.table) }
     ensures dealer { IfOk result (λ opened. opened.1.me ≡ (Dealer (about_in key.now) 0 0, [])) }
@@ -112,7 +114,7 @@ impl Arena {
     pub fn new(
         alloc: Global,
         slots: usize,
-        sources: &Sources,
+        sources: &SourceOwners,
         banks: &[Bank],
     ) -> Result<Made, ArenaFault>
         ensures bad_count { (result ≡ Err BadCount)
@@ -142,7 +144,7 @@ impl Arena {
     fn make(
         alloc: Global,
         slots: usize,
-        sources: &Sources,
+        sources: &SourceOwners,
         banks: &[Bank],
     ) -> Result<Made, AllocError>
         requires limits { IsInLimits slots (length sources.now) (length banks.now) }

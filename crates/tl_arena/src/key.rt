@@ -5,7 +5,7 @@ use crate::record::Berth;
 use atomic_table::TableRule;
 use std::alloc::{AllocError, Global};
 use std::snapshot::Snapshot;
-use tl_map::Sources;
+use tl_map::SourceOwners;
 use tl_ops::Bank;
 use tl_rule::View;
 
@@ -15,7 +15,7 @@ pub(crate) struct Key {
     pub(crate) slots: usize,
     pub(crate) masters: usize,
     pub(crate) ports: usize,
-    pub(crate) sources: Snapshot<Sources>,
+    pub(crate) sources: Snapshot<SourceOwners>,
     pub(crate) resets: Vec<Snapshot<Bank>>,
 }
 

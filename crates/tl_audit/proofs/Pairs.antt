@@ -3,16 +3,17 @@ use Rattle.std.proofs.Common.{◌≡◌, ℕ, ◌↔◌, List, Bool, Some, IsTru
 use Rattle.tl_types.specs.Request.{Request}
 use Rattle.tl_types.specs.Response.{Response}
 use Rattle.tl_types.specs.declared.trace.Entry.{Entry}
-use Rattle.tl_map.specs.Block.{IsWide}
+use Rattle.tl_map.specs.Owner.{IsWideSource}
+use Rattle.tl_map.specs.declared.owners.Owner.{Owner}
 use Rattle.tl_audit.specs.Agrees.{IsRecorded, pair_at}
 
-pub recorded_just : (counts : List ℕ) (histories : List (List (Request × Response))) (m : ℕ) (e : Entry) (wide : ℕ)
+pub recorded_just : (owners : List Owner) (histories : List (List (Request × Response))) (m : ℕ) (e : Entry) (wide : ℕ)
     (pair : Request × Response) (b : Bool)
-    → ((w : ℕ) → (Some wide ≡ Some w) ↔ IsWide counts m e.ask.source w)
+    → ((w : ℕ) → (Some wide ≡ Some w) ↔ IsWideSource owners m e.ask.source w)
     → Some pair ≡ pair_at histories e.port e.index
     → (IsTrue b ↔ (pair ≡ (record e.ask { source = wide }, record e.reply { source = wide })))
-    → IsTrue b ↔ IsRecorded counts histories m e
-recorded_just counts histories m e wide pair b widens there decides = (
+    → IsTrue b ↔ IsRecorded owners histories m e
+recorded_just owners histories m e wide pair b widens there decides = (
   λ yes. let same = decides.0 yes in record { wide = wide; is = (widens wide).0 refl; at = rw (← there, same) refl },
   λ recorded.
       let other = (widens recorded.wide).1 recorded.is in

@@ -9,6 +9,7 @@ use Rattle.tl_types.specs.declared.trace.Entry.{Entry}
 use Rattle.tl_ops.specs.Store.{Store, after, reply}
 use Rattle.tl_ops.specs.History.{IsLawfulHistory, asks_of, replay}
 use Rattle.tl_port.specs.Book.{BookView, reset}
+use Rattle.tl_map.specs.declared.owners.Owner.{Owner}
 use Rattle.tl_audit.specs.Agrees.{Agrees, HasEntry, IsNeverOutOfOrder, IsRecorded, names, pair_at, times_in, times_named}
 use Rattle.tl_audit.specs.Reader.{AreLawful, AreOneThreads, CarriesReply, IsServedInOrder, IsTracedOnce, histories_of, replies_of}
 
@@ -43,9 +44,9 @@ in_book books p i pair has = by_book (slice_get books p) refl where
   by_book (Some book) there =
       record { book = book; at = there; there = rw (slice_get-map (λ (b : BookView). b.history) books p, there) at has }
 
-carried : (counts : List ℕ) (books : List BookView) (m : ℕ) (e : Entry) → AreLawful books
-    → IsRecorded counts (histories_of books) m e → CarriesReply counts books m e
-carried counts books m e lawful recorded =
+carried : (owners : List Owner) (books : List BookView) (m : ℕ) (e : Entry) → AreLawful books
+    → IsRecorded owners (histories_of books) m e → CarriesReply owners books m e
+carried owners books m e lawful recorded =
     let found = in_book books e.port e.index
     (record e.ask { source = recorded.wide }, record e.reply { source = recorded.wide }) recorded.at in
     let law = lawful e.port found.book found.at in
@@ -190,10 +191,10 @@ in_turn trace ordered j k earlier later first second before source port = ⊎_el
     })))
     (cases_lt earlier.index later.index)
 
-pub agreeing_is_one_threads : (counts : List ℕ) (traces : List (List Entry)) (books : List BookView) → AreLawful books
-    → Agrees counts traces (histories_of books) → AreOneThreads counts traces books
-agreeing_is_one_threads counts traces books lawful agrees = record {
-  replies = λ m k e has. carried counts books m e lawful (agrees.recorded m k e has);
+pub agreeing_is_one_threads : (owners : List Owner) (traces : List (List Entry)) (books : List BookView) → AreLawful books
+    → Agrees owners traces (histories_of books) → AreOneThreads owners traces books
+agreeing_is_one_threads owners traces books lawful agrees = record {
+  replies = λ m k e has. carried owners books m e lawful (agrees.recorded m k e has);
   once = λ p i place. traced_once traces p i (agrees.once p i place);
   order = λ m trace there. in_turn trace (agrees.ordered m trace there);
 }

@@ -5,7 +5,8 @@ use Rattle.std.specs.Borrow.{Bor}
 use Rattle.tl_types.specs.Request.{Request}
 use Rattle.tl_types.specs.Response.{Response}
 use Rattle.tl_types.specs.declared.trace.Entry.{Entry}
-use Rattle.tl_map.specs.Block.{IsWide}
+use Rattle.tl_map.specs.Owner.{IsWideSource}
+use Rattle.tl_map.specs.declared.owners.Owner.{Owner}
 use Rattle.tl_journal.specs.Journal.{JournalView}
 use Rattle.tl_audit.specs.declared.fault.AuditFault.{AuditFault}
 use Rattle.tl_audit.specs.declared.fault.AuditFault.TheVariants.{Missing, Twice, Order, Untraced, Memory}
@@ -29,15 +30,15 @@ HasPlace histories p i = IsSome (pair_at histories p i)
 -- ---- what is asked of the entries
 
 -- the entry of master m, with its source widened, is the pair at its port and index
-pub record IsRecorded (counts : List ℕ) (histories : List (List (Request × Response))) (m : ℕ)
+pub record IsRecorded (owners : List Owner) (histories : List (List (Request × Response))) (m : ℕ)
     (e : Entry) : Type 0 where
   pub wide : ℕ
-  pub is : IsWide counts m e.ask.source wide
+  pub is : IsWideSource owners m e.ask.source wide
   pub at : pair_at histories e.port e.index ≡ Some (record e.ask { source = wide }, record e.reply { source = wide })
 
 -- so is each entry of each master
-abbrev pub AreRecorded : List ℕ → List (List Entry) → List (List (Request × Response)) → Type 0
-AreRecorded counts traces histories = (m k : ℕ) (e : Entry) → HasEntry traces m k e → IsRecorded counts histories m e
+abbrev pub AreRecorded : List Owner → List (List Entry) → List (List (Request × Response)) → Type 0
+AreRecorded owners traces histories = (m k : ℕ) (e : Entry) → HasEntry traces m k e → IsRecorded owners histories m e
 
 -- whether the entry names place i of port p
 abbrev pub names : ℕ → ℕ → Entry → Bool
@@ -71,17 +72,17 @@ IsNeverOutOfOrder trace = (k : ℕ) → IsOutOfOrder trace k → ⊥
 
 -- the traces and the histories hold the same entries, each once: each entry is the pair at its port and index, each
 -- place of a history is named by one entry, and each trace is in order
-pub record Agrees (counts : List ℕ) (traces : List (List Entry))
+pub record Agrees (owners : List Owner) (traces : List (List Entry))
     (histories : List (List (Request × Response))) : Type 0 where
-  pub recorded : AreRecorded counts traces histories
+  pub recorded : AreRecorded owners traces histories
   pub once : (p i : ℕ) → HasPlace histories p i → times_named traces p i ≡ 1
   pub ordered : (m : ℕ) (trace : List Entry) → slice_get traces m ≡ Some trace → IsNeverOutOfOrder trace
 
 -- what a fault says of the traces and the histories; memory can be refused to any
-abbrev pub HasAuditFault : List ℕ → List (List Entry) → List (List (Request × Response)) → AuditFault → Type 0
-HasAuditFault counts traces histories (Missing m k) =
-    (e : Entry) × HasEntry traces m k e × (IsRecorded counts histories m e → ⊥)
-HasAuditFault counts traces histories (Twice p i) = HasPlace histories p i × (1 < times_named traces p i)
-HasAuditFault counts traces histories (Order m k) = IsSomeAnd (slice_get traces m) (λ trace. IsOutOfOrder trace k)
-HasAuditFault counts traces histories (Untraced p i) = HasPlace histories p i × (times_named traces p i ≡ 0)
-HasAuditFault counts traces histories Memory = ⊤
+abbrev pub HasAuditFault : List Owner → List (List Entry) → List (List (Request × Response)) → AuditFault → Type 0
+HasAuditFault owners traces histories (Missing m k) =
+    (e : Entry) × HasEntry traces m k e × (IsRecorded owners histories m e → ⊥)
+HasAuditFault owners traces histories (Twice p i) = HasPlace histories p i × (1 < times_named traces p i)
+HasAuditFault owners traces histories (Order m k) = IsSomeAnd (slice_get traces m) (λ trace. IsOutOfOrder trace k)
+HasAuditFault owners traces histories (Untraced p i) = HasPlace histories p i × (times_named traces p i ≡ 0)
+HasAuditFault owners traces histories Memory = ⊤

@@ -2,6 +2,8 @@
 -- audit.
 use Rattle.std.specs.Prelude.{◌≡◌, ℕ, ◌<◌, ◌≤◌, List, Option, Some, None, slice_get, IsSome, IsSomeAnd}
 use Rattle.tl_types.specs.declared.trace.Entry.{Entry}
+use Rattle.tl_map.specs.Blocks.{counts_in}
+use Rattle.tl_map.specs.declared.owners.Owner.{Owner}
 use Rattle.tl_audit.specs.Agrees.{IsOutOfOrder}
 use Rattle.tl_audit.specs.Marks.{cell}
 
@@ -36,6 +38,6 @@ abbrev pub AreBlank : List (List (Option ℕ)) → Type 0
 AreBlank lasts = (p s : ℕ) (last : Option ℕ) → cell lasts p s ≡ Some last → last ≡ None
 
 -- each entry is of a port below this many and of a source that the master has
-abbrev pub HavePlaces : List ℕ → ℕ → ℕ → List Entry → Type 0
-HavePlaces counts ports master trace = (k : ℕ) (e : Entry) → slice_get trace k ≡ Some e
-    → (e.port < ports) × IsSomeAnd (slice_get counts master) (λ count. e.ask.source < count)
+abbrev pub HavePlaces : List Owner → ℕ → ℕ → List Entry → Type 0
+HavePlaces owners ports master trace = (k : ℕ) (e : Entry) → slice_get trace k ≡ Some e
+    → (e.port < ports) × IsSomeAnd (slice_get (counts_in owners) master) (λ count. e.ask.source < count)

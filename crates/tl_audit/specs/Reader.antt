@@ -7,7 +7,8 @@ use Rattle.tl_types.specs.Response.{Response}
 use Rattle.tl_types.specs.declared.trace.Entry.{Entry}
 use Rattle.tl_ops.specs.Store.{Store, after, reply}
 use Rattle.tl_ops.specs.History.{asks_of}
-use Rattle.tl_map.specs.Block.{IsWide}
+use Rattle.tl_map.specs.Owner.{IsWideSource}
+use Rattle.tl_map.specs.declared.owners.Owner.{Owner}
 use Rattle.tl_port.specs.Book.{BookView, IsLawfulBook, reset}
 use Rattle.tl_audit.specs.Agrees.{Agrees, HasEntry, HasPlace}
 
@@ -26,11 +27,11 @@ AreLawful books = (p : ℕ) (book : BookView) → slice_get books p ≡ Some boo
 
 -- the entry of master m, with its source widened, is the request at its index in the history of its port, and carries
 -- the reply of the one thread that serves this history from reset
-pub record CarriesReply (counts : List ℕ) (books : List BookView) (m : ℕ) (e : Entry) : Type 0 where
+pub record CarriesReply (owners : List Owner) (books : List BookView) (m : ℕ) (e : Entry) : Type 0 where
   pub book : BookView
   pub port : slice_get books e.port ≡ Some book
   pub wide : ℕ
-  pub is : IsWide counts m e.ask.source wide
+  pub is : IsWideSource owners m e.ask.source wide
   pub asked : slice_get (asks_of book.history) e.index ≡ Some (record e.ask { source = wide })
   pub replied : slice_get (replies_of (reset book) (asks_of book.history)) e.index ≡ Some
       (record e.reply { source = wide })
@@ -53,12 +54,12 @@ IsServedInOrder trace =
 
 -- the traces are those of one thread that serves each port's history from reset: each entry carries its reply, each
 -- entry of a history is traced once, and each source's entries at a port were served in the order of the trace
-pub record AreOneThreads (counts : List ℕ) (traces : List (List Entry)) (books : List BookView) : Type 0 where
-  pub replies : (m k : ℕ) (e : Entry) → HasEntry traces m k e → CarriesReply counts books m e
+pub record AreOneThreads (owners : List Owner) (traces : List (List Entry)) (books : List BookView) : Type 0 where
+  pub replies : (m k : ℕ) (e : Entry) → HasEntry traces m k e → CarriesReply owners books m e
   pub once : (p i : ℕ) → HasPlace (histories_of books) p i → IsTracedOnce traces p i
   pub order : (m : ℕ) (trace : List Entry) → slice_get traces m ≡ Some trace → IsServedInOrder trace
 
 -- traces that agree with the histories of lawful books are those of one thread
 abbrev pub AgreeingIsOneThreads : Type 0
-AgreeingIsOneThreads = (counts : List ℕ) (traces : List (List Entry)) (books : List BookView) → AreLawful books
-    → Agrees counts traces (histories_of books) → AreOneThreads counts traces books
+AgreeingIsOneThreads = (owners : List Owner) (traces : List (List Entry)) (books : List BookView) → AreLawful books
+    → Agrees owners traces (histories_of books) → AreOneThreads owners traces books

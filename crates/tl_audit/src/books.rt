@@ -9,7 +9,7 @@ use crate::fault::AuditFault;
 use crate::lists::audit_lists;
 use std::alloc::{AllocError, Global};
 use tl_journal::{Journal, Trace};
-use tl_map::Sources;
+use tl_map::SourceOwners;
 use tl_port::Book;
 
 /// The histories of books.
@@ -27,7 +27,7 @@ fn histories_in<'a>(alloc: Global, books: &'a [Book]) -> Result<Vec<&'a Journal>
 /// [`audit_lists`] answers of the books' histories.
 pub fn audit(
     alloc: Global,
-    sources: &Sources,
+    sources: &SourceOwners,
     traces: &[Trace],
     books: &[Book],
 ) -> Result<(), AuditFault>

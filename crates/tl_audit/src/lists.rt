@@ -3,6 +3,7 @@ ghost use Rattle.std.specs.Prelude.{◌≡◌, ℕ, List, All, IfErr, IfNone, If
 ghost use Rattle.std.specs.Prelude as std;
 ghost use Rattle.tl_types.specs.declared.trace.Entry.{Entry};
 ghost use Rattle.tl_journal.specs.Trace.{entries_in};
+ghost use Rattle.tl_map.specs.declared.owners.Owner.{Owner};
 ghost use Rattle.tl_audit.specs.Agrees.{Agrees, AreRecorded, HasAuditFault, IsNeverOutOfOrder, IsOutOfOrder, IsRecorded, journals_in};
 ghost use Rattle.tl_audit.specs.Marks.{AreCounted, rows_in};
 ghost use Rattle.tl_audit.specs.Order.{HavePlaces};
@@ -14,12 +15,12 @@ use crate::order::first_out_of_order;
 use crate::recorded::is_recorded;
 use std::alloc::{AllocError, Global};
 use tl_journal::{Journal, Trace, blank_entry};
-use tl_map::Sources;
+use tl_map::SourceOwners;
 use tl_types::{Ask, Reply};
 
 /// The first entry of a master's trace that is not the one at its port and index.
 fn first_unrecorded(
-    sources: &Sources,
+    sources: &SourceOwners,
     histories: &[&Journal],
     master: usize,
     trace: &Trace,
@@ -41,7 +42,7 @@ fn first_unrecorded(
 
 /// Checks that each entry is the one at its port and index.
 fn check_recorded(
-    sources: &Sources,
+    sources: &SourceOwners,
     traces: &[Trace],
     histories: &[&Journal],
 ) -> Result<(), AuditFault>
@@ -64,8 +65,8 @@ fn marks_of(
     traces: &[Trace],
     histories: &[&Journal],
 ) -> Result<Vec<Vec<Mark>>, AllocError>
-    requires { (counts : List ℕ)
-        × AreRecorded counts (entries_in traces.now) (journals_in histories.now) }
+    requires { (owners : List Owner)
+        × AreRecorded owners (entries_in traces.now) (journals_in histories.now) }
     ensures { IfOk result (λ rows.
         AreCounted (entries_in traces.now) (journals_in histories.now) (rows_in rows.items)) }
 {
@@ -75,7 +76,7 @@ fn marks_of(
 }
 
 /// No last index of any of a master's sources at any port.
-fn blank(alloc: Global, ports: usize, sources: u16) -> Result<Vec<Vec<Option<usize>>>, AllocError>
+fn blank(alloc: Global, ports: usize, sources: u32) -> Result<Vec<Vec<Option<usize>>>, AllocError>
     ensures { IfOk result (λ lasts. rows_in lasts.items
         ≡ replicate ports (replicate sources std.None)) }
 {
@@ -89,7 +90,7 @@ fn blank(alloc: Global, ports: usize, sources: u16) -> Result<Vec<Vec<Option<usi
 /// The first entry of a master's trace that is out of order.
 fn first_disordered(
     alloc: Global,
-    sources: &Sources,
+    sources: &SourceOwners,
     ports: usize,
     master: usize,
     trace: &Trace,
@@ -106,7 +107,7 @@ fn first_disordered(
 /// Checks that each trace is in order.
 fn check_order(
     alloc: Global,
-    sources: &Sources,
+    sources: &SourceOwners,
     traces: &[Trace],
     histories: &[&Journal],
 ) -> Result<(), AuditFault>
@@ -132,7 +133,7 @@ fn check_order(
 /// [`AuditFault::Order`], [`AuditFault::Untraced`]; and [`AuditFault::Memory`] if memory is refused.
 pub fn audit_lists(
     alloc: Global,
-    sources: &Sources,
+    sources: &SourceOwners,
     traces: &[Trace],
     histories: &[&Journal],
 ) -> Result<(), AuditFault>

@@ -3,7 +3,7 @@ ghost use Rattle.std.specs.Prelude.{◌≡◌, ◌↔◌, IsTrue, None, Some, fa
 ghost use Rattle.tl_audit.specs.Agrees.{IsRecorded, journals_in, pair_at};
 
 use tl_journal::Journal;
-use tl_map::Sources;
+use tl_map::SourceOwners;
 use tl_types::{Ask, Entry, Reply};
 
 /// Whether a request is another but for the source, which is this one.
@@ -54,7 +54,7 @@ fn read_pair(histories: &[&Journal], port: usize, index: usize, pair: &mut (Ask,
 /// Whether an entry of a master, with its source widened, is the pair at its port and index, which is read into the
 /// place of another.
 pub(crate) fn is_recorded(
-    sources: &Sources,
+    sources: &SourceOwners,
     histories: &[&Journal],
     master: usize,
     entry: &Entry,

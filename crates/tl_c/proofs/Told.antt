@@ -7,7 +7,7 @@ use Rattle.check_start.specs.declared.start.Terms.{Terms}
 use Rattle.check_description.specs.Description.{IsFirstFaultOf}
 use Rattle.check_description.specs.Name.{IsFirstPartFault}
 use Rattle.check_keys.specs.declared.fault.SystemFault.{SystemFault}
-use Rattle.check_keys.specs.declared.fault.SystemFault.TheVariants.{TooLong, NotToml, Missing, WrongType, OutOfRange, TwoCalled, ImageUnreadable, ImageTooLong, Map, Sources, Memory}
+use Rattle.check_keys.specs.declared.fault.SystemFault.TheVariants.{TooLong, NotToml, Missing, WrongType, OutOfRange, UnknownKey, TwoCalled, ImageUnreadable, ImageTooLong, Map, Sources, Memory}
 use Rattle.tl_c.specs.Calls.{IsFaultOfDraft, IsFileAnswer, IsPartsAnswer}
 use Rattle.tl_c.specs.Draft.{DraftView, IsDraftFault, IsFirstFileFault, LacksNone}
 use Rattle.tl_c.specs.Judging.{ByTerms, links_of, order_of}
@@ -65,6 +65,7 @@ parts_fault draft NotToml none first = absurd first
 parts_fault draft (Missing key) none first = absurd first
 parts_fault draft (WrongType key) none first = absurd first
 parts_fault draft (OutOfRange key) none first = absurd first
+parts_fault draft (UnknownKey unknown) none first = absurd first
 parts_fault draft (TwoCalled name) none first = absurd first
 parts_fault draft (ImageUnreadable port) none first = absurd first
 parts_fault draft (ImageTooLong port) none first = absurd first

@@ -6,8 +6,8 @@ use Rattle.check_keys.specs.declared.fault.SystemFault.TheVariants.{ImageTooLong
 use Rattle.check_description.specs.Port.{Port}
 use Rattle.check_description.specs.Ranges.{first_length}
 use Rattle.check_description.specs.Description.{IsFirstFaultOf}
-use Rattle.check_description.specs.File.{Parts, parts_of}
-use Rattle.check_description.specs.Name.{AreDistinct, IsFirstPartFault, names_of}
+use Rattle.check_description.specs.File.{Parts}
+use Rattle.check_description.specs.Name.{IsFirstPartFault, NamesParts}
 use Rattle.check_start.specs.Slaves.{image_at}
 use Rattle.tl_c.specs.declared.draft.ImageFault.{ImageFault}
 use Rattle.tl_c.specs.declared.draft.ImageFault.TheVariants.{NoPort, NoImage, System}
@@ -31,10 +31,9 @@ pub record IsDraft (draft : DraftView) : Type 0 where
   pub fits : (port : ℕ) (said : Port) → slice_get draft.parts.ports port ≡ Some said
       → length (image_at (image_bytes draft.images) port) ≤ first_length said.ranges
 
--- what a file names, no two of the same name, before any image is handed in
+-- what a file names, before any image is handed in
 pub record IsDraftOf (file : List ℕ) (draft : DraftView) : Type 0 where
-  pub named : parts_of file ≡ Ok draft.parts
-  pub distinct : AreDistinct (names_of draft.parts)
+  pub named : NamesParts file draft.parts
   pub bare : draft.images ≡ replicate (length draft.parts.ports) None
 
 -- ---- images

@@ -7,8 +7,8 @@ use Rattle.check_watch.specs.declared.fault.Fault.{Fault}
 use Rattle.check_sides.specs.Lawful.{IsFirstFault, IsLawful, MayNeedMemory, what_is_seen}
 use Rattle.check_sides.specs.Plan.{Layout, Plan, bus_of}
 use Rattle.check_sides.specs.View.{Keeps}
-use Rattle.check_sides.specs.declared.links.Links.{Links}
-use Rattle.check_sides.specs.declared.links.Links.TheVariants.{Both, Masters, Ports, Each}
+use Rattle.check_watch.specs.declared.links.Links.{Links}
+use Rattle.check_watch.specs.declared.links.Links.TheVariants.{Both, Masters, Ports, Each}
 use Rattle.check_rows.specs.Row.{SeenRow}
 use Rattle.check_rows.specs.declared.row.Row.{Row}
 use Rattle.check_unanswered.specs.Began.{IsLeft, row_with}

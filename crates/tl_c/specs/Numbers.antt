@@ -34,6 +34,7 @@ file_number (file.Map fault) = 15
 file_number (file.Sources fault) = 16
 file_number file.TooLong = 17
 file_number (file.TwoCalled name) = 18
+file_number (file.UnknownKey unknown) = 19
 file_number (file.ImageTooLong port) = 62
 file_number (file.ImageUnreadable port) = 63
 

@@ -11,6 +11,8 @@ use tl_script::ScriptFault;
 
 pub(crate) const OK: u32 = 0;
 
+const NULL: u32 = 1;
+
 pub(crate) const EMPTY: u32 = 2;
 
 pub(crate) const FULL: u32 = 3;
@@ -74,6 +76,7 @@ pub(crate) fn file_number(fault: &SystemFault) -> u32
         SystemFault::Sources(_) => 16,
         SystemFault::TooLong => 17,
         SystemFault::TwoCalled(_) => 18,
+        SystemFault::UnknownKey(_) => 19,
         SystemFault::ImageTooLong(_) => 62,
         SystemFault::ImageUnreadable(_) => 63,
     }
@@ -140,13 +143,13 @@ pub(crate) fn beat_number(fault: &Fault) -> u32
 /// The words of a call's own fault, or of a script's, a system file's or a request's.
 fn call_words(number: u32) -> &'static str {
     match number {
-        0 => "no fault",
-        1 => "null pointer",
-        2 => "empty handle",
-        3 => "full handle",
-        4 => "memory refused",
-        5 => "bad argument",
-        6 => "header of another version",
+        OK => "no fault",
+        NULL => "null pointer",
+        EMPTY => "empty handle",
+        FULL => "full handle",
+        MEMORY => "memory refused",
+        BAD_ARGUMENT => "bad argument",
+        OTHER_VERSION => "header of another version",
         10 => "not TOML",
         11 => "missing key",
         12 => "wrong type",
@@ -156,16 +159,17 @@ fn call_words(number: u32) -> &'static str {
         16 => "bad sources",
         17 => "longer than 1048576 bytes",
         18 => "two of one name",
-        20 => "no such operation",
-        21 => "size over the limit",
+        19 => "unknown key",
+        NO_OPERATION => "no such operation",
+        SIZE => "size over the limit",
         22 => "no such master",
         23 => "no such source",
         24 => "the port has served as many requests as can be counted",
-        25 => "no byte at this address",
-        60 => "no such port",
-        61 => "the file names no image for the port",
-        62 => "image is longer than its range",
-        63 => "image can't be read",
+        NO_BYTE => "no byte at this address",
+        NO_PORT => "no such port",
+        NO_IMAGE => "the file names no image for the port",
+        LONG_IMAGE => "image is longer than its range",
+        IMAGE_UNREADABLE => "image can't be read",
         _ => "unknown fault",
     }
 }
@@ -173,7 +177,7 @@ fn call_words(number: u32) -> &'static str {
 /// The words of a fault by its number.
 pub(crate) fn words(number: u32) -> &'static str {
     match number {
-        30 => "no such link",
+        NO_LINK => "no such link",
         31 => "field changed",
         32 => "unknown opcode",
         33 => "size out of range",
@@ -191,7 +195,7 @@ pub(crate) fn words(number: u32) -> &'static str {
         45 => "no master sent this request",
         46 => "the port gave no such reply",
         47 => "wrong reply",
-        48 => "requests without reply",
+        INCOMPLETE => "requests without reply",
         other => call_words(other),
     }
 }

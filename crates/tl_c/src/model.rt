@@ -148,7 +148,7 @@ pub extern "C" fn tlx_model_byte_at(
 /// `tlx_model_masters_at` of the header: how many masters there are.
 #[unsafe(no_mangle)]
 pub extern "C" fn tlx_model_masters_at(alloc: Global, model: &mut Handle) -> usize
-    ensures count { (state : CrossbarState) → model.old.value ≡ Some (Model state) → result ≡ length state.counts }
+    ensures count { (state : CrossbarState) → model.old.value ≡ Some (Model state) → result ≡ length state.owners }
     ensures empty { (IsModel model.old.value → ⊥) → result ≡ 0 }
     ensures same { model.new.value ≡ model.old.value }
 {

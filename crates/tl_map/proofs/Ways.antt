@@ -1,16 +1,12 @@
--- The port of some bytes, and the wide source of a source, as functions.
-use Rattle.std.proofs.Common.{rules, ◌≡◌, ◌∙◌, ℕ, zero, suc, ◌+◌, ◌-◌, ◌^◌, ◌<◌, ◌≤◌, inl, inr, Bool, true, false, ◌&&◌, if◌then◌else◌, List, [], ◌∷◌, length, Option, Some, None, IsSomeAnd, slice_get, All, refl, ap, sym, arith}
-use Rattle.std.specs.Prelude.{nat_le, ◌⊎◌}
+-- The port of some bytes as a function.
+use Rattle.std.proofs.Common.{rules, ◌≡◌, ℕ, zero, suc, ◌+◌, ◌-◌, ◌^◌, inl, inr, Bool, true, false, ◌&&◌, if◌then◌else◌, List, [], ◌∷◌, Some, slice_get, refl, ap, arith}
+use Rattle.std.specs.Prelude.{nat_le}
 use Rattle.std.proofs.lemmas.Bool.{le-leb}
 use Rattle.std.proofs.lemmas.Nat.{pow_pos}
 use Rattle.std.specs.Cmp.Derive.{both_true}
-use Rattle.tl_map.specs.declared.map.Range.{Range}
-use Rattle.tl_map.specs.declared.sources.Block.{Block as Kept}
+use Rattle.tl_map.specs.declared.range.Range.{Range}
 use Rattle.tl_map.specs.Range.{HoldsBytes}
-use Rattle.tl_map.specs.Map.{RoutesBytes, HasRoutes}
-use Rattle.tl_map.specs.Block.{IsWide, HasWides}
-use Rattle.tl_map.specs.Placed.{ArePlaced, counts_of}
-use Rattle.tl_map.proofs.Placing.{wide_here, no_block}
+use Rattle.tl_map.specs.Map.{HasRoutes, PortHolds, RoutesBytes}
 
 -- ---- ports
 
@@ -30,41 +26,66 @@ holds_not range start size not holding =
     let so : holds range start size ≡ true = both_true (le-leb _ _ from) (le-leb _ _ (omega arith)) in
     cc
 
-abbrev route_in : List Range → ℕ → ℕ → ℕ
+-- whether one of the ranges holds the bytes
+abbrev any_holds : List Range → ℕ → ℕ → Bool
+any_holds [] start size = false
+any_holds (range ∷ ranges) start size = if holds range start size then true else any_holds ranges start size
+
+-- one of the ranges, which holds the bytes
+record Held (ranges : List Range) (start size : ℕ) : Type 0 where
+  place : ℕ
+  range : Range
+  at : slice_get ranges place ≡ Some range
+  holds_it : HoldsBytes range start size
+
+any_place : (ranges : List Range) (start size : ℕ) → any_holds ranges start size ≡ true → Held ranges start size
+any_place [] start size so = absurd (cc)
+any_place (range ∷ ranges) start size so = go (holds range start size) refl so (any_place ranges start size) where
+  go : (here : Bool) → holds range start size ≡ here → (if here then true else any_holds ranges start size) ≡ true
+      → (any_holds ranges start size ≡ true → Held ranges start size) → Held (range ∷ ranges) start size
+  go true is so later = record { place = 0; range = range; at = refl; holds_it = holds_all range start size is }
+  go false is so later =
+      let rest = later so in
+      record { place = suc rest.place; range = rest.range; at = rest.at; holds_it = rest.holds_it }
+
+none_place : (ranges : List Range) (start size : ℕ) → any_holds ranges start size ≡ false → (place : ℕ) (one : Range)
+    → slice_get ranges place ≡ Some one → HoldsBytes one start size → ⊥
+none_place [] start size so place one at holding = absurd (cc)
+none_place (range ∷ ranges) start size so place one at holding =
+    go (holds range start size) refl so place at (λ rest k there. none_place ranges start size rest k one there holding)
+  where
+    go : (here : Bool) → holds range start size ≡ here → (if here then true else any_holds ranges start size) ≡ false
+        → (place : ℕ) → slice_get (range ∷ ranges) place ≡ Some one
+        → (any_holds ranges start size ≡ false → (k : ℕ) → slice_get ranges k ≡ Some one → ⊥) → ⊥
+    go true is so place at later = absurd (cc)
+    go false is so zero at later =
+        let same : range ≡ one = grind (arith, at) in
+        let mine : HoldsBytes range start size = rw same holding in
+        holds_not range start size is mine
+    go false is so (suc place) at later = later so place at
+
+abbrev route_in : List (List Range) → ℕ → ℕ → ℕ
 route_in [] start size = 0
-route_in (range ∷ ranges) start size = if holds range start size then 0 else suc (route_in ranges start size)
+route_in (ranges ∷ ports) start size = if any_holds ranges start size then 0 else suc (route_in ports start size)
 
-route_is : (ranges : List Range) (start size : ℕ) → RoutesBytes ranges start size (route_in ranges start size)
-route_is [] start size = inr (refl, λ j d within. absurd (omega (arith, within)))
-route_is (range ∷ ranges) start size = go (holds range start size) refl (route_is ranges start size)
+route_is : (ports : List (List Range)) (start size : ℕ) → RoutesBytes ports start size (route_in ports start size)
+route_is [] start size = inr (refl, none) where
+  none : (other : ℕ) → PortHolds [] start size other → ⊥
+  none other held = let at = held.at in absurd (cc)
+route_is (ranges ∷ ports) start size = go (any_holds ranges start size) refl (route_is ports start size)
   where
-    go : (here : Bool) → holds range start size ≡ here → RoutesBytes ranges start size (route_in ranges start size)
-        → RoutesBytes (range ∷ ranges) start size (if here then 0 else suc (route_in ranges start size))
-    go true is rest = inl (holds_all range start size is)
-    go false is (inl there) = inl there
-    go false is (inr none) = inr (ap suc none.0, λ j d within. others j d within)
+    go : (here : Bool) → any_holds ranges start size ≡ here → RoutesBytes ports start size (route_in ports start size)
+        → RoutesBytes (ranges ∷ ports) start size (if here then 0 else suc (route_in ports start size))
+    go true is rest = let held = any_place ranges start size is in
+        inl (record { place = held.place; range = held.range; at = held.at; holds = held.holds_it })
+    go false is (inl there) =
+        inl (record { place = there.place; range = there.range; at = there.at; holds = there.holds })
+    go false is (inr none) = inr (ap suc none.0, others)
       where
-        others : All (λ range. HoldsBytes range start size → ⊥) (range ∷ ranges)
-        others zero d within = holds_not range start size is
-        others (suc j) d within = none.1 j d (omega (arith, within))
+        others : (other : ℕ) → PortHolds (ranges ∷ ports) start size other → ⊥
+        others zero held = none_place ranges start size is held.place held.range held.at held.holds
+        others (suc other) held = none.1 other
+            (record { place = held.place; range = held.range; at = held.at; holds = held.holds })
 
-pub has_routes : (ranges : List Range) → HasRoutes ranges
-has_routes ranges = (route_in ranges, route_is ranges)
-
--- ---- sources
-
-abbrev wide_at : Option Kept → ℕ → ℕ
-wide_at None source = 0
-wide_at (Some kept) source = kept.start + source
-
-pub has_wides : (blocks : List Kept) → ArePlaced (counts_of blocks) blocks → HasWides (counts_of blocks)
-has_wides blocks placed = (
-  λ master source. wide_at (slice_get blocks master) source,
-  λ master source wide wides. go master source wide wides (slice_get blocks master) refl,
-)
-  where
-    go : (master source wide : ℕ) → IsWide (counts_of blocks) master source wide → (o : Option Kept)
-        → slice_get blocks master ≡ o → wide_at o source ≡ wide
-    go master source wide wides None is = absurd (no_block blocks master source wide is wides)
-    go master source wide wides (Some kept) is =
-        sym ((wide_here (counts_of blocks) blocks placed master kept is source wide).1 wides).1
+pub has_routes : (ports : List (List Range)) → HasRoutes ports
+has_routes ports = (route_in ports, route_is ports)

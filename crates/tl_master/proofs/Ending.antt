@@ -12,7 +12,7 @@ same_entry d e p = cc
 
 -- the seat has the trace's entries, one by one, with their sources widened
 pub kept_widened : (m : MasterState) (start count : ℕ) → IsKeptMaster m start count
-    → AreWidened m.seat.arena.about.counts m.seat.number m.trace m.seat.got
+    → AreWidened m.seat.arena.about.owners m.seat.number m.trace m.seat.got
 kept_widened m start count kept = record {
   many = ap (λ (es : List Entry). length es) kept.got ∙ length-map m.trace (widened start);
   each = λ k e f at there. record {

@@ -191,11 +191,11 @@ collects_kept m start count s t r v kept is got =
     let owns = kept.owned in
     let old_room = kept.room in
     let push = length-append m.trace (entry_from s (entry_of r) ∷ []) in
-    let about = ap (λ (w : MasterView). w.arena.about.counts) got.seat in
+    let about = ap (λ (w : MasterView). w.arena.about.owners) got.seat in
     let number = ap (λ (w : MasterView). w.number) got.seat in
     let fewer = released in
     record {
-      sources = long ∙ (kept.sources ∙ sym (ap (λ (w : MasterView). count_of w.arena.about.counts w.number) got.seat));
+      sources = long ∙ (kept.sources ∙ sym (ap (λ (w : MasterView). count_of w.arena.about.owners w.number) got.seat));
       wide = λ z z_in. rw (about, number) (kept.wide z (omega arith));
       fits = let f = kept.fits in omega arith;
       own = λ j e at. ⊎_elim (λ (was : slice_get m.trace j ≡ Some e). let o = kept.own j e was in omega arith)

@@ -1,37 +1,55 @@
 -- A new master is as it should be.
-use Rattle.std.proofs.Common.{◌≡◌, ℕ, zero, suc, ◌+◌, ◌*◌, ◌<◌, ◌≤◌, ◌^◌, ◌↔◌, List, [], ◌∷◌, length, slice_get, replicate, Option, Some, None, IsSome, IsSomeAnd, IfSome, unwrap_or, refl, ap, sym, subst, ◌∙◌, arith}
+use Rattle.std.proofs.Common.{◌≡◌, ℕ, zero, suc, ◌+◌, ◌<◌, ◌≤◌, ◌^◌, ◌↔◌, List, [], ◌∷◌, length, slice_get, replicate, Option, Some, None, IfSome, slice_index_or, unwrap_or, refl, ap, sym, subst, ◌∙◌, arith}
 use Rattle.std.proofs.lemmas.List.{length-replicate}
 use Rattle.tl_types.specs.declared.trace.Entry.{Entry}
-use Rattle.tl_map.specs.Block.{IsWide}
+use Rattle.tl_map.specs.Blocks.{HaveBlocks, counts_in}
+use Rattle.tl_map.specs.Owner.{IsWideSource}
+use Rattle.tl_map.specs.declared.owners.Owner.{Owner}
+use Rattle.tl_map.proofs.Counted.{count_at, count_low, in_a_row, wide_low}
 use Rattle.tl_rule.specs.declared.view.Held.TheVariants.{Nothing}
 use Rattle.tl_rule.proofs.Carried.{none_held}
 use Rattle.tl_arena.specs.Views.{MasterView, TicketView, hand_at, owned_of}
 use Rattle.tl_master.specs.Master.{MasterState, count_of, ticket_at, out_of}
 use Rattle.tl_master.specs.Kept.{IsKeptMaster}
 
-pub count_found : (counts : List ℕ) (master : ℕ) → unwrap_or (slice_get counts master) 0 ≡ count_of counts master
+pub count_found : (counts : List ℕ) (master : ℕ) → unwrap_or (slice_get counts master) 0 ≡ slice_index_or counts master 0
 count_found [] master = refl
 count_found (x ∷ xs) zero = refl
 count_found (x ∷ xs) (suc master) = count_found xs master
 
--- from the wide source of source 0 on, each source has the next
-pub all_wide : (counts : List ℕ) (master : ℕ) (o w : Option ℕ) → o ≡ slice_get counts master
-    → (IsSomeAnd (slice_get counts master) (λ count. 0 < count) → IsSome w)
-    → ((x : ℕ) → (w ≡ Some x) ↔ IsWide counts master 0 x) → (s : ℕ) → s < unwrap_or o 0
-    → IsWide counts master s (unwrap_or w 0 + s)
-all_wide counts master None w is has wides s below = absurd (omega arith)
-all_wide counts master (Some count) None is has wides s below = let none = has (rw (← is) (omega arith)) in absurd cc
-all_wide counts master (Some count) (Some x) is has wides s below =
-    let first = (wides x).0 refl in
-    let at = first.at in
-    record { block = first.block; is = first.is; counted = rw (← is) below; at = omega arith }
+fits_by : (wide : ℕ) (count : Option ℕ) → IfSome count (λ n. n ≤ 256) → wide < 16384 → wide + unwrap_or count 0 ≤ 2 ^ 16
+fits_by wide None few low = omega (arith, low)
+fits_by wide (Some n) few low = omega (arith, few, low)
 
-pub wide_fits : (o w : Option ℕ) → IfSome o (λ count. count ≤ 256) → IfSome w (λ wide. wide < 16 * 256)
-    → unwrap_or w 0 + unwrap_or o 0 ≤ 2 ^ 16
-wide_fits None None few low = omega arith
-wide_fits (Some count) None few low = omega arith
-wide_fits None (Some wide) few low = omega arith
-wide_fits (Some count) (Some wide) few low = omega arith
+module _ (owners : List Owner) (have : HaveBlocks owners) (master : ℕ) (w : Option ℕ)
+    (wides : (x : ℕ) → (w ≡ Some x) ↔ IsWideSource owners master 0 x) where
+  -- from the wide source of source 0 on, each source has the next
+  pub all_wide : (s : ℕ) → s < unwrap_or (slice_get (counts_in owners) master) 0
+      → IsWideSource owners master s (unwrap_or w 0 + s)
+  all_wide s below = go (slice_get owners master) refl where
+    go : (found : Option Owner) → slice_get owners master ≡ found → IsWideSource owners master s (unwrap_or w 0 + s)
+    go None is =
+        let none : slice_get (counts_in owners) master ≡ None = count_at owners master None is in
+        let never : s < 0 = rw none at below in
+        absurd (omega (arith, never))
+    go (Some owner) is =
+        let counted : slice_get (counts_in owners) master ≡ Some owner.count = count_at owners master (Some owner) is in
+        let less : s < owner.count = rw counted at below in
+        let first : IsWideSource owners master 0 owner.first =
+        subst (λ (x : ℕ). IsWideSource owners master 0 x) (omega arith)
+        (in_a_row owners have master owner is 0 (omega (arith, less))) in
+        let start : w ≡ Some owner.first = (wides owner.first).1 first in
+        rw start (in_a_row owners have master owner is s less)
+
+  pub wide_fits : unwrap_or w 0 + unwrap_or (slice_get (counts_in owners) master) 0 ≤ 2 ^ 16
+  wide_fits = go w refl where
+    go : (found : Option ℕ) → w ≡ found → unwrap_or found 0 + unwrap_or (slice_get (counts_in owners) master) 0 ≤ 2 ^ 16
+    go None is = fits_by 0 (slice_get (counts_in owners) master) (count_low owners have master) (omega arith)
+    go (Some wide) is =
+        let low = wide_low owners have master 0 wide ((wides wide).0 is) in
+        let masters = have.few.masters in
+        let many = have.blocks.counted in
+        fits_by wide (slice_get (counts_in owners) master) (count_low owners have master) (omega (arith, low, masters, many))
 
 none_out : (n : ℕ) → out_of (replicate n None) ≡ 0
 none_out zero = refl
@@ -43,8 +61,8 @@ none_at (suc n) zero = refl
 none_at (suc n) (suc s) = none_at n s
 
 pub new_kept : (m : MasterState) (start count : ℕ) → owned_of m.seat ≡ 0 → m.seat.got ≡ []
-    → m.out ≡ replicate count None → m.trace ≡ [] → count ≡ count_of m.seat.arena.about.counts m.seat.number
-    → ((s : ℕ) → s < count → IsWide m.seat.arena.about.counts m.seat.number s (start + s)) → start + count ≤ 2 ^ 16
+    → m.out ≡ replicate count None → m.trace ≡ [] → count ≡ count_of m.seat.arena.about.owners m.seat.number
+    → ((s : ℕ) → s < count → IsWideSource m.seat.arena.about.owners m.seat.number s (start + s)) → start + count ≤ 2 ^ 16
     → IsKeptMaster m start 0
 new_kept m start count owned got out trace sources wide fits =
     let many : length m.out ≡ count = ap length out ∙ length-replicate count None in
@@ -68,19 +86,18 @@ new_kept m start count owned got out trace sources wide fits =
     }
 
 -- the same as the code goes: o is how many sources the master has, and w the wide source of source 0, if there are
-module _ (counts : List ℕ) (v : MasterView) (number start count : ℕ) (o w : Option ℕ)
-    (same : counts ≡ v.arena.about.counts) (numbered : number ≡ v.number) (found : o ≡ slice_get counts number)
+module _ (owners : List Owner) (have : HaveBlocks owners) (v : MasterView) (number start count : ℕ) (o w : Option ℕ)
+    (same : owners ≡ v.arena.about.owners) (numbered : number ≡ v.number) (found : o ≡ slice_get (counts_in owners) number)
     (count_is : count ≡ unwrap_or o 0) (start_is : start ≡ unwrap_or w 0) where
-  pub sources_are : count ≡ count_of v.arena.about.counts v.number
+  pub sources_are : count ≡ count_of v.arena.about.owners v.number
   sources_are = count_is ∙ (ap (λ (x : Option ℕ). unwrap_or x 0) found
-      ∙ (count_found counts number ∙ (ap (λ (n : ℕ). count_of counts n) numbered
-      ∙ ap (λ (cs : List ℕ). count_of cs v.number) same)))
+      ∙ (count_found (counts_in owners) number ∙ (ap (λ (n : ℕ). count_of owners n) numbered
+      ∙ ap (λ (os : List Owner). count_of os v.number) same)))
 
-  pub wide_are : (IsSomeAnd (slice_get counts number) (λ count. 0 < count) → IsSome w)
-      → ((x : ℕ) → (w ≡ Some x) ↔ IsWide counts number 0 x)
-      → (s : ℕ) → s < count → IsWide v.arena.about.counts v.number s (start + s)
-  wide_are has wides s below =
-      rw (← same, ← numbered, start_is) (all_wide counts number o w found has wides s (rw (← count_is) below))
+  pub wide_are : ((x : ℕ) → (w ≡ Some x) ↔ IsWideSource owners number 0 x)
+      → (s : ℕ) → s < count → IsWideSource v.arena.about.owners v.number s (start + s)
+  wide_are wides s below =
+      rw (← same, ← numbered, start_is) (all_wide owners have number w wides s (rw (count_is, found) at below))
 
-  pub sources_fit : IfSome o (λ count. count ≤ 256) → IfSome w (λ wide. wide < 16 * 256) → start + count ≤ 2 ^ 16
-  sources_fit few low = rw (start_is, count_is) (wide_fits o w few low)
+  pub sources_fit : ((x : ℕ) → (w ≡ Some x) ↔ IsWideSource owners number 0 x) → start + count ≤ 2 ^ 16
+  sources_fit wides = rw (start_is, count_is, found) (wide_fits owners have number w wides)

@@ -2,7 +2,7 @@
 use Rattle.std.specs.Prelude.{◌≡◌, ◌≢◌, ℕ, ◌+◌, ◌<◌, ◌≤◌, ◌^◌, length, map, slice_get, Some}
 use Rattle.tl_types.specs.Request.{Request}
 use Rattle.tl_types.specs.declared.trace.Entry.{Entry}
-use Rattle.tl_map.specs.Block.{IsWide}
+use Rattle.tl_map.specs.Owner.{IsWideSource}
 use Rattle.tl_rule.specs.declared.view.Held.TheVariants.{Sent}
 use Rattle.tl_arena.specs.Views.{TicketView, hand_at, owned_of}
 use Rattle.tl_master.specs.Master.{MasterState, count_of, ticket_at, out_of, entry_from, IsInOrder}
@@ -26,9 +26,9 @@ pub record IsOfSource (m : MasterState) (slot : ℕ) : Type 0 where
 
 -- the master's wide sources start at `start`, and `count` requests are out
 pub record IsKeptMaster (m : MasterState) (start count : ℕ) : Type 0 where
-  pub sources : length m.out ≡ count_of m.seat.arena.about.counts m.seat.number
+  pub sources : length m.out ≡ count_of m.seat.arena.about.owners m.seat.number
   pub wide : (source : ℕ) → source < length m.out
-      → IsWide m.seat.arena.about.counts m.seat.number source (start + source)
+      → IsWideSource m.seat.arena.about.owners m.seat.number source (start + source)
   pub fits : start + length m.out ≤ 2 ^ 16
   -- every entry has one of the master's sources, and the seat has the entries with wide sources
   pub own : (j : ℕ) (e : Entry) → slice_get m.trace j ≡ Some e → e.ask.source < length m.out

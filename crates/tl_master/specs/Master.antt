@@ -3,7 +3,9 @@ use Rattle.std.specs.Prelude.{◌≡◌, ℕ, ◌<◌, ◌++◌, List, [], ◌�
 use Rattle.tl_types.specs.Request.{Request}
 use Rattle.tl_types.specs.Response.{Response}
 use Rattle.tl_types.specs.declared.trace.Entry.{Entry}
-use Rattle.tl_map.specs.Block.{IsWide}
+use Rattle.tl_map.specs.Blocks.{counts_in}
+use Rattle.tl_map.specs.Owner.{IsWideSource}
+use Rattle.tl_map.specs.declared.owners.Owner.{Owner}
 use Rattle.tl_arena.specs.Views.{MasterView, TicketView}
 
 -- the master's seat; for each of its sources the request that is out, if there is one; the entries in the order
@@ -14,14 +16,14 @@ pub record MasterState : Type 0 where
   pub trace : List Entry
   pub limit : ℕ
 
--- how many sources the master has, by the counts of all masters
-abbrev pub count_of : List ℕ → ℕ → ℕ
-count_of counts master = slice_index_or counts master 0
+-- how many sources the master has, by the owners of all
+abbrev pub count_of : List Owner → ℕ → ℕ
+count_of owners master = slice_index_or (counts_in owners) master 0
 
 abbrev pub new_state : MasterView → ℕ → MasterState
 new_state v limit = record {
   seat = v;
-  out = replicate (count_of v.arena.about.counts v.number) None;
+  out = replicate (count_of v.arena.about.owners v.number) None;
   trace = [];
   limit = limit;
 }
@@ -54,15 +56,15 @@ entry_from source e =
     record { ask = ask_from source e.ask; reply = reply_to source e.reply; port = e.port; index = e.index }
 
 -- the second entry is the first with its source widened
-pub record IsWidened (counts : List ℕ) (master : ℕ) (own wide : Entry) : Type 0 where
+pub record IsWidened (owners : List Owner) (master : ℕ) (own wide : Entry) : Type 0 where
   pub source : ℕ
-  pub is : IsWide counts master own.ask.source source
+  pub is : IsWideSource owners master own.ask.source source
   pub same : wide ≡ entry_from source own
 
 -- entry by entry the second list is the first with its sources widened
-pub record AreWidened (counts : List ℕ) (master : ℕ) (own wide : List Entry) : Type 0 where
+pub record AreWidened (owners : List Owner) (master : ℕ) (own wide : List Entry) : Type 0 where
   pub many : length wide ≡ length own
-  pub each : (k : ℕ) (e f : Entry) → slice_get own k ≡ Some e → slice_get wide k ≡ Some f → IsWidened counts master e f
+  pub each : (k : ℕ) (e f : Entry) → slice_get own k ≡ Some e → slice_get wide k ≡ Some f → IsWidened owners master e f
 
 -- ---- order
 

@@ -3,9 +3,9 @@
 use Rattle.std.specs.Prelude.{◌≡◌, ℕ, ◌+◌, ◌<◌, ◌≤◌, ◌++◌, cond, eqb, List, [], ◌∷◌, length, slice_set, Some, None, Result, Ok, Err, IsSome}
 use Rattle.tl_types.specs.Request.{Request}
 use Rattle.tl_types.specs.declared.trace.Entry.{Entry}
-use Rattle.tl_map.specs.declared.map.Range.{Range}
+use Rattle.tl_map.specs.declared.range.Range.{Range}
 use Rattle.tl_map.specs.Map.{Routes}
-use Rattle.tl_map.specs.Block.{IsWide}
+use Rattle.tl_map.specs.Owner.{IsWideSource}
 use Rattle.tl_rule.specs.declared.view.Held.TheVariants.{Nothing, Filled, Sent}
 use Rattle.tl_rule.specs.Views.{Above}
 use Rattle.tl_arena.specs.Views.{MasterView, TicketView, ServedView, hand_at, with_held, entry_of}
@@ -29,7 +29,7 @@ with_out m source t =
     record { seat = with_posted m.seat t; out = slice_set m.out source (Some t); trace = m.trace; limit = m.limit }
 
 -- the request is posted from the claimed slot and from this wide source, to the port that the map gives it
-pub record IsRoutedPost (ranges : List Range) (q : Request) (wide : ℕ) (v : MasterView) (claim : ℕ) (t : TicketView)
+pub record IsRoutedPost (ranges : List (List Range)) (q : Request) (wide : ℕ) (v : MasterView) (claim : ℕ) (t : TicketView)
     (issued : Issued) : Type 0 where
   pub from : t.slot ≡ claim
   pub ask : t.ask ≡ ask_from wide q
@@ -39,14 +39,14 @@ pub record IsRoutedPost (ranges : List Range) (q : Request) (wide : ℕ) (v : Ma
   pub port : issued.port ≡ t.port
 
 -- the request, with its source widened, is posted from a slot that the master did not own
-pub record IssuesOne (ranges : List Range) (m : MasterState) (q : Request) (issued : Issued)
+pub record IssuesOne (ranges : List (List Range)) (m : MasterState) (q : Request) (issued : Issued)
     (n : MasterState) : Type 0 where
   pub known : q.source < length m.out
   pub idle : ticket_at m.out q.source ≡ None
   pub room : length m.trace + out_of m.out < m.limit
   pub ticket : TicketView
   pub wide : ℕ
-  pub widened : IsWide m.seat.arena.about.counts m.seat.number q.source wide
+  pub widened : IsWideSource m.seat.arena.about.owners m.seat.number q.source wide
   pub free : hand_at m.seat ticket.slot ≡ Nothing
   pub posted : IsRoutedPost ranges q wide m.seat ticket.slot ticket issued
   -- it is known what had been collected then
@@ -62,7 +62,7 @@ IsRefused m q TraceFull =
 IsRefused m q NoSlot =
     (q.source < length m.out) × (ticket_at m.out q.source ≡ None) × (length m.trace + out_of m.out < m.limit)
 
-abbrev pub Issues : List Range → MasterState → Request → Result Issued IssueFault → MasterState → Type 0
+abbrev pub Issues : List (List Range) → MasterState → Request → Result Issued IssueFault → MasterState → Type 0
 Issues ranges m q (Ok issued) n = IssuesOne ranges m q issued n
 Issues ranges m q (Err fault) n = (n ≡ m) × IsRefused m q fault
 

@@ -5,6 +5,7 @@ ghost use Rattle.tl_rule.specs.declared.view.Held.TheVariants.{Filled, Sent};
 ghost use Rattle.tl_rule.specs.Views.{Owns};
 ghost use Rattle.tl_arena.specs.Views.{owned_of, hand_at, with_held};
 ghost use Rattle.tl_arena.specs.Promises.{IsIdleSource, OwnsHistories};
+ghost use Rattle.tl_map.specs.Blocks.{HaveBlocks};
 ghost use Rattle.tl_master.specs.Master.{new_state, count_of, out_of, ticket_at, IsInOrder, AreWidened, requests_of, of_source, asked, IsNextOut};
 ghost use Rattle.tl_master.specs.Steps.{Appends, IsRoutedPost, Issues, Polls, AsksMore, AsksSame};
 
@@ -14,7 +15,7 @@ use std::marker::Model;
 use thiserror::Error;
 use tl_arena::{Arena, Claim, MasterSeat, Ticket};
 use tl_journal::{Place, Trace};
-use tl_map::{Map, Sources};
+use tl_map::{AddressMap, SourceOwners};
 use tl_types::{Ask, Entry, Reply};
 
 /// Where a request was posted: its slot, and the port that the map gives it.
@@ -67,6 +68,7 @@ pub struct Master {
 
 impl Model for Master {
     ghost use Rattle.std.specs.Prelude.{◌≡◌, ◌≤◌};
+    ghost use Rattle.tl_map.specs.Blocks.{HaveBlocks};
     ghost use Rattle.tl_master.specs.Master.{MasterState};
     ghost use Rattle.tl_master.specs.Kept.{IsKeptMaster};
     ghost use Rattle.tl_master.specs.SourceSet.{IsSetOfOut};
@@ -84,12 +86,13 @@ impl Master {
     pub fn new(
         alloc: Global,
         seat: MasterSeat,
-        sources: &Sources,
+        sources: &SourceOwners,
         limit: usize,
     ) -> Result<Master, MasterSeat>
         requires owned { owned_of seat ≡ 0 }
         requires collected { seat.got ≡ [] }
-        requires sources { sources.now ≡ seat.arena.about.counts }
+        requires sources { sources.now ≡ seat.arena.about.owners }
+        requires blocks { HaveBlocks sources.now }
         ensures ok { IfOk result (λ master. master ≡ new_state seat limit) }
         ensures err { IfErr result (λ back. back ≡ seat) }
     {
@@ -116,7 +119,12 @@ impl Master {
     }
 
     /// Posts a request of one of the master's sources, with its source widened, to the port that the map gives it.
-    pub fn issue(&mut self, arena: &Arena, map: &Map, ask: &Ask) -> Result<Issued, IssueFault>
+    pub fn issue(
+        &mut self,
+        arena: &Arena,
+        map: &AddressMap,
+        ask: &Ask,
+    ) -> Result<Issued, IssueFault>
         requires arena { self.old.seat.arena ≡ arena.now }
         requires ports { length map.now + 1 ≤ arena.now.about.ports }
         ensures issues { Issues map.now self.old ask.now result self.new }
@@ -199,7 +207,7 @@ impl Master {
     /// How many sources the master has.
     pub fn sources(&self) -> usize
         ensures value { result ≡ length self.now.out }
-        ensures counted { result ≡ count_of self.now.seat.arena.about.counts self.now.seat.number }
+        ensures counted { result ≡ count_of self.now.seat.arena.about.owners self.now.seat.number }
     {
         self.out.len()
     }
@@ -250,7 +258,7 @@ impl Master {
         requires none { out_of self.out ≡ 0 }
         ensures trace { result.items ≡ self.trace }
         ensures order { IsInOrder result.items }
-        ensures widened { AreWidened self.seat.arena.about.counts self.seat.number result.items self.seat.got }
+        ensures widened { AreWidened self.seat.arena.about.owners self.seat.number result.items self.seat.got }
         ensures own { OwnsHistories self.seat }
     {
         let Master {
@@ -275,7 +283,7 @@ fn post_routed(
     arena: &Arena,
     seat: &mut MasterSeat,
     claim: Claim,
-    map: &Map,
+    map: &AddressMap,
     ask: &Ask,
     wide: u16,
     posted: &mut Ask,

@@ -3,13 +3,13 @@ ghost use Rattle.std.specs.Prelude.{◌≡◌, ◌≢◌, ℕ, ◌+◌, ◌<◌,
 ghost use Rattle.std.specs.Int.{bit_at};
 ghost use Rattle.tl_master.specs.SourceSet.{source_bit, IsLowestBit, IsLowestIn};
 
-use tl_map::MAX_SOURCES;
+use tl_map::MAX_BLOCK;
 
 /// How many sources a word of a set has a bit for.
 const WORD_SOURCES: usize = 64;
 
 /// The words of a set.
-const WORDS: usize = MAX_SOURCES as usize / WORD_SOURCES;
+const WORDS: usize = MAX_BLOCK as usize / WORD_SOURCES;
 
 /// A set of sources, a bit for each: so the lowest of them is found without a look at those that are not in it.
 #[derive(Debug, Clone, Copy, PartialEq, Eq)]
@@ -27,7 +27,7 @@ impl SourceSet {
 
     /// Puts a source into the set.
     pub(crate) fn insert(&mut self, source: usize)
-        requires { source < MAX_SOURCES }
+        requires { source < MAX_BLOCK }
         ensures here { source_bit self.new.words source ≡ 1 }
         ensures others { (other : ℕ) → other ≢ source
             → source_bit self.new.words other ≡ source_bit self.old.words other }
@@ -37,7 +37,7 @@ impl SourceSet {
 
     /// Takes a source out of the set.
     pub(crate) fn remove(&mut self, source: usize)
-        requires { source < MAX_SOURCES }
+        requires { source < MAX_BLOCK }
         ensures here { source_bit self.new.words source ≡ 0 }
         ensures others { (other : ℕ) → other ≢ source
             → source_bit self.new.words other ≡ source_bit self.old.words other }

@@ -3,6 +3,8 @@ use Rattle.std.proofs.Common.{rules, ◌≡◌, ◌∙◌, ℕ, ◌+◌, ◌-◌
 use Rattle.std.proofs.lemmas.Option.{slice_get-map, slice_get_read, slice_get_within}
 use Rattle.std.proofs.lemmas.List.{length-map, map-set}
 use Rattle.tl_types.specs.Request.{Request}
+use Rattle.tl_map.specs.declared.owners.Owner.{Owner}
+use Rattle.tl_map.specs.Blocks.{counts_in}
 use Rattle.tl_map.specs.Map.{Routes}
 use Rattle.tl_ops.specs.Store.{Store, after}
 use Rattle.tl_model.specs.Crossbar.{Accepts, CanServe, CrossbarState, HasServeFault, IsFirstServeFault, IsFull, PortState, byte_in, serve_fault_rank, served_more}
@@ -50,7 +52,7 @@ full_is_refused c master number ask state routed at full accepts =
 
 -- that is its first fault, where its master has its source
 pub first_is_full : (c : CrossbarState) (master count number : ℕ) (ask : Request) (state : PortState)
-    → slice_get c.counts master ≡ Some count → (count ≤ ask.source → ⊥)
+    → slice_get (counts_in c.owners) master ≡ Some count → (count ≤ ask.source → ⊥)
     → ((port : ℕ) → Routes c.ranges ask port → number ≡ port) → slice_get c.ports number ≡ Some state → IsFull state
     → IsFirstServeFault c master ask Uncountable
 first_is_full c master count number ask state counted source only at full = record {
@@ -59,14 +61,15 @@ first_is_full c master count number ask state counted source only at full = reco
 }
   where
     none : (other : ServeFault) → serve_fault_rank other < 3 → HasServeFault c master ask other → ⊥
-    none NoSuchMaster rank past = let within = slice_get_within c.counts master count counted in
-        omega (arith, within, past)
+    none NoSuchMaster rank past = let within = slice_get_within (counts_in c.owners) master count counted in
+        let many = length-map c.owners (λ (owner : Owner). owner.count) in
+        omega (arith, within, past, many)
     none NoSuchSource rank high = source (rw counted at high)
     none Uncountable rank _ = omega (arith, rank)
 
 -- one whose master has its source and whose port can count it is
 pub is_accepted : (c : CrossbarState) (master count number : ℕ) (ask : Request) (state : PortState)
-    → slice_get c.counts master ≡ Some count → (count ≤ ask.source → ⊥)
+    → slice_get (counts_in c.owners) master ≡ Some count → (count ≤ ask.source → ⊥)
     → ((port : ℕ) → Routes c.ranges ask port → number ≡ port) → slice_get c.ports number ≡ Some state
     → state.served ≤ MAX_SERVED → (IsFull state → ⊥) → Accepts c master ask
 is_accepted c master count number ask state counted source only at fits spare = record {

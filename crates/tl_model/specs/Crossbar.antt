@@ -5,8 +5,10 @@ use Rattle.std.specs.Prelude.{◌≡◌, ℕ, ◌+◌, ◌-◌, ◌<◌, ◌≤�
 use Rattle.tl_types.specs.Fault.{IsFirstOf}
 use Rattle.tl_types.specs.Request.{Request}
 use Rattle.tl_ops.specs.Store.{Store, after, reply}
-use Rattle.tl_map.specs.declared.map.Range.{Range}
+use Rattle.tl_map.specs.declared.range.Range.{Range}
 use Rattle.tl_map.specs.Map.{Routes}
+use Rattle.tl_map.specs.declared.owners.Owner.{Owner}
+use Rattle.tl_map.specs.Blocks.{counts_in}
 use Rattle.tl_script.specs.System.{System, resets}
 use Rattle.tl_model.specs.declared.crossbar.ModelAnswer.{ModelAnswer}
 use Rattle.tl_model.specs.declared.port.TheConstants.{MAX_SERVED}
@@ -18,10 +20,10 @@ pub record PortState : Type 0 where
   pub store : Store
   pub served : ℕ
 
--- the ranges, how many sources each master has, and each port, the error port last
+-- the ranges, the owner of each master's sources, and each port, the error port last
 pub record CrossbarState : Type 0 where
-  pub ranges : List Range
-  pub counts : List ℕ
+  pub ranges : List (List Range)
+  pub owners : List Owner
   pub ports : List PortState
 
 -- a port whose slave holds this and that has served nothing
@@ -30,7 +32,7 @@ fresh store = record { store = store; served = 0 }
 
 -- a system at reset
 abbrev pub at_reset : System → CrossbarState
-at_reset s = record { ranges = s.ranges; counts = s.counts; ports = map fresh (resets s) }
+at_reset s = record { ranges = s.ranges; owners = s.owners; ports = map fresh (resets s) }
 
 -- ---- one request
 
@@ -40,8 +42,8 @@ IsFull port = port.served ≡ MAX_SERVED
 
 -- the fault is one of a request of this master
 abbrev pub HasServeFault : CrossbarState → ℕ → Request → ServeFault → Type 0
-HasServeFault c master ask NoSuchMaster = length c.counts ≤ master
-HasServeFault c master ask NoSuchSource = IsSomeAnd (slice_get c.counts master) (λ count. count ≤ ask.source)
+HasServeFault c master ask NoSuchMaster = length c.owners ≤ master
+HasServeFault c master ask NoSuchSource = IsSomeAnd (slice_get (counts_in c.owners) master) (λ count. count ≤ ask.source)
 HasServeFault c master ask Uncountable =
     (port : ℕ) → Routes c.ranges ask port → IsSomeAnd (slice_get c.ports port) IsFull
 
@@ -57,7 +59,7 @@ IsFirstServeFault c master ask = IsFirstOf (HasServeFault c master ask) serve_fa
 
 -- the request is of a source that the master has, and its port can count it
 pub record Accepts (c : CrossbarState) (master : ℕ) (ask : Request) : Type 0 where
-  pub source : IsSomeAnd (slice_get c.counts master) (λ count. ask.source < count)
+  pub source : IsSomeAnd (slice_get (counts_in c.owners) master) (λ count. ask.source < count)
   pub counted : (port : ℕ) → Routes c.ranges ask port
       → IsSomeAnd (slice_get c.ports port) (λ state. state.served < MAX_SERVED)
 

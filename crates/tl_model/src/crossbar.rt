@@ -7,7 +7,7 @@ use crate::fault::ServeFault;
 use crate::port::{MAX_SERVED, ports_of};
 use std::alloc::Global;
 use std::marker::Model;
-use tl_map::{Map, Sources};
+use tl_map::{AddressMap, SourceOwners};
 use tl_ops::CountedBank;
 use tl_script::System;
 use tl_types::{Ask, Memory, Reply};
@@ -23,8 +23,8 @@ pub struct ModelAnswer {
 /// A crossbar: its address map, its sources, and its slave ports with the error port after them.
 #[derive(Drop)]
 pub struct Crossbar {
-    ranges: Map,
-    sources: Sources,
+    ranges: AddressMap,
+    sources: SourceOwners,
     ports: Vec<CountedBank>,
 }
 
@@ -35,7 +35,7 @@ impl Model for Crossbar {
 
     ghost Value = { CrossbarState };
 
-    ghost view = { λ c. record { ranges = c.ranges; counts = c.sources; ports = map state_of c.ports.items } };
+    ghost view = { λ c. record { ranges = c.ranges; owners = c.sources; ports = map state_of c.ports.items } };
 
     ghost invariant = { λ c. length c.ports.items ≡ length c.ranges + 1 };
 }
@@ -78,7 +78,7 @@ impl Crossbar {
         let Some(count) = self.sources.count(master) else {
             return Err(ServeFault::NoSuchMaster);
         };
-        if ask.source() >= count {
+        if ask.source() as u32 >= count {
             return Err(ServeFault::NoSuchSource);
         }
         let port = self.ranges.route(ask);
@@ -120,7 +120,7 @@ impl Crossbar {
 
     /// How many masters there are.
     pub fn masters(&self) -> usize
-        ensures { result ≡ length self.now.counts }
+        ensures { result ≡ length self.now.owners }
     {
         self.sources.masters()
     }

@@ -9,7 +9,7 @@ use Rattle.std.proofs.lemmas.Bool.{ne_eqb}
 use Rattle.std.proofs.lemmas.List.Elements.{All-get_or}
 use Rattle.std.proofs.lemmas.Slice.Eq.{bytes_eq-Decides}
 use Rattle.clap.proofs.WalkLemmas.{one_text-rows}
-use Rattle.clap.specs.Words.{Accepts, HasMatchesOf, is_simple, matches_of, one_of, IsParsedFrom, IsUnsignedIn, ReadsOne, SameRules, App, Rule, app_of, args_of, found_of, groups_of, matched_of, one_text, read_as, reading_of, rule_of}
+use Rattle.clap.specs.Words.{Accepts, HasMatchesOf, first_of, first_value, is_simple, matches_of, one_of, IsParsedFrom, IsUnsignedIn, ReadsOne, SameRules, App, Rule, app_of, args_of, found_of, groups_of, matched_of, one_text, read_as, reading_of, rule_of}
 use Rattle.clap.specs.Facts.{Entry, EntryPasses, HasId, HasIn, HasReading, PassesArg, WantsDefault, least_values, parser_of_value, unwrap_or_range}
 use Rattle.clap.specs.Built.{IsAuto, NamesNoGroup}
 use Rattle.clap.specs.Texts.{items_of}
@@ -27,7 +27,9 @@ use Rattle.clap.specs.declared.parser.matches.Found.{Found}
 use Rattle.clap.specs.declared.parser.matches.MatchedArg.{MatchedArg}
 use Rattle.clap.proofs.CallerLemmas.{default_present, entry_by_id, same_rules_by_id}
 use Rattle.tl_types.specs.declared.limits.TheConstants.{MAX_WORKERS}
-use Rattle.tl_options.specs.Options.{command_line, flag_rule, options_in, value_in, workers_rule}
+use Rattle.tl_cli.specs.Rules.{flag_of, flag_rule, value_of}
+use Rattle.tl_cli.proofs.Rules.{first_read}
+use Rattle.tl_options.specs.Options.{command_line, options_in, workers_rule}
 
 -- ---- an argument of a command that names no group
 
@@ -70,11 +72,11 @@ own_passes old m p k a h q parser t any =
     (ap parser_of_value (s.parser q parser)) any.4.1 in
     subst (λ (b : Bool). Accepts b q t) s.ignore_case by_q
 
-first_read : (P : Bor (List ℕ) → Type 0) (how : Reading) (vs : List (Bor (List ℕ))) (t : List ℕ) → All P vs
+first_passed : (P : Bor (List ℕ) → Type 0) (how : Reading) (vs : List (Bor (List ℕ))) (t : List ℕ) → All P vs
     → option_map (λ s. read_as how s.now) (slice_get vs 0) ≡ Some t
     → (v : Bor (List ℕ)) × (read_as how v.now ≡ t) × P v
-first_read P how [] t h e = cc
-first_read P how (v ∷ vs) t h e = (v, cc, All-get_or P (v ∷ vs) 0 v (omega arith) h)
+first_passed P how [] t h e = cc
+first_passed P how (v ∷ vs) t h e = (v, cc, All-get_or P (v ∷ vs) 0 v (omega arith) h)
 
 -- the text that is read of it stands for a value that passed its parser
 own_text : (old : Command) (m : ArgMatches) (p : IsParsedFrom old m) (k : ℕ) (a : Arg) → IsOwn old k a
@@ -111,7 +113,7 @@ own_text old m p k a h none groups globals q parser t is = go (matched_of (found
         let read : option_map (λ s. read_as (reading_of q) s.now) (slice_get got.0.1.vals.items 0) ≡ Some t =
         subst (λ (r : Reading). option_map (λ s. read_as r s.now)
         (slice_get got.0.1.vals.items 0) ≡ Some t) reading read_e in
-        let first = first_read (λ v. PassesArg p.built a.id.now v.now) (reading_of q) got.0.1.vals.items t all read in
+        let first = first_passed (λ v. PassesArg p.built a.id.now v.now) (reading_of q) got.0.1.vals.items t all read in
         (first.0.now, first.1, own_passes old m p k a h q parser first.0.now first.2)
 
     go : (o : Option MatchedArg) → matched_of (found_of m) a.id.now ≡ o
@@ -363,33 +365,6 @@ has_items : (xs : List (Bor (List ℕ))) (t : List ℕ) → texts xs ≡ t ∷ [
 has_items [] t e = cc
 has_items (x ∷ xs) t e = omega arith
 
--- the text of a flag, if it has one, says true or false
-flag_text : (old : Command) (m : ArgMatches) → app_of old ≡ command_line → IsParsedFrom old m → (k : ℕ) (a : Arg)
-    → IsOwn old k a → a.value_parser ≡ Some values.Bool
-    → (id : List ℕ) → a.id.now ≡ id → (t : List ℕ) → one_text (found_of m) id ≡ Some t
-    → (bytes_eq t (codes "true") || bytes_eq t (codes "false")) ≡ true
-flag_text old m is p k a own parser id id_is t has =
-    let three = has_three old is in
-    let text = own_text old m p k a own (names_none old three) (no_groups_of old is) (no_globals_of old is)
-    values.Bool parser t (subst (λ (w : List ℕ). one_text (found_of m) w ≡ Some t) (sym id_is) has) in
-    subst (λ (w : List ℕ). (bytes_eq w (codes "true") || bytes_eq w (codes "false")) ≡ true) text.1 text.2
-
-serial_text : (old : Command) (m : ArgMatches) → app_of old ≡ command_line → IsParsedFrom old m
-    → (t : List ℕ) → one_text (found_of m) (codes "serial") ≡ Some t
-    → (bytes_eq t (codes "true") || bytes_eq t (codes "false")) ≡ true
-serial_text old m is p =
-    let three = has_three old is in
-    flag_text old m is p 0 three.serial (serial_own old three) (ap (λ (r : Rule). r.parser) three.serial_is)
-    (codes "serial") (serial_id old three)
-
-history_text : (old : Command) (m : ArgMatches) → app_of old ≡ command_line → IsParsedFrom old m
-    → (t : List ℕ) → one_text (found_of m) (codes "history") ≡ Some t
-    → (bytes_eq t (codes "true") || bytes_eq t (codes "false")) ≡ true
-history_text old m is p =
-    let three = has_three old is in
-    flag_text old m is p 1 three.history (history_own old three) (ap (λ (r : Rule). r.parser) three.history_is)
-    (codes "history") (history_id old three)
-
 -- the third option has a text, and it is a number of workers that there may be
 workers_text : (old : Command) (m : ArgMatches) → app_of old ≡ command_line → IsParsedFrom old m
     → (t : List ℕ) × (one_text (found_of m) (codes "workers") ≡ Some t) × IsUnsignedIn 1 MAX_WORKERS t
@@ -417,21 +392,6 @@ workers_text old m is p =
       subst (λ (w : List ℕ). one_text (found_of m) w ≡ Some value.0) id value.1,
       subst (IsUnsignedIn 1 MAX_WORKERS) text.1 text.2,
     )
-
--- the flag that was read is what its text says
-flag_is : (o : Option (List ℕ)) (r : Bool) → (o ≡ None → r ≡ false) → (o ≡ Some (codes "true") → r ≡ true)
-    → (o ≡ Some (codes "false") → r ≡ false)
-    → ((t : List ℕ) → o ≡ Some t → (bytes_eq t (codes "true") || bytes_eq t (codes "false")) ≡ true)
-    → r ≡ bytes_eq (unwrap_or o []) (codes "true")
-flag_is None r none set unset says = none refl
-flag_is (Some t) r none set unset says = go (bytes_eq t (codes "true")) refl
-  where
-    go : (b : Bool) → bytes_eq t (codes "true") ≡ b → r ≡ bytes_eq t (codes "true")
-    go true is = set (ap Some ((bytes_eq-Decides t (codes "true")).0 is)) ∙ sym is
-    go false is =
-        let says_false : bytes_eq t (codes "false") ≡ true =
-        subst (λ (b : Bool). (b || bytes_eq t (codes "false")) ≡ true) is (says t refl) in
-        unset (ap Some ((bytes_eq-Decides t (codes "false")).0 says_false)) ∙ sym is
 
 number_is : (E : Type 0) (G : List ℕ → Result ℕ E → Type 0) (t : List ℕ) (r : Option ℕ) → ReadsOne G t r
     → ((x : Result ℕ E) → G t x → ParsesUnsigned 64 10 t x) → IsUnsignedIn 1 MAX_WORKERS t
@@ -462,57 +422,38 @@ reads_number E G old m r is p reads only =
       few = text.2.3;
     }
 
--- what is read of an option is what the words give it
-value_read : (old : Command) (m : ArgMatches) (words : List (List ℕ)) → app_of old ≡ command_line
+-- the number of workers that was read is what the words give
+workers_read : (old : Command) (m : ArgMatches) (words : List (List ℕ)) → app_of old ≡ command_line
     → HasMatchesOf (app_of old) words m
-    → (id : List ℕ) → one_text (found_of m) id ≡ one_of id (matches_of command_line words)
-value_read old m words is has id = one_text-rows (found_of m) id ∙ ap (one_of id) (has (ap is_simple is)).0
-    ∙ ap (λ (app : App). one_of id (matches_of app words)) is
+    → one_text (found_of m) (codes "workers") ≡ one_of (codes "workers") (matches_of command_line words)
+workers_read old m words is has = one_text-rows (found_of m) (codes "workers")
+    ∙ ap (one_of (codes "workers")) (has (ap is_simple is)).0
+    ∙ ap (λ (app : App). one_of (codes "workers") (matches_of app words)) is
 
--- a flag that was read is what the words say of it
-flag_asked : (old : Command) (m : ArgMatches) (words : List (List ℕ)) → app_of old ≡ command_line
-    → HasMatchesOf (app_of old) words m → (id : List ℕ) (flag : Bool)
-    → (one_text (found_of m) id ≡ None → flag ≡ false)
-    → (one_text (found_of m) id ≡ Some (codes "true") → flag ≡ true)
-    → (one_text (found_of m) id ≡ Some (codes "false") → flag ≡ false)
-    → ((t : List ℕ) → one_text (found_of m) id ≡ Some t
-    → (bytes_eq t (codes "true") || bytes_eq t (codes "false")) ≡ true)
-    → flag ≡ bytes_eq (value_in words id) (codes "true")
-flag_asked old m words is has id flag none set unset says =
-    flag_is (one_text (found_of m) id) flag none set unset says
-    ∙ ap (λ (o : Option (List ℕ)). bytes_eq (unwrap_or o []) (codes "true")) (value_read old m words is has id)
-
-pub serial_asked : (old : Command) (m : ArgMatches) (words : List (List ℕ)) → app_of old ≡ command_line
-    → IsParsedFrom old m → HasMatchesOf (app_of old) words m → (serial : Bool)
-    → (one_text (found_of m) (codes "serial") ≡ None → serial ≡ false)
-    → (one_text (found_of m) (codes "serial") ≡ Some (codes "true") → serial ≡ true)
-    → (one_text (found_of m) (codes "serial") ≡ Some (codes "false") → serial ≡ false)
-    → serial ≡ bytes_eq (value_in words (codes "serial")) (codes "true")
-serial_asked old m words is p has serial none set unset =
-    flag_asked old m words is has (codes "serial") serial none set unset (serial_text old m is p)
-
-pub history_asked : (old : Command) (m : ArgMatches) (words : List (List ℕ)) → app_of old ≡ command_line
-    → IsParsedFrom old m → HasMatchesOf (app_of old) words m → (history : Bool)
-    → (one_text (found_of m) (codes "history") ≡ None → history ≡ false)
-    → (one_text (found_of m) (codes "history") ≡ Some (codes "true") → history ≡ true)
-    → (one_text (found_of m) (codes "history") ≡ Some (codes "false") → history ≡ false)
-    → history ≡ bytes_eq (value_in words (codes "history")) (codes "true")
-history_asked old m words is p has history none set unset =
-    flag_asked old m words is has (codes "history") history none set unset (history_text old m is p)
+-- the value of a flag that was read is what the words give
+pub flag_read : (old : Command) (m : ArgMatches) (words : List (List ℕ)) → app_of old ≡ command_line
+    → HasMatchesOf (app_of old) words m
+    → (id : List ℕ) → first_value (found_of m) id ≡ first_of id (matches_of command_line words)
+flag_read old m words is has id =
+    first_read (app_of old) m words (ap is_simple is) has id ∙ ap (λ (app : App). first_of id (matches_of app words)) is
 
 -- the options that were read are those that the words ask for
 pub asked_for : (old : Command) (m : ArgMatches) (words : List (List ℕ)) (serial history : Bool) (r : Option ℕ)
     (workers : ℕ)
     → app_of old ≡ command_line → HasMatchesOf (app_of old) words m
-    → serial ≡ bytes_eq (value_in words (codes "serial")) (codes "true")
-    → history ≡ bytes_eq (value_in words (codes "history")) (codes "true")
+    → serial ≡ flag_of (unwrap_or (first_value (found_of m) (codes "serial")) [])
+    → history ≡ flag_of (unwrap_or (first_value (found_of m) (codes "history")) [])
     → ReadsNumber (found_of m) r → r ≡ Some workers
     → record { serial = serial; history = history; workers = workers } ≡ options_in words
-asked_for old m words serial history r workers is has flag other read is_number =
-    let text : read.text ≡ value_in words (codes "workers") =
-    ap (λ (o : Option (List ℕ)). unwrap_or o []) (sym read.has ∙ value_read old m words is has (codes "workers")) in
+asked_for old m words serial history r workers is has serial_is history_is read is_number =
+    let or_none : Option (List ℕ) → List ℕ = λ o. unwrap_or o [] in
+    let one : serial ≡ flag_of (value_of (matches_of command_line words) (codes "serial")) =
+    serial_is ∙ ap flag_of (ap or_none (flag_read old m words is has (codes "serial"))) in
+    let other : history ≡ flag_of (value_of (matches_of command_line words) (codes "history")) =
+    history_is ∙ ap flag_of (ap or_none (flag_read old m words is has (codes "history"))) in
+    let text : read.text ≡ unwrap_or (one_of (codes "workers") (matches_of command_line words)) [] =
+    ap or_none (sym read.has ∙ workers_read old m words is has) in
     let number : workers ≡ digits_value 10 (without_leading_plus read.text) =
     ap (λ (o : Option ℕ). unwrap_or o 0) (sym is_number ∙ read.is) in
-    let asked : workers ≡ digits_value 10 (without_leading_plus (value_in words (codes "workers"))) =
-    number ∙ ap (λ (t : List ℕ). digits_value 10 (without_leading_plus t)) text in
-    rw (flag, other, asked) refl
+    let asked = number ∙ ap (λ (t : List ℕ). digits_value 10 (without_leading_plus t)) text in
+    rw (one, other, asked) refl

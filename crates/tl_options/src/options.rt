@@ -1,11 +1,17 @@
 //! The command line: `tlx [--serial] [--history] [--workers N]`.
 ghost use Rattle.std.specs.Prelude.{◌≡◌, ◌≤◌, IfOk, map, false};
 ghost use Rattle.clap.specs.Words.{FailsBy, app_of, fault_of, rule_of};
-ghost use Rattle.tl_options.specs.Options.{command_line, flag_rule, options_in, program, workers_rule};
+ghost use Rattle.tl_options.specs.Options.{command_line, options_in, workers_rule};
 
 use clap::{Arg, ArgAction, Command, Error, value_parser};
 use std::alloc::{AllocError, Global};
+use std::convert::AsStr;
+use tl_cli::{flag, program, read_flag, value};
 use tl_types::MAX_WORKERS;
+
+/// What help says first.
+const ABOUT: &str =
+    "Runs a script of requests over a TileLink crossbar, and prints what each is answered";
 
 /// What help says at its end.
 const AFTER_HELP: &str = "\
@@ -42,47 +48,23 @@ pub struct Options {
 ///
 /// Errors: help or the version that was asked for, an unknown option, a stray word, or a number of workers that is none
 /// or outside its range; each is clap's own text.
-pub fn read_options(alloc: Global, words: &[&str]) -> Result<Options, Error>
+pub fn read_options<S: AsStr>(alloc: Global, words: &[S]) -> Result<Options, Error>
     ensures some { IfOk result (λ options. 1 ≤ options.workers) }
     ensures few { IfOk result (λ options. options.workers ≤ MAX_WORKERS) }
 
     // The options are those that the words ask for.
     ensures asked { IfOk result
-        (λ options. options ≡ options_in (map (λ word. word.now) words.now)) }
+        (λ options. options ≡ options_in (map S.text words.now)) }
 
     // The words are taken or refused as the command line says.
-    ensures faults { FailsBy (fault_of command_line (map (λ word. word.now) words.now)) result }
+    ensures faults { FailsBy (fault_of command_line (map S.text words.now)) result }
 {
     let matches = command(alloc)?.try_get_matches_from(words)?;
     Ok(Options {
-        serial: matches.get_flag("serial"),
-        history: matches.get_flag("history"),
+        serial: read_flag(value(&matches, "serial")),
+        history: read_flag(value(&matches, "history")),
         workers: matches.get_one::<usize>("workers").unwrap(),
     })
-}
-
-/// The program, with what its help says.
-fn program<'a>(alloc: Global) -> Command<'a>
-    ensures { app_of result ≡ program }
-{
-    Command::new(alloc, "tlx")
-        .version("0.1.0")
-        .about(
-            "Runs a script of requests over a TileLink crossbar, and prints what each is answered",
-        )
-        .after_help(AFTER_HELP)
-}
-
-/// A flag, by two dashes and its name.
-fn flag<'a>(alloc: Global, name: &'a str, help: &'a str) -> Arg<'a>
-    ensures rule { rule_of result ≡ flag_rule name.now }
-    ensures local { result.global ≡ false }
-{
-    Arg::new(alloc, name)
-        .long(name)
-        .action(ArgAction::SetTrue)
-        .value_parser(value_parser!(bool))
-        .help(help)
 }
 
 /// `--workers N`.
@@ -103,7 +85,7 @@ fn workers_option<'a>(alloc: Global) -> Arg<'a>
 fn command<'a>(alloc: Global) -> Result<Command<'a>, AllocError>
     ensures { IfOk result (λ command. app_of command ≡ command_line) }
 {
-    program(alloc)
+    program(alloc, "tlx", ABOUT, AFTER_HELP)
         .arg(flag(alloc, "serial", SERIAL_HELP))?
         .arg(flag(alloc, "history", HISTORY_HELP))?
         .arg(workers_option(alloc))

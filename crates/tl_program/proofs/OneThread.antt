@@ -3,7 +3,7 @@ use Rattle.std.proofs.Common.{subst, ◌≡◌, ◌∙◌, ℕ, ◌+◌, ◌<◌
 use Rattle.std.proofs.lemmas.List.{length-map}
 use Rattle.std.proofs.lemmas.Option.{slice_get-get_or, slice_get-map, slice_get_within}
 use Rattle.tl_types.specs.declared.trace.Entry.{Entry}
-use Rattle.tl_map.specs.declared.map.Range.{Range}
+use Rattle.tl_map.specs.declared.range.Range.{Range}
 use Rattle.tl_rule.specs.declared.view.About.{About}
 use Rattle.tl_rule.specs.Views.{no_store, reset_of}
 use Rattle.tl_arena.specs.Views.{ArenaId}
@@ -12,7 +12,8 @@ use Rattle.tl_audit.specs.Agrees.{HasEntry}
 use Rattle.tl_audit.specs.Reader.{AreLawful, AreOneThreads, histories_of}
 use Rattle.tl_audit.proofs.Reader.{agreeing_is_one_threads}
 use Rattle.tl_script.specs.History.{account_text}
-use Rattle.tl_script.specs.System.{System, IsLawfulSystem, error_store, range_of, resets}
+use Rattle.tl_script.specs.System.{System, IsLawfulSystem, error_store, resets}
+use Rattle.tl_script.proofs.Banks.{ports_counted}
 use Rattle.tl_script.specs.declared.operation.Job.{Job}
 use Rattle.tl_serial.specs.Text.{run_text}
 use Rattle.tl_program.specs.Engine.{IsThreadedText}
@@ -36,8 +37,7 @@ in_trace traces m k e has = by_trace (slice_get traces m) refl where
 many_resets : (s : System) → IsLawfulSystem s → length (resets s) ≡ length s.ranges + 1
 many_resets s lawful =
     let long = length-append s.stores (error_store ∷ []) in
-    let mapped = length-map s.stores range_of in
-    let same = ap (λ (ranges : List Range). length ranges) lawful.ranges in
+    let same = ports_counted s lawful in
     omega arith
 
 -- the port's store at reset is the system's
@@ -54,8 +54,8 @@ module _ (history : Bool) (s : System) (text : List ℕ) (lawful : IsLawfulSyste
   books_lawful : AreLawful t.books
   books_lawful p book at = (t.run.books_are.each p book at).lawful
 
-  one : AreOneThreads s.counts t.traces t.books
-  one = agreeing_is_one_threads s.counts t.traces t.books books_lawful t.agrees
+  one : AreOneThreads s.owners t.traces t.books
+  one = agreeing_is_one_threads s.owners t.traces t.books books_lawful t.agrees
 
   served : (m k : ℕ) (e : Entry) → HasEntry t.traces m k e → IsServedByOne s (histories_of t.books) m e
   served m k e has =

@@ -5,10 +5,11 @@ use Rattle.std.proofs.lemmas.List.{length-map}
 use Rattle.std.proofs.lemmas.Option.{slice_get-map}
 use Rattle.tl_types.specs.declared.trace.Entry.{Entry}
 use Rattle.tl_journal.specs.Trace.{TraceView, entries_in}
-use Rattle.tl_map.specs.declared.map.Range.{Range}
+use Rattle.tl_map.specs.declared.range.Range.{Range}
 use Rattle.tl_ops.specs.Store.{Store}
 use Rattle.tl_script.specs.declared.operation.Job.{Job}
-use Rattle.tl_script.specs.System.{System, IsLawfulSystem, resets, error_store, range_of}
+use Rattle.tl_script.specs.System.{System, IsLawfulSystem, resets, error_store}
+use Rattle.tl_script.proofs.Banks.{ports_counted}
 use Rattle.tl_arena.specs.Views.{ArenaId, PortView, about_of}
 use Rattle.tl_arena.specs.Account.{IsClosing}
 use Rattle.tl_arena.specs.declared.account.HeldSlot.{HeldSlot}
@@ -18,15 +19,13 @@ use Rattle.tl_program.specs.Run.{IsBookOf, AreTraces, AreBooks, HaveLeft, IsThre
 use Rattle.tl_workers.specs.Start.{AreFrom, IsTraceOf}
 use Rattle.tl_workers.proofs.Rows.{one_some}
 
--- a system has a reset for each range and one for the error port
+-- a system has a reset for each port and one for the error port
 pub resets_length : (s : System) → IsLawfulSystem s → length (resets s) ≡ length s.ranges + 1
 resets_length s lawful =
-    let each : length s.stores ≡ length s.ranges =
-    sym (length-map s.stores range_of) ∙ ap (λ (l : List Range). length l) lawful.ranges in
-    length-append s.stores (error_store ∷ []) ∙ ap (λ (n : ℕ). n + 1) each
+    length-append s.stores (error_store ∷ []) ∙ ap (λ (n : ℕ). n + 1) (ports_counted s lawful)
 
 -- so an arena of the system has all its ports
-pub reached : (s : System) (a : ArenaId) → IsLawfulSystem s → a.about ≡ about_of s.slots s.counts (resets s)
+pub reached : (s : System) (a : ArenaId) → IsLawfulSystem s → a.about ≡ about_of s.slots s.owners (resets s)
     → length s.ranges + 1 ≤ a.about.ports
 reached s a lawful about = let ports = resets_length s lawful in rw about (omega (arith, ports))
 
@@ -46,7 +45,7 @@ pub books_many : (n : ℕ) (books given : Vec BookView Global) → vec_len books
 books_many n books given all many = grind (arith, common_steps)
 
 -- whose trace a list is
-traced_at : (a : ArenaId) (ranges : List Range) (jobs : List (List Job)) (m : ℕ) (its_jobs : List Job)
+traced_at : (a : ArenaId) (ranges : List (List Range)) (jobs : List (List Job)) (m : ℕ) (its_jobs : List Job)
     (entries : List Entry) (o : Option TraceView) → slice_get jobs m ≡ Some its_jobs
     → option_map (λ (t : TraceView). t.items) o ≡ Some entries
     → ((t : TraceView) → o ≡ Some t → IsTraceOf a ranges jobs m t) → IsTrace a ranges m its_jobs entries
@@ -58,7 +57,7 @@ traced_at a ranges jobs m its_jobs entries (Some t) at is of =
     (subst (λ (js : List Job). IsTrace a ranges m js t.items)
     (one_some (slice_get jobs m) own.its_jobs its_jobs own.at at) own.trace)
 
-pub traces_of : (a : ArenaId) (ranges : List Range) (jobs : List (List Job)) (ts : List TraceView)
+pub traces_of : (a : ArenaId) (ranges : List (List Range)) (jobs : List (List Job)) (ts : List TraceView)
     → length ts ≡ length jobs → AreFrom (IsTraceOf a ranges jobs) 0 ts → AreTraces a ranges jobs (entries_in ts)
 traces_of a ranges jobs ts many all = record {
   many = length-map ts (λ (t : TraceView). t.items) ∙ many;
@@ -76,9 +75,9 @@ books_are a ports bs many all =
     }
 
 pub threaded : (s : System) (a : ArenaId) (ts : List TraceView) (bs : List BookView) (free : List ℕ)
-    (held : List HeldSlot) (left : List ℕ) → a.about ≡ about_of s.slots s.counts (resets s)
+    (held : List HeldSlot) (left : List ℕ) → a.about ≡ about_of s.slots s.owners (resets s)
     → length ts ≡ length s.jobs → AreFrom (IsTraceOf a s.ranges s.jobs) 0 ts → length bs ≡ length s.ranges + 1
-    → AreFrom (IsBookOf a) 0 bs → IsClosing a.about free held left → HaveLeft (length s.counts) left
+    → AreFrom (IsBookOf a) 0 bs → IsClosing a.about free held left → HaveLeft (length s.owners) left
     → IsThreadedRun s (entries_in ts) bs free held left
 threaded s a ts bs free held left about many traces ports books account gone = record {
   arena = a;

@@ -28,7 +28,7 @@ pub record IsThreadedText (history : Bool) (system : System) (text : List ℕ) :
   pub held : List HeldSlot
   pub left : List ℕ
   pub run : IsThreadedRun system traces books free held left
-  pub agrees : Agrees system.counts traces (histories_of books)
+  pub agrees : Agrees system.owners traces (histories_of books)
   pub is : text ≡ run_text history traces (histories_of books) ++ account_text (length free) (length held)
 
 -- the traces and histories of a run of the system by threads have this fault, which is not want of memory
@@ -39,7 +39,7 @@ pub record HasThreadedFault (system : System) (fault : AuditFault) : Type 0 wher
   pub held : List HeldSlot
   pub left : List ℕ
   pub run : IsThreadedRun system traces books free held left
-  pub has : HasAuditFault system.counts traces (histories_of books) fault
+  pub has : HasAuditFault system.owners traces (histories_of books) fault
   pub told : fault ≢ audit.Memory
 
 -- no run has a fault

@@ -7,7 +7,7 @@ use Rattle.tl_types.specs.Response.{Response}
 use Rattle.tl_types.specs.declared.trace.Entry.{Entry}
 use Rattle.tl_ops.specs.Store.{Store}
 use Rattle.tl_ops.specs.History.{asks_of}
-use Rattle.tl_map.specs.Block.{IsWide}
+use Rattle.tl_map.specs.Owner.{IsWideSource}
 use Rattle.tl_map.specs.Map.{Routes}
 use Rattle.tl_master.specs.Master.{of_source, requests_of}
 use Rattle.tl_audit.specs.Agrees.{HasEntry, HasPlace}
@@ -29,7 +29,7 @@ pub record IsServedByOne (s : System) (histories : List (List (Request × Respon
   pub history : List (Request × Response)
   pub keeps : slice_get histories e.port ≡ Some history
   pub wide : ℕ
-  pub is : IsWide s.counts m e.ask.source wide
+  pub is : IsWideSource s.owners m e.ask.source wide
   pub asked : slice_get (asks_of history) e.index ≡ Some (record e.ask { source = wide })
   pub replied : slice_get (replies_of reset (asks_of history)) e.index ≡ Some (record e.reply { source = wide })
 

@@ -1,7 +1,7 @@
 -- What a run of a system by threads gives. All of it is this project's own.
 use Rattle.std.specs.Prelude.{◌≡◌, ℕ, ◌+◌, ◌<◌, List, length, slice_get, Contains, Some}
 use Rattle.tl_types.specs.declared.trace.Entry.{Entry}
-use Rattle.tl_map.specs.declared.map.Range.{Range}
+use Rattle.tl_map.specs.declared.range.Range.{Range}
 use Rattle.tl_script.specs.declared.operation.Job.{Job}
 use Rattle.tl_script.specs.System.{System, resets}
 use Rattle.tl_arena.specs.Views.{ArenaId, about_of}
@@ -17,7 +17,7 @@ pub record IsBookOf (arena : ArenaId) (port : ℕ) (book : BookView) : Type 0 wh
   pub lawful : IsLawfulBook book
 
 -- a trace of each master
-pub record AreTraces (arena : ArenaId) (ranges : List Range) (jobs : List (List Job))
+pub record AreTraces (arena : ArenaId) (ranges : List (List Range)) (jobs : List (List Job))
     (traces : List (List Entry)) : Type 0 where
   pub many : length traces ≡ length jobs
   pub each : (m : ℕ) (its_jobs : List Job) (entries : List Entry) → slice_get jobs m ≡ Some its_jobs
@@ -37,8 +37,8 @@ HaveLeft masters left = (m : ℕ) → m < masters → Contains left m
 pub record IsThreadedRun (s : System) (traces : List (List Entry)) (books : List BookView) (free : List ℕ)
     (held : List HeldSlot) (left : List ℕ) : Type 0 where
   pub arena : ArenaId
-  pub about : arena.about ≡ about_of s.slots s.counts (resets s)
+  pub about : arena.about ≡ about_of s.slots s.owners (resets s)
   pub traces_are : AreTraces arena s.ranges s.jobs traces
   pub books_are : AreBooks arena (length s.ranges + 1) books
   pub account : IsClosing arena.about free held left
-  pub all_left : HaveLeft (length s.counts) left
+  pub all_left : HaveLeft (length s.owners) left

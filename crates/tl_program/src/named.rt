@@ -57,9 +57,9 @@ fn books_of<N: ArenaName>(ports: Vec<Port<N>>, room: Vec<Book>) -> Result<Vec<Bo
 
 /// The first master of a system that by the account has not left.
 fn first_not_left(system: &System, account: &Account) -> Option<usize>
-    ensures some { IfSome result (λ m. (m < length system.now.counts)
+    ensures some { IfSome result (λ m. (m < length system.now.owners)
         × (Contains account.now.left.items m → ⊥)) }
-    ensures none { IfNone result (HaveLeft (length system.now.counts) account.now.left.items) }
+    ensures none { IfNone result (HaveLeft (length system.now.owners) account.now.left.items) }
 {
     for master in 0..system.sources().masters() {
         if !account.left.contains(&master) {
@@ -84,13 +84,13 @@ pub(crate) fn run_named<N: ArenaName + Send + Sync, R: Threads + Wait + Sync, G:
     requires threads { IsNewThreadSet arena system.now threads }
     requires books { AreFrom (IsNewBook arena system.now) 0 books.items }
     requires all_books { vec_len books ≡ length system.now.ranges + 1 }
-    requires counts { length system.now.jobs ≡ length system.now.counts }
+    requires counts { length system.now.jobs ≡ length system.now.owners }
     ensures traces { IfOk result (λ run. AreTracesOf arena system.now run.traces.items) }
     ensures all { IfOk result (λ run. vec_len run.books ≡ vec_len books) }
     ensures books { IfOk result (λ run. AreFrom (IsBookOf arena) 0 run.books.items) }
     ensures account { IfOk result (λ run. IsClosing arena.about run.account.free.items
         run.account.held.items run.account.left.items) }
-    ensures left { IfOk result (λ run. HaveLeft (length system.now.counts) run.account.left.items) }
+    ensures left { IfOk result (λ run. HaveLeft (length system.now.owners) run.account.left.items) }
 {
     let Ok(room) = Vec::with_capacity(alloc, books.len()) else {
         return Err(ThreadFault::Memory);

@@ -13,8 +13,8 @@ use std::io::{Eprint, Read, Write};
 use std::process::ExitCode;
 use std::sync::Wait;
 use std::thread::Threads;
+use tl_cli::fail;
 use tl_options::Options;
-use tl_streams::fail;
 use tl_types::MAX_WORKERS;
 
 /// Ends the program after a run: with its fault's line and status, if it has one.

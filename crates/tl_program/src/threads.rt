@@ -17,18 +17,17 @@ use tl_types::{MAX_WORKERS, Memory};
 use tl_workers::{Gate, ThreadFault, books_of, journals_of, threads_of};
 
 /// A new arena for the masters of a system and for ports with these banks.
+#[tactic(auto, using(crate::proofs::Whole::resets_length))]
 fn arena_of(alloc: Global, system: &System, banks: &[Bank]) -> Result<Made, Memory>
     requires { banks.now ≡ resets system.now }
     ensures arena { IfOk result (λ made. made.arena.about
-        ≡ about_of system.now.slots system.now.counts (resets system.now)) }
+        ≡ about_of system.now.slots system.now.owners (resets system.now)) }
     ensures masters { IfOk result (λ made. AreNewMasters made.arena (length system.now.jobs)
         made.masters.items) }
     ensures ports { IfOk result
         (λ made. AreNewPorts made.arena (length banks.now) made.ports.items) }
 {
     let _lawful = system.jobs();
-    let _few_masters = system.sources().masters();
-    let _few_ports = system.map().ports();
     match Arena::new(alloc, system.slots(), system.sources(), banks) {
         Ok(made) => Ok(made),
         Err(ArenaFault::BadCount) => unreachable!(),

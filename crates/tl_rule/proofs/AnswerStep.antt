@@ -136,7 +136,7 @@ module _ (a : About) (c : Parts) (L : Lawful a c) (id i o : ℕ) (u : Desk) (K :
   asked_by : (known : ℕ) × (phase c i ≡ Serving o u.number) × (held c.masters o i ≡ Sent ask u.number known)
   asked_by = let p = u.number in
       let t = asked_there a c L p i ask (ap (λ (w : Desk). ask_at w.serving i) K.is ∙ serves) in
-      let one = one_owner a t.0 o ask.source ask.source (L.block t.0 i p t.1 ask t.3)
+      let one = one_owner a L.shape.owners t.0 o ask.source ask.source (L.block t.0 i p t.1 ask t.3)
       (subst (λ (z : About). Owns z o ask.source) K.about own) refl in (
         t.1,
         subst (λ (n : ℕ). phase c i ≡ Serving n p) one t.2,

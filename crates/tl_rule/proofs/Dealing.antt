@@ -5,6 +5,7 @@ use mathlib.Core.Option.{some, none}
 use lib.ListN.{get_elem?}
 use Rattle.tl_slots.specs.declared.phase.Phase.TheVariants.{Free}
 use Rattle.tl_slots.specs.Word.{word}
+use Rattle.tl_map.specs.Owners.{AreLawfulOwners}
 use Rattle.tl_rule.specs.declared.view.About.{About}
 use Rattle.tl_rule.specs.declared.view.Held.TheVariants.{Nothing}
 use Rattle.tl_rule.specs.declared.view.Hands.{Hands}
@@ -95,6 +96,7 @@ module _ (a : About) (c : Parts) (L : Lawful a c) (more : length c.masters < a.m
       })
       (record {
         limits = t.limits;
+        owners = t.owners;
         phases = t.phases;
         homes = t.homes;
         left = t.left;
@@ -188,6 +190,7 @@ module _ (a : About) (c : Parts) (L : Lawful a c) (all : length c.masters ≡ a.
       })
       (record {
         limits = t.limits;
+        owners = t.owners;
         phases = t.phases;
         homes = t.homes;
         left = t.left;
@@ -266,8 +269,8 @@ all_home (x ∷ xs) (suc i) h there = all_home xs i (omega arith) (All-tail (λ 
 
 pub opens : (a : About) (ws : List ℕ) (xs : List Berth) → ws ≡ replicate (a.slots + a.masters) 0 → length xs ≡ a.slots
     → All (λ (berth : Berth). IsSome berth) xs → IsInLimits a.slots a.masters a.ports
-    → Fits a (opening ws xs (opening_view a))
-opens a ws xs words long there limits = let c : Parts =
+    → AreLawfulOwners a.owners → Fits a (opening ws xs (opening_view a))
+opens a ws xs words long there limits owners = let c : Parts =
     record {
       phases = replicate a.slots Free;
       left = replicate a.masters false;
@@ -280,6 +283,7 @@ opens a ws xs words long there limits = let c : Parts =
       lawful = record {
         shape = record {
           limits = limits;
+          owners = owners;
           phases = length-replicate a.slots Free;
           homes = long_map xs ∙ long;
           left = length-replicate a.masters false;

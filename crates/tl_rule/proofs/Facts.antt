@@ -11,8 +11,8 @@ use Rattle.tl_slots.specs.declared.phase.Phase.TheVariants.{Free, Filling, Poste
 use Rattle.tl_slots.specs.declared.word.TheConstants.{MAX_AGENT}
 use Rattle.tl_slots.specs.Word.{FitsWord, word}
 use Rattle.tl_slots.proofs.Words.{word-injective}
-use Rattle.tl_map.specs.Block.{IsWide}
-use Rattle.tl_map.proofs.Blocks.{one_master}
+use Rattle.tl_map.specs.Owner.{IsOf}
+use Rattle.tl_map.specs.Owners.{AreLawfulOwners}
 use Rattle.tl_beats.proofs.Only.{same_ask}
 use Rattle.tl_beats.proofs.ReplyOnly.{same_reply}
 use Rattle.tl_rule.specs.declared.view.About.{About}
@@ -67,8 +67,9 @@ none_or None = inl refl
 none_or (Some q) = inr (q, refl)
 
 -- a source is of one master
-pub one_owner : (a : About) (m n s t : ℕ) → Owns a m s → Owns a n t → s ≡ t → m ≡ n
-one_owner a m n s t x y e = one_master a.counts m x.0 n y.0 t (subst (λ (z : ℕ). IsWide a.counts m x.0 z) e x.1) y.1
+pub one_owner : (a : About) → AreLawfulOwners a.owners → (m n s t : ℕ) → Owns a m s → Owns a n t → s ≡ t → m ≡ n
+one_owner a lawful m n s t x y e =
+    lawful.apart m n t (record { of_one = subst (λ (z : ℕ). IsOf a.owners m z) e x; of_other = y })
 
 -- a record spells one request, and one reply to it
 pub spells_one : (r : SlotRecord) (ask other : Request) → Spells r ask → Spells r other → ask ≡ other

@@ -119,6 +119,7 @@ module _ (a : About) (c : Parts) (L : Lawful a c) (id : ℕ) (v : Hands) (K : Kn
   left_shape : HasShape a left_parts
   left_shape = let e = length-set c.masters v.number w in let t = L.shape in record {
     limits = t.limits;
+    owners = t.owners;
     phases = t.phases;
     homes = t.homes;
     left = length-set c.left v.number true ∙ t.left;

@@ -145,6 +145,7 @@ module _ (a : About) (c : Parts) (i : ℕ) (f : Phase) (h : maybe.Option Berth) 
   shape_kept : HasShape a d
   shape_kept = let e = length-set c.masters m (with_hand (hands c.masters m) i x got) in let t = L.shape in record {
     limits = t.limits;
+    owners = t.owners;
     phases = length-set c.phases i f ∙ t.phases;
     homes = length-set c.homes i h ∙ t.homes;
     left = t.left;

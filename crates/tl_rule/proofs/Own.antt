@@ -111,7 +111,7 @@ module _ (a : About) (c : Parts) (L : Lawful a c) (m p : ℕ) where
 
   found : (k : ℕ) (x : Request × Response) → slice_get h k ≡ Some x → Owns a m x.0.source → At k x ⊎ IsPlaceOf mine k
   found k x at own = let t = L.places.placed p k x at in
-      let one = one_owner a t.master m x.0.source x.0.source t.owns own refl in ⊎_elim
+      let one = one_owner a L.shape.owners t.master m x.0.source x.0.source t.owns own refl in ⊎_elim
       (λ (s : InSlot a c t.master p k). inl (let ph : phase c s.slot ≡ Answered m p =
       subst (λ (n : ℕ). phase c s.slot ≡ Answered n p) one s.phased in
       let g = subst (InPhase a c s.slot) ph (L.slots s.slot (answered_inside a c L s.slot m p ph)) in

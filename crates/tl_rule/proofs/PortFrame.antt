@@ -123,6 +123,7 @@ module _ (a : About) (c : Parts) (i : ℕ) (f : Phase) (h : maybe.Option Berth) 
   port_shape_kept : HasShape a e
   port_shape_kept = let z = length-set c.ports p (with_serving (desk c.ports p) now list) in let t = L.shape in record {
     limits = t.limits;
+    owners = t.owners;
     phases = length-set c.phases i f ∙ t.phases;
     homes = length-set c.homes i h ∙ t.homes;
     left = t.left;

@@ -55,7 +55,7 @@ desk_law a c L p lt = let v = L.shape.port_views p lt in
       few = serves_few (desk c.ports p).about.slots (desk c.ports p).serving (L.serves_once p) there;
       sources = λ i j ask other is at same. let t = asked_there a c L p i ask is in
           let s = asked_there a c L p j other at in
-          let one = one_owner a s.0 t.0 other.source ask.source (L.block s.0 j p s.1 other s.3)
+          let one = one_owner a L.shape.owners s.0 t.0 other.source ask.source (L.block s.0 j p s.1 other s.3)
           (L.block t.0 i p t.1 ask t.3) (sym same) in
           L.sources t.0 i j p p t.1 s.1 ask other t.3
           (subst (λ (n : ℕ). held c.masters n j ≡ Sent other p s.1) one s.3) same;

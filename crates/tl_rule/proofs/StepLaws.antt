@@ -151,4 +151,4 @@ leave_law a s id v carried can =
     (known a c L id v seat) carried can.there can.empty) s can.seat.fits can.seat.view
 
 pub opens_law : Opens
-opens_law a letters words are = opens a words letters are.zeros are.many are.there are.limits
+opens_law a letters words are = opens a words letters are.zeros are.many are.there are.limits are.owners

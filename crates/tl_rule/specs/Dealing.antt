@@ -3,6 +3,7 @@
 use Rattle.std.specs.Prelude.{◌≡◌, ℕ, ◌+◌, ◌<◌, List, length, replicate, All, IsSome}
 use Rattle.atomic_table.specs.Table.{Splits, opening}
 use Rattle.tl_slots.specs.Machine.{IsInLimits}
+use Rattle.tl_map.specs.Owners.{AreLawfulOwners}
 use Rattle.tl_rule.specs.declared.view.About.{About}
 use Rattle.tl_rule.specs.declared.view.View.{View}
 use Rattle.tl_rule.specs.declared.view.View.TheVariants.{Dealer, Master, Port}
@@ -37,12 +38,13 @@ next_port (Port u) = Port u
 
 -- ---- the laws
 
--- the parts of a new table: zero words, a record in each slot, and counts in their limits
+-- the parts of a new table: zero words, a record in each slot, counts in their limits, and lawful owners
 pub record AreOpeningParts (a : About) (words : List ℕ) (letters : List Berth) : Type 0 where
   pub zeros : words ≡ replicate (a.slots + a.masters) 0
   pub many : length letters ≡ a.slots
   pub there : All (λ (berth : Berth). IsSome berth) letters
   pub limits : IsInLimits a.slots a.masters a.ports
+  pub owners : AreLawfulOwners a.owners
 
 -- a table of these parts fits
 abbrev pub Opens : Type 0

@@ -15,6 +15,7 @@ use Rattle.tl_slots.specs.declared.phase.Phase.TheVariants.{Free, Filling, Poste
 use Rattle.tl_slots.specs.Phase.{owner_of}
 use Rattle.tl_slots.specs.Word.{word}
 use Rattle.tl_slots.specs.Machine.{IsInLimits}
+use Rattle.tl_map.specs.Owners.{AreLawfulOwners}
 use Rattle.tl_rule.specs.declared.view.About.{About}
 use Rattle.tl_rule.specs.declared.view.Held.TheVariants.{Nothing, Filled, Sent, Taken}
 use Rattle.tl_rule.specs.declared.view.Hands.{Hands}
@@ -152,9 +153,11 @@ module _ (a : About) (c : Parts) where
 
   -- ---- the rule
 
-  -- how many there are of each, which is what lets an item be looked up by its number
+  -- how many there are of each, which is what lets an item be looked up by its number; and whose the sources are
   pub record HasShape : Type 0 where
     pub limits : IsInLimits a.slots a.masters a.ports
+    -- no wide source is of two masters
+    pub owners : AreLawfulOwners a.owners
     pub phases : length c.phases ≡ a.slots
     pub homes : length c.homes ≡ a.slots
     pub left : length c.left ≡ a.masters

@@ -6,7 +6,7 @@ use Rattle.tl_types.specs.Response.{Response}
 use Rattle.tl_types.specs.declared.trace.Entry.{Entry}
 use Rattle.tl_ops.specs.Store.{Store}
 use Rattle.tl_ops.specs.declared.kind.Kind.TheVariants.{NoDevice}
-use Rattle.tl_map.specs.Block.{IsWide}
+use Rattle.tl_map.specs.Owner.{IsOf}
 use Rattle.tl_rule.specs.declared.view.About.{About}
 use Rattle.tl_rule.specs.declared.view.Held.{Held}
 use Rattle.tl_rule.specs.declared.view.Held.TheVariants.{Nothing}
@@ -16,9 +16,9 @@ use Rattle.tl_rule.specs.Serving.{ask_at}
 
 -- ---- what never changes
 
--- the wide source is that of one of the master's sources
+-- the wide source is one of the master's
 abbrev pub Owns : About → ℕ → ℕ → Type 0
-Owns about master wide = (source : ℕ) × IsWide about.counts master source wide
+Owns about master wide = IsOf about.owners master wide
 
 abbrev pub no_store : Store
 no_store = record { kind = NoDevice; base = 0; bytes = [] }
@@ -28,7 +28,7 @@ abbrev pub reset_of : About → ℕ → Store
 reset_of about port = slice_index_or about.resets port no_store
 
 abbrev pub no_about : About
-no_about = record { slots = 0; masters = 0; ports = 0; counts = []; resets = [] }
+no_about = record { slots = 0; masters = 0; ports = 0; owners = []; resets = [] }
 
 -- ---- new views, and views that are not there
 

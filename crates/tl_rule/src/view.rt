@@ -1,14 +1,15 @@
 //! What seats know. No value of these types is ever made: contracts alone speak of them.
 use std::collections::LinkedList;
+use tl_map::Owner;
 use tl_ops::Bank;
 use tl_types::{Ask, Entry, Reply};
 
-/// What never changes: the counts, how many sources each master has, and what each port's bank held at the start.
+/// What never changes: the counts, the owners of the masters' sources, and what each port's bank held at the start.
 pub struct About {
     pub slots: usize,
     pub masters: usize,
     pub ports: usize,
-    pub counts: LinkedList<u16>,
+    pub owners: LinkedList<Owner>,
     pub resets: LinkedList<Bank>,
 }
 

@@ -3,7 +3,7 @@
 //! The contracts say what each call answers. These tests say whether that is what was meant, and that each call succeeds.
 //! All is worked out by hand:
 //!
-//! - values of messages (`tl_types`), beats (`tl_beats`), slaves (`tl_ops`), the address map (`tl_map`) and slots
+//! - values of messages (`tl_types`), beats (`tl_beats`), slaves (`tl_ops`) and slots
 //!   (`tl_slots`); the texts of their faults and of faults that no script has, and texts if memory is refused;
 //! - the model that serves call by call (`tl_model`), the audit of traces against histories (`tl_audit`), and whole runs
 //!   of the program (`tl_program`) by readers and writers that are slow or fail, with the line of each fault of a run.

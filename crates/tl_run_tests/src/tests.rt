@@ -1,7 +1,6 @@
 mod audit;
 mod audits;
 mod beats;
-mod map;
 mod memory;
 mod model;
 mod ops;
@@ -12,12 +11,20 @@ mod texts;
 mod threads;
 mod types;
 
+use std::alloc::Global;
 use std::process::Abort;
+use tl_map::{SourceOwners, blocks};
 use tl_types::{Ask, AskOp, MAX_BYTES};
 
 /// What a row shows, or a step, holds. A call of this is cheaper to prove than an `assert!`, since it has no paths.
 fn holds(rt: &impl Abort, row: &str, whether: bool) {
     assert!(rt; whether, "{row}");
+}
+
+/// The sources of masters with these counts.
+fn sources_of(rt: &impl Abort, alloc: Global, counts: &[u32]) -> SourceOwners {
+    let owners = blocks(alloc, counts).expect(rt, "blocks");
+    SourceOwners::new(alloc, &owners).expect(rt, "sources")
 }
 
 /// A request with these bytes.

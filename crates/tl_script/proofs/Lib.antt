@@ -10,3 +10,5 @@ pub mod Lines
 pub mod Banks
 pub mod Plain
 pub mod Appended
+pub mod MapFaults
+pub mod Counts

@@ -4,6 +4,8 @@ pub mod Operations
 pub mod Trace
 pub mod System
 pub mod Key
+pub mod Map
+pub mod Sources
 pub mod Reading
 pub mod Value
 pub mod Port

@@ -1,9 +1,9 @@
 -- How checks of a script follow one another: the first that fails is the answer. This project's own.
-use Rattle.std.specs.Prelude.{◌≡◌, ◌≢◌, List, [], ◌∷◌, ◌++◌, Result, Ok, Err, MatchResult}
-use Rattle.tl_map.specs.declared.map.MapFault.{MapFault}
-use Rattle.tl_map.specs.declared.map.MapFault.TheVariants.{Memory as MapMemory}
-use Rattle.tl_map.specs.declared.sources.SourceFault.{SourceFault}
-use Rattle.tl_map.specs.declared.sources.SourceFault.TheVariants.{Memory as SourceMemory}
+use Rattle.std.specs.Prelude.{◌≡◌, ◌≢◌, Result, Ok, Err, MatchResult}
+use Rattle.tl_script.specs.declared.map.MapFault.{MapFault}
+use Rattle.tl_script.specs.declared.map.MapFault.TheVariants.{Memory as MapMemory}
+use Rattle.tl_script.specs.declared.sources.SourceFault.{SourceFault}
+use Rattle.tl_script.specs.declared.sources.SourceFault.TheVariants.{Memory as SourceMemory}
 use Rattle.tl_script.specs.declared.fault.ScriptFault.{ScriptFault}
 use Rattle.tl_script.specs.declared.fault.ScriptFault.TheVariants.{Map, Sources, Memory}
 

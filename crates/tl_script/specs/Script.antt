@@ -7,16 +7,20 @@ use Rattle.toml.specs.Data.{Members}
 use Rattle.toml.specs.Parse.{parse_document}
 use Rattle.tl_types.specs.declared.limits.TheConstants.{MAX_SLOTS}
 use Rattle.tl_ops.specs.Store.{Store}
-use Rattle.tl_map.specs.Map.{IsLawfulMap, IsFirstMapFault}
-use Rattle.tl_map.specs.Sources.{AreLawfulCounts, IsFirstSourceFault}
-use Rattle.tl_map.specs.declared.map.MapFault.TheVariants.{Memory as MapMemory}
-use Rattle.tl_map.specs.declared.map.Range.{Range}
-use Rattle.tl_map.specs.declared.sources.SourceFault.TheVariants.{Memory as SourceMemory}
+use Rattle.tl_map.specs.Map.{one_each}
+use Rattle.tl_script.specs.Map.{AreLawfulRanges, IsFirstMapFault}
+use Rattle.tl_map.specs.Blocks.{AreBlocks}
+use Rattle.tl_map.specs.declared.owners.Owner.{Owner}
+use Rattle.tl_script.specs.Sources.{AreLawfulCounts, IsFirstSourceFault}
+use Rattle.tl_script.specs.declared.map.MapFault.TheVariants.{Memory as MapMemory}
+use Rattle.tl_map.specs.declared.range.Range.{Range}
+use Rattle.tl_script.specs.declared.sources.SourceFault.TheVariants.{Memory as SourceMemory}
 use Rattle.tl_script.specs.Master.{ScriptMaster, jobs_from, script_master_view, script_masters}
 use Rattle.tl_script.specs.Port.{script_ports}
 use Rattle.tl_text.specs.Reading.{◌>>=◌}
 use Rattle.tl_script.specs.System.{System, range_of, store_of}
 use Rattle.tl_script.specs.Value.{script_number_at}
+use Rattle.tl_script.specs.declared.operation.Job.{Job}
 use Rattle.tl_script.specs.declared.fault.ScriptKey.TheVariants.{Slots}
 use Rattle.tl_script.specs.declared.fault.ScriptFault.{ScriptFault}
 use Rattle.tl_script.specs.declared.fault.ScriptFault.TheVariants.{TooLong, NotToml, Map, Sources}
@@ -59,30 +63,33 @@ script_ranges parts = map range_of parts.stores
 abbrev pub counts_of : ScriptParts → List ℕ
 counts_of parts = map (λ (master : ScriptMaster). master.sources) parts.masters
 
--- the system of the parts, or the lowest operation of the lowest master that is none
-abbrev pub system_of : ScriptParts → Result System ScriptFault
-system_of parts = jobs_from 0 parts.masters >>= (λ jobs. Ok (record {
+-- the system of the parts with these operations, whose masters have these owners
+abbrev pub system_of : ScriptParts → List Owner → List (List Job) → System
+system_of parts owners jobs = record {
   slots = parts.slots;
   stores = parts.stores;
-  counts = counts_of parts;
-  ranges = script_ranges parts;
+  owners = owners;
+  ranges = one_each (script_ranges parts);
   jobs = jobs;
-}))
+}
 
--- the parts make this system: their ranges make a map, their counts are lawful, and each line is an operation
+-- the parts make this system: their ranges make a map, their counts are lawful, each master has the block of its count,
+-- and each line is an operation
 pub record MakesSystem (parts : ScriptParts) (system : System) : Type 0 where
-  pub ranges : IsLawfulMap (script_ranges parts)
+  pub ranges : AreLawfulRanges (script_ranges parts)
   pub counts : AreLawfulCounts (counts_of parts)
-  pub made : system_of parts ≡ Ok system
+  pub blocks : AreBlocks (counts_of parts) system.owners
+  pub jobs : jobs_from 0 parts.masters ≡ Ok system.jobs
+  pub made : system ≡ system_of parts system.owners system.jobs
 
 -- the first fault of parts that make no system: that of the ranges; if these make a map, that of the counts; and
 -- if these are lawful, the lowest operation that is none
 abbrev pub IsFirstFaultOfScriptParts : ScriptParts → ScriptFault → Type 0
 IsFirstFaultOfScriptParts parts (Map fault) = (fault ≢ MapMemory) × IsFirstMapFault (script_ranges parts) fault
 IsFirstFaultOfScriptParts parts (Sources fault) =
-    IsLawfulMap (script_ranges parts) × (fault ≢ SourceMemory) × IsFirstSourceFault (counts_of parts) fault
+    AreLawfulRanges (script_ranges parts) × (fault ≢ SourceMemory) × IsFirstSourceFault (counts_of parts) fault
 IsFirstFaultOfScriptParts parts fault =
-    IsLawfulMap (script_ranges parts) × AreLawfulCounts (counts_of parts) × (system_of parts ≡ Err fault)
+    AreLawfulRanges (script_ranges parts) × AreLawfulCounts (counts_of parts) × (jobs_from 0 parts.masters ≡ Err fault)
 
 -- ---- scripts
 

@@ -17,10 +17,13 @@ abbrev pub bytes_part : List (Option ℕ) → List ℕ
 bytes_part [] = []
 bytes_part (byte ∷ bytes) = codes " " ++ data_text (byte ∷ bytes)
 
+-- `NAME ADDRESS SIZE`
+abbrev pub target_text : List ℕ → ℕ → ℕ → List ℕ
+target_text name address size = name ++ codes " 0x" ++ digits 16 false address ++ codes " " ++ decimal size
+
 -- `NAME ADDRESS SIZE [DATA]`
 abbrev pub ask_text : Request → List ℕ
-ask_text ask = operation_word ask.op ++ codes " 0x" ++ digits 16 false ask.address ++ codes " " ++ decimal ask.size
-    ++ bytes_part ask.bytes
+ask_text ask = target_text (operation_word ask.op) ask.address ask.size ++ bytes_part ask.bytes
 
 -- `REPLY [denied] [DATA]`
 abbrev pub reply_text : Response → List ℕ
@@ -31,11 +34,18 @@ reply_text reply = reply_word_of reply.op ++ denied_text reply.denied
 unfoldable pub message_text : Request → Response → List ℕ
 message_text ask reply = ask_text ask ++ codes " -> " ++ reply_text reply
 
+-- a master and a source of its own
+abbrev pub origin_text : ℕ → ℕ → List ℕ
+origin_text master source = codes "m" ++ decimal master ++ codes " s" ++ decimal source ++ codes " "
+
+-- the port that served a request, and its place in the port's list
+abbrev pub place_text : ℕ → ℕ → List ℕ
+place_text port index = codes " p" ++ decimal port ++ codes " #" ++ decimal index
+
 -- the line of an entry of a master's trace
 unfoldable pub trace_line : ℕ → Entry → List ℕ
 trace_line master e =
-    codes "m" ++ decimal master ++ codes " s" ++ decimal e.ask.source ++ codes " " ++ message_text e.ask e.reply
-    ++ codes " p" ++ decimal e.port ++ codes " #" ++ decimal e.index ++ 10 ∷ []
+    origin_text master e.ask.source ++ message_text e.ask e.reply ++ place_text e.port e.index ++ 10 ∷ []
 
 -- the lines of one master
 abbrev pub lines_of : ℕ → List Entry → List ℕ

@@ -4,10 +4,11 @@ ghost use Rattle.tl_script.specs.Key.{script_key_name};
 ghost use Rattle.tl_script.specs.Reading.{map_fault, source_fault};
 ghost use Rattle.tl_script.specs.declared.fault.ScriptFault.TheVariants.{Memory};
 
+use crate::map::MapFault;
+use crate::sources::SourceFault;
 use std::alloc::{AllocError, AllocFailed};
 use std::fmt;
 use thiserror::Error;
-use tl_map::{MapFault, SourceFault};
 
 /// A key of a script.
 #[derive(Debug, Clone, Copy, PartialEq, Eq)]

@@ -17,6 +17,7 @@ mod data;
 mod fault;
 mod history;
 pub mod laws;
+mod map;
 mod masters;
 mod operation;
 mod operations;
@@ -24,13 +25,19 @@ mod parts;
 mod ports;
 mod print;
 mod script;
+mod sources;
 mod system;
 mod value;
 
 pub use fault::{ScriptFault, ScriptKey};
 pub use history::{push_account, push_history, write_account, write_history};
+pub use map::{MAX_RANGES, MapFault};
 pub use operation::{Job, read_operation};
 pub use operations::Operations;
-pub use print::{push_ask, push_entry, push_reply, push_trace, push_traces, write_trace};
+pub use print::{
+    push_ask, push_entry, push_origin, push_place, push_reply, push_target, push_trace,
+    push_traces, write_trace,
+};
 pub use script::{MAX_SCRIPT, read_system};
+pub use sources::SourceFault;
 pub use system::{Device, MAX_JOBS, PartsOfSystem, System, banks_of};

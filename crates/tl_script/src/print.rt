@@ -1,9 +1,8 @@
 //! The lines of traces.
-ghost use Rattle.std.specs.Prelude.{◌≡◌, ◌<◌, ◌≤◌, ◌+◌, ◌*◌, ◌++◌, codes, false, length, vec_capacity, vec_len, IfOk, OnErr, OnOk, map, Some};
-ghost use Rattle.std.specs.Fmt.{digit_glyph, digits};
+ghost use Rattle.std.specs.Prelude.{◌≡◌, ◌<◌, ◌≤◌, ◌+◌, ◌*◌, ◌++◌, length, vec_capacity, vec_len, IfOk, OnErr, OnOk, map, Some};
+ghost use Rattle.std.specs.Fmt.{digit_glyph};
 ghost use Rattle.tl_script.specs.Data.{byte_text, data_text};
-ghost use Rattle.tl_text.specs.Name.{operation_word};
-ghost use Rattle.tl_script.specs.Trace.{ask_text, bytes_part, denied_text, lines_of, message_text, reply_text, trace_line, trace_text};
+ghost use Rattle.tl_script.specs.Trace.{ask_text, bytes_part, denied_text, lines_of, message_text, origin_text, place_text, reply_text, target_text, trace_line, trace_text};
 ghost use Rattle.tl_text.specs.Text.{BeginsWith};
 
 use std::alloc::{AllocError, Global};
@@ -73,16 +72,19 @@ fn push_plain(text: &mut Vec<u8>, bytes: &[u8]) -> Result<(), AllocError>
     Ok(())
 }
 
-/// Appends the name of a request's operation and its address.
+/// Appends the word of an operation, an address and a size.
 #[tactic(auto, using(tl_text::proofs::TextLemmas::begins))]
-fn push_target(text: &mut Vec<u8>, ask: &Ask) -> Result<(), AllocError>
-    ensures ok { OnOk result (text.new.items
-        ≡ text.old.items ++ operation_word ask.now.op ++ codes " 0x" ++ digits 16 false ask.now.address) }
+pub fn push_target(text: &mut Vec<u8>, name: &str, address: u64, size: u8) -> Result<(), AllocError>
+    ensures ok { OnOk result (text.new.items ≡ text.old.items ++ target_text name.now address size) }
     ensures err { OnErr result (BeginsWith text.old.items text.new.items) }
+    ensures room { vec_capacity text.old ≤ vec_capacity text.new }
+    ensures full { OnErr result (vec_capacity text.old
+        < length text.old.items + length (target_text name.now address size)) }
 {
-    text.extend_from_slice(word(ask.op()).as_bytes())?;
+    text.extend_from_slice(name.as_bytes())?;
     text.extend_from_slice(b" 0x")?;
-    push_hex(text, ask.address())
+    push_hex(text, address)?;
+    push_field(text, b" ", u64::from(size))
 }
 
 /// Appends a request, as lines spell it.
@@ -91,8 +93,7 @@ pub fn push_ask(text: &mut Vec<u8>, ask: &Ask) -> Result<(), AllocError>
     ensures ok { OnOk result (text.new.items ≡ text.old.items ++ ask_text ask.now) }
     ensures err { OnErr result (BeginsWith text.old.items text.new.items) }
 {
-    push_target(text, ask)?;
-    push_field(text, b" ", u64::from(ask.size()))?;
+    push_target(text, word(ask.op()), ask.address(), ask.size())?;
     push_data(text, ask.bytes())
 }
 
@@ -128,6 +129,27 @@ pub fn push_message(text: &mut Vec<u8>, ask: &Ask, reply: &Reply) -> Result<(), 
     push_reply(text, reply)
 }
 
+/// Appends a master and a source of its own.
+#[tactic(auto, using(tl_text::proofs::TextLemmas::begins))]
+pub fn push_origin(text: &mut Vec<u8>, master: usize, source: u16) -> Result<(), AllocError>
+    ensures ok { OnOk result (text.new.items ≡ text.old.items ++ origin_text master source) }
+    ensures err { OnErr result (BeginsWith text.old.items text.new.items) }
+{
+    push_field(text, b"m", master as u64)?;
+    push_field(text, b" s", u64::from(source))?;
+    text.extend_from_slice(b" ")
+}
+
+/// Appends the port that served a request, and its place in the port's list.
+#[tactic(auto, using(tl_text::proofs::TextLemmas::begins))]
+pub fn push_place(text: &mut Vec<u8>, port: usize, index: usize) -> Result<(), AllocError>
+    ensures ok { OnOk result (text.new.items ≡ text.old.items ++ place_text port index) }
+    ensures err { OnErr result (BeginsWith text.old.items text.new.items) }
+{
+    push_field(text, b" p", port as u64)?;
+    push_field(text, b" #", index as u64)
+}
+
 /// Appends the line of a master's request that a port served as its request of this index, with its reply.
 #[tactic(auto, using(tl_text::proofs::TextLemmas::begins), unfolding(crate::specs::Trace::trace_line))]
 pub fn push_entry(
@@ -147,12 +169,9 @@ pub fn push_entry(
         })) }
     ensures err { OnErr result (BeginsWith text.old.items text.new.items) }
 {
-    push_field(text, b"m", master as u64)?;
-    push_field(text, b" s", u64::from(ask.source()))?;
-    text.push(b' ')?;
+    push_origin(text, master, ask.source())?;
     push_message(text, ask, reply)?;
-    push_field(text, b" p", port as u64)?;
-    push_field(text, b" #", index as u64)?;
+    push_place(text, port, index)?;
     text.push(b'\n')?;
     Ok(())
 }

@@ -8,13 +8,15 @@ ghost use Rattle.tl_script.specs.System.{range_of, store_of};
 ghost use Rattle.tl_script.specs.declared.fault.ScriptFault.TheVariants.{Memory};
 
 use crate::fault::{ScriptFault, ScriptKey};
+use crate::map::map_of;
 use crate::masters::{read_jobs, read_script_masters};
 use crate::parts::{ScriptMaster, ScriptParts};
 use crate::ports::read_script_ports;
+use crate::sources::sources_of;
 use crate::system::{Device, System};
 use crate::value::script_number_at;
 use std::alloc::{AllocError, Global};
-use tl_map::{Map, Range, Sources};
+use tl_map::Range;
 use tl_types::MAX_SLOTS;
 use toml::Table;
 
@@ -88,8 +90,8 @@ fn make_system(alloc: Global, parts: ScriptParts<'_>) -> Result<System, ScriptFa
 {
     let ranges = ranges_of(alloc, &parts.devices)?;
     let counts = counts_of(alloc, &parts.masters)?;
-    let map = Map::new(alloc, &ranges)?;
-    let sources = Sources::new(alloc, &counts)?;
+    let map = map_of(alloc, &ranges)?;
+    let sources = sources_of(alloc, &counts)?;
     let jobs = read_jobs(alloc, &parts.masters)?;
     Ok(System::new(parts.slots, parts.devices, sources, map, jobs))
 }

@@ -1,11 +1,12 @@
 //! Systems: the slaves, masters and operations that a script describes.
 ghost use Rattle.std.specs.Prelude.{◌≡◌, ◌++◌, ◌∷◌, [], All, IfOk, map};
+ghost use Rattle.tl_map.specs.Blocks.{HaveBlocks};
 ghost use Rattle.tl_script.specs.System.{IsLawfulDevice, IsLawfulSystem, error_store, store_of, described};
 
 use crate::operations::Operations;
 use std::alloc::Global;
 use std::marker::Model;
-use tl_map::{Map, Sources};
+use tl_map::{AddressMap, SourceOwners};
 use tl_ops::{Bank, BankFault, Kind};
 use tl_types::Memory;
 
@@ -20,25 +21,26 @@ pub struct Device {
     pub reset: Vec<u8>,
 }
 
-/// What a script describes: slots, a device for each range of the map, and a list of operations for each master.
+/// What a script describes: slots, a device for each port of the map, and a list of operations for each master.
 #[derive(Drop)]
 pub struct System {
     slots: usize,
     devices: Vec<Device>,
-    sources: Sources,
-    map: Map,
+    sources: SourceOwners,
+    map: AddressMap,
     jobs: Vec<Operations>,
 }
 
-/// A system without its slots and operations: a device for each range of the map, and the sources of the masters.
+/// A system without its slots and operations: a device for each port of the map, and the sources of the masters.
 #[derive(Drop)]
 pub struct PartsOfSystem {
     pub devices: Vec<Device>,
-    pub sources: Sources,
-    pub map: Map,
+    pub sources: SourceOwners,
+    pub map: AddressMap,
 }
 
 impl Model for System {
+    ghost use Rattle.tl_map.specs.Blocks.{HaveBlocks};
     ghost use Rattle.tl_script.specs.System.{System as Described, IsLawfulSystem, described};
 
     ghost Value = { Described };
@@ -53,8 +55,8 @@ impl System {
     pub fn new(
         slots: usize,
         devices: Vec<Device>,
-        sources: Sources,
-        map: Map,
+        sources: SourceOwners,
+        map: AddressMap,
         jobs: Vec<Operations>,
     ) -> System
         requires { IsLawfulSystem (described slots devices.items sources map jobs.items) }
@@ -76,7 +78,7 @@ impl System {
         self.slots
     }
 
-    /// The device of each range of the map.
+    /// The device of each port of the map.
     pub fn devices(&self) -> &[Device]
         ensures value { map store_of result.now ≡ self.now.stores }
         ensures lawful { IsLawfulSystem self.now }
@@ -87,14 +89,15 @@ impl System {
     }
 
     /// The sources of the masters.
-    pub fn sources(&self) -> &Sources
-        ensures { result.now ≡ self.now.counts }
+    pub fn sources(&self) -> &SourceOwners
+        ensures value { result.now ≡ self.now.owners }
+        ensures blocks { HaveBlocks result.now }
     {
         &self.sources
     }
 
     /// Which port serves which addresses.
-    pub fn map(&self) -> &Map
+    pub fn map(&self) -> &AddressMap
         ensures { result.now ≡ self.now.ranges }
     {
         &self.map
@@ -111,7 +114,7 @@ impl System {
     /// The system without its slots and operations.
     pub fn into_crossbar(self) -> PartsOfSystem
         ensures devices { map store_of result.devices.items ≡ self.stores }
-        ensures sources { result.sources ≡ self.counts }
+        ensures sources { result.sources ≡ self.owners }
         ensures map { result.map ≡ self.ranges }
         ensures lawful { IsLawfulSystem self }
         ensures banks { All IsLawfulDevice result.devices.items }

@@ -1,14 +1,16 @@
 -- Two serial runs of one system are the same.
-use Rattle.std.proofs.Common.{◌≡◌, ◌∙◌, ℕ, suc, ◌+◌, List, [], ◌∷◌, ◌++◌, length, map, Option, Some, None, IsSomeAnd, slice_get, refl, ap, sym, append_assoc, arith}
+use Rattle.std.proofs.Common.{◌≡◌, ◌∙◌, ℕ, ◌+◌, List, [], ◌∷◌, ◌++◌, length, map, Option, Some, None, IsSomeAnd, slice_get, refl, ap, sym, append_assoc}
 use Rattle.std.proofs.lemmas.List.{map-append, take_at}
 use Rattle.tl_types.specs.Request.{Request}
 use Rattle.tl_types.specs.Response.{Response}
 use Rattle.tl_types.specs.declared.trace.Entry.{Entry}
 use Rattle.tl_ops.specs.Store.{Store, reply}
 use Rattle.tl_ops.specs.History.{replay}
-use Rattle.tl_map.specs.Map.{IsLawfulMap, Routes}
+use Rattle.tl_map.specs.Map.{IsLawfulAddressMap, Routes}
 use Rattle.tl_map.proofs.Routing.{one_port}
-use Rattle.tl_map.proofs.Blocks.{one_wide}
+use Rattle.tl_map.proofs.Kept.{one_wide}
+use Rattle.tl_map.proofs.Place.{same_at_each}
+use Rattle.tl_map.specs.declared.owners.Owner.{Owner}
 use Rattle.tl_script.specs.System.{System, resets}
 use Rattle.tl_serial.specs.Serial.{AreServedInTurn, IsHistoryOf, IsServedAfter, IsWidened, asks_in, at_port, log_from, log_of, numbered, requests_at}
 use Rattle.tl_serial.specs.Exact.{SerialRunOf}
@@ -30,12 +32,13 @@ one_reply : (found : Option Store) (after : Store → Response) (a b : Response)
 one_reply None after a b first second = absurd first
 one_reply (Some reset) after a b first second = first ∙ sym second
 
-module _ (s : System) (lawful : IsLawfulMap s.ranges) where
+module _ (s : System) (lawful : IsLawfulAddressMap s.ranges) where
   one_entry : (log : List (ℕ × Entry)) (a b : Entry) → a.ask ≡ b.ask → IsServedAfter s log a → IsServedAfter s log b
       → a ≡ b
   one_entry log a b ask first second =
       let routed : Routes s.ranges b.ask a.port = rw ask at first.port in
-      let port : a.port ≡ b.port = one_port s.ranges lawful b.ask a.port b.port routed second.port in
+      let port : a.port ≡ b.port =
+      one_port s.ranges lawful b.ask.address b.ask.size a.port b.port routed second.port in
       let index : a.index ≡ b.index = first.index ∙ ap (λ (p : ℕ). length (at_port p log)) port ∙ sym second.index in
       let answered : IsSomeAnd (slice_get (resets s) b.port)
       (λ reset. a.reply ≡ reply (replay reset (requests_at b.port log)) b.ask) = rw (port, ask) at first.reply in
@@ -57,7 +60,7 @@ seam : {A : Type 0} (xs : List A) (y : A) (ys : List A) → slice_get (xs ++ y �
 seam [] y ys = refl
 seam (x ∷ xs) y ys = seam xs y ys
 
-module _ (s : System) (lawful : IsLawfulMap s.ranges) where
+module _ (s : System) (lawful : IsLawfulAddressMap s.ranges) where
   -- the entry after these is served after them
   served_next : (before : List (ℕ × Entry)) (e : ℕ × Entry) (behind : List (ℕ × Entry))
       → AreServedInTurn s (before ++ e ∷ behind) → IsServedAfter s before e.1
@@ -147,42 +150,31 @@ one_traces m (x ∷ one) (y ∷ other) asked same =
 
 -- ---- histories
 
-one_pair : (counts : List ℕ) (e : ℕ × Entry) (a b : Request × Response) → IsWidened counts e a → IsWidened counts e b
+one_pair : (owners : List Owner) (e : ℕ × Entry) (a b : Request × Response) → IsWidened owners e a → IsWidened owners e b
     → a ≡ b
-one_pair counts e a b first second =
+one_pair owners e a b first second =
     let wide : first.wide ≡ second.wide =
-    one_wide counts e.0 e.1.ask.source first.wide second.wide first.is second.is in
+    one_wide owners e.0 e.1.ask.source first.wide second.wide first.is second.is in
     let asks : a.0 ≡ b.0 =
     first.ask ∙ ap (λ (w : ℕ). let q : Request = record e.1.ask { source = w } in q) wide ∙ sym second.ask in
     let replies : a.1 ≡ b.1 =
     first.reply ∙ ap (λ (w : ℕ). let r : Response = record e.1.reply { source = w } in r) wide ∙ sym second.reply in
     same_pair a b asks replies
 
-one_history : (counts : List ℕ) (entries : List (ℕ × Entry)) (a b : List (Request × Response))
-    → IsHistoryOf counts entries a → IsHistoryOf counts entries b → a ≡ b
-one_history counts [] [] [] first second = refl
-one_history counts [] (x ∷ a) b first second = absurd first
-one_history counts [] [] (y ∷ b) first second = absurd second
-one_history counts (e ∷ entries) [] b first second = absurd first
-one_history counts (e ∷ entries) (x ∷ a) [] first second = absurd second
-one_history counts (e ∷ entries) (x ∷ a) (y ∷ b) first second =
-    ap (λ (p : Request × Response). p ∷ a) (one_pair counts e x y first.0 second.0)
-    ∙ ap (λ (ps : List (Request × Response)). y ∷ ps) (one_history counts entries a b first.1 second.1)
-
--- lists that are equal at each place
-same_at_each : {A : Type 0} (one other : List A) → length one ≡ length other
-    → ((k : ℕ) (a b : A) → slice_get one k ≡ Some a → slice_get other k ≡ Some b → a ≡ b) → one ≡ other
-same_at_each [] [] long each = refl
-same_at_each [] (y ∷ other) long each = absurd (omega arith)
-same_at_each (x ∷ one) [] long each = absurd (omega arith)
-same_at_each {A} (x ∷ one) (y ∷ other) long each =
-    ap (λ (a : A). a ∷ one) (each 0 x y refl refl)
-    ∙ ap (λ (rest : List A). y ∷ rest) (same_at_each one other (omega arith)
-    (λ k a b first second. each (suc k) a b first second))
+one_history : (owners : List Owner) (entries : List (ℕ × Entry)) (a b : List (Request × Response))
+    → IsHistoryOf owners entries a → IsHistoryOf owners entries b → a ≡ b
+one_history owners [] [] [] first second = refl
+one_history owners [] (x ∷ a) b first second = absurd first
+one_history owners [] [] (y ∷ b) first second = absurd second
+one_history owners (e ∷ entries) [] b first second = absurd first
+one_history owners (e ∷ entries) (x ∷ a) [] first second = absurd second
+one_history owners (e ∷ entries) (x ∷ a) (y ∷ b) first second =
+    ap (λ (p : Request × Response). p ∷ a) (one_pair owners e x y first.0 second.0)
+    ∙ ap (λ (ps : List (Request × Response)). y ∷ ps) (one_history owners entries a b first.1 second.1)
 
 -- ---- the run
 
-module _ (s : System) (lawful : IsLawfulMap s.ranges) (one other : SerialRunOf s) where
+module _ (s : System) (lawful : IsLawfulAddressMap s.ranges) (one other : SerialRunOf s) where
   asked : map asks_in one.traces ≡ map asks_in other.traces
   asked = one.is.asked ∙ sym other.is.asked
 
@@ -196,5 +188,5 @@ module _ (s : System) (lawful : IsLawfulMap s.ranges) (one other : SerialRunOf s
   pub histories_same : one.histories ≡ other.histories
   histories_same =
       same_at_each one.histories other.histories (one.is.ports ∙ sym other.is.ports)
-      (λ p a b first second. one_history s.counts (at_port p (log_of other.traces)) a b
+      (λ p a b first second. one_history s.owners (at_port p (log_of other.traces)) a b
       (rw same_log at (one.is.recorded p a first)) (other.is.recorded p b second))

@@ -5,8 +5,11 @@ use Rattle.std.proofs.lemmas.List.{append-nil, take_more, map-append}
 use Rattle.std.proofs.lemmas.List.Concat.{flat_map-append}
 use Rattle.std.proofs.lemmas.List.Elements.{filter_map-append, All-head, All-tail}
 use Rattle.std.proofs.lemmas.Option.{slice_get-get_or, slice_get_within, get_or_from_slice_get}
+use Rattle.std.proofs.lemmas.List.{length-map}
 use Rattle.tl_types.specs.Request.{Request}
 use Rattle.tl_types.specs.declared.trace.Entry.{Entry}
+use Rattle.tl_map.specs.declared.owners.Owner.{Owner}
+use Rattle.tl_map.specs.Blocks.{counts_in}
 use Rattle.tl_script.specs.System.{IsLawfulSystem, System, sent_by, sends}
 use Rattle.tl_script.specs.declared.operation.Job.{Job}
 use Rattle.tl_script.specs.declared.operation.Job.TheVariants.{Wait, Send}
@@ -61,11 +64,12 @@ some_sent (Some n) jobs i ask at all = sent_has (λ (a : Request). a.source < n)
 -- a master's operations are from sources that it has
 pub sources_are : (s : System) (m : ℕ) (jobs : List Job) → IsLawfulSystem s → m < length s.jobs
     → slice_get s.jobs m ≡ Some jobs
-    → IsSomeAnd (slice_get s.counts m) (λ count. All (λ (ask : Request). ask.source < count) (sends jobs))
+    → IsSomeAnd (slice_get (counts_in s.owners) m) (λ count. All (λ (ask : Request). ask.source < count) (sends jobs))
 sources_are s m jobs lawful within at =
-    let count : slice_get s.counts m ≡ Some (get_or s.counts m 0) =
-    slice_get-get_or s.counts m 0 (omega (arith, within, lawful.lists)) in
-    rw count (lawful.jobs m (get_or s.counts m 0) jobs count at).sources
+    let counted = length-map s.owners (λ (owner : Owner). owner.count) in
+    let count : slice_get (counts_in s.owners) m ≡ Some (get_or (counts_in s.owners) m 0) =
+    slice_get-get_or (counts_in s.owners) m 0 (omega (arith, within, lawful.lists, counted)) in
+    rw count (lawful.jobs m (get_or (counts_in s.owners) m 0) jobs count at).sources
 
 -- a master's trace more
 log_from-push : (master : ℕ) (traces : List (List Entry)) (entries : List Entry)

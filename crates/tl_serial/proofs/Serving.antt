@@ -1,5 +1,5 @@
 -- A request more is served: what the entries, the banks and the histories are then.
-use Rattle.std.proofs.Common.{◌≡◌, ◌∙◌, ℕ, zero, suc, ◌+◌, ◌<◌, inl, inr, ⊎_elim, Bool, true, false, cond, eqb, List, [], ◌∷◌, ◌++◌, length, take, take_all, map, set, Option, Some, None, option_map, unwrap_or, All, length-append, IsSomeAnd, slice_get, refl, ap, sym, arith}
+use Rattle.std.proofs.Common.{◌≡◌, ◌∙◌, ℕ, zero, suc, ◌+◌, ⊎_elim, Bool, true, false, cond, eqb, List, [], ◌∷◌, ◌++◌, length, take, take_all, map, set, Option, Some, None, option_map, unwrap_or, All, length-append, IsSomeAnd, slice_get, refl, ap, sym, arith}
 use Rattle.std.proofs.lemmas.Bool.{eq-eqb}
 use Rattle.std.proofs.lemmas.Bool.Decides.{eqb_tells}
 use Rattle.std.proofs.lemmas.List.{append-nil, take-append-le, take_at, length-set, length-map, map-append}
@@ -13,10 +13,10 @@ use Rattle.tl_ops.specs.Store.{Store, after, reply}
 use Rattle.tl_ops.specs.History.{replay}
 use Rattle.tl_ops.proofs.Histories.{replay-append}
 use Rattle.tl_map.specs.Map.{Routes}
-use Rattle.tl_map.specs.Range.{HoldsAsk}
-use Rattle.tl_map.specs.declared.map.Range.{Range}
-use Rattle.tl_map.specs.Block.{IsWide}
-use Rattle.tl_script.specs.System.{System, IsLawfulSystem, range_of, sends}
+use Rattle.tl_map.specs.Owner.{IsWideSource}
+use Rattle.tl_map.specs.declared.owners.Owner.{Owner}
+use Rattle.tl_script.specs.System.{System, IsLawfulSystem, sends}
+use Rattle.tl_script.proofs.Banks.{ports_counted}
 use Rattle.tl_script.specs.Trace.{trace_text}
 use Rattle.tl_serial.specs.Serial.{at_port, requests_at, log_of, IsServedAfter, AreServedInTurn, IsWidened, IsHistoryOf}
 use Rattle.tl_script.specs.System.{error_store, resets}
@@ -29,40 +29,30 @@ some_and : {A : Type 0} {P Q : A → Type 0} (o : Option A) → ((x : A) → P x
 some_and None f p = p
 some_and (Some x) f p = f x p
 
--- a request goes to one of the ports
-pub routed_in_range : (ranges : List Range) (ask : Request) (port : ℕ) → Routes ranges ask port
-    → port < length ranges + 1
-routed_in_range ranges ask port (inl held) = within (slice_get ranges port) refl held where
-  within : (found : Option Range) → slice_get ranges port ≡ found → IsSomeAnd found (λ range. HoldsAsk range ask)
-      → port < length ranges + 1
-  within None is held = absurd held
-  within (Some range) is held = let below = slice_get_within ranges port range is in omega (arith, below)
-routed_in_range ranges ask port (inr none) = omega (arith, none.0)
-
 -- ---- histories
 
-history_more : (counts : List ℕ) (entries : List (ℕ × Entry)) (history : List (Request × Response)) (e : ℕ × Entry)
+history_more : (owners : List Owner) (entries : List (ℕ × Entry)) (history : List (Request × Response)) (e : ℕ × Entry)
     (pair : Request × Response)
-    → IsHistoryOf counts entries history → IsWidened counts e pair
-    → IsHistoryOf counts (entries ++ e ∷ []) (history ++ pair ∷ [])
-history_more counts [] [] e pair h more = (more, tt)
-history_more counts [] (p ∷ history) e pair h more = absurd h
-history_more counts (x ∷ entries) [] e pair h more = absurd h
-history_more counts (x ∷ entries) (p ∷ history) e pair h more =
-    (h.0, history_more counts entries history e pair h.1 more)
+    → IsHistoryOf owners entries history → IsWidened owners e pair
+    → IsHistoryOf owners (entries ++ e ∷ []) (history ++ pair ∷ [])
+history_more owners [] [] e pair h more = (more, tt)
+history_more owners [] (p ∷ history) e pair h more = absurd h
+history_more owners (x ∷ entries) [] e pair h more = absurd h
+history_more owners (x ∷ entries) (p ∷ history) e pair h more =
+    (h.0, history_more owners entries history e pair h.1 more)
 
 -- what is kept grows likewise
-kept_more : (kept : Option (List (Request × Response))) (counts : List ℕ) (entries : List (ℕ × Entry)) (e : ℕ × Entry)
+kept_more : (kept : Option (List (Request × Response))) (owners : List Owner) (entries : List (ℕ × Entry)) (e : ℕ × Entry)
     (pair : Request × Response)
-    → IsSomeAnd kept (IsHistoryOf counts entries) → IsWidened counts e pair
-    → IsSomeAnd (option_map (λ h. h ++ pair ∷ []) kept) (IsHistoryOf counts (entries ++ e ∷ []))
-kept_more None counts entries e pair h more = h
-kept_more (Some history) counts entries e pair h more = history_more counts entries history e pair h more
+    → IsSomeAnd kept (IsHistoryOf owners entries) → IsWidened owners e pair
+    → IsSomeAnd (option_map (λ h. h ++ pair ∷ []) kept) (IsHistoryOf owners (entries ++ e ∷ []))
+kept_more None owners entries e pair h more = h
+kept_more (Some history) owners entries e pair h more = history_more owners entries history e pair h more
 
-wide_more : (counts : List ℕ) (log : List (ℕ × Entry)) (e : ℕ × Entry) → HaveWide counts log
-    → ((wide : ℕ) × IsWide counts e.0 e.1.ask.source wide) → HaveWide counts (log ++ e ∷ [])
-wide_more counts [] e have more = (more, tt)
-wide_more counts (x ∷ log) e have more = (have.0, wide_more counts log e have.1 more)
+wide_more : (owners : List Owner) (log : List (ℕ × Entry)) (e : ℕ × Entry) → HaveWide owners log
+    → ((wide : ℕ) × IsWideSource owners e.0 e.1.ask.source wide) → HaveWide owners (log ++ e ∷ [])
+wide_more owners [] e have more = (more, tt)
+wide_more owners (x ∷ log) e have more = (have.0, wide_more owners log e have.1 more)
 
 -- ---- what a port served
 
@@ -109,7 +99,7 @@ module _ (s : System) (keeps : Bool) (log : List (ℕ × Entry)) (slaves : List 
     (bank : bank_of new ≡ after (bank_of old) e.ask)
     (history : kept_by new ≡ option_map (λ h. h
     ++ (record e.ask { source = wide }, record e.reply { source = wide }) ∷ []) (kept_by old))
-    (widened : IsWide s.counts m e.ask.source wide) where
+    (widened : IsWideSource s.owners m e.ask.source wide) where
   served : HasServed s keeps log e.port old
   served = stand.each e.port old was
 
@@ -131,7 +121,7 @@ module _ (s : System) (keeps : Bool) (log : List (ℕ × Entry)) (slaves : List 
     served = counted ∙ ap (λ (n : ℕ). n + 1) served.served
         ∙ sym (ap length (at_port-same log m e) ∙ length-append (at_port e.port log) ((m, e) ∷ []));
     history = λ kept. rw (history, at_port-same log m e)
-        (kept_more (kept_by old) s.counts (at_port e.port log) (m, e)
+        (kept_more (kept_by old) s.owners (at_port e.port log) (m, e)
         (record e.ask { source = wide }, record e.reply { source = wide }) (served.history kept)
         (record { wide = wide; is = widened; ask = refl; reply = refl }));
   }
@@ -150,7 +140,7 @@ module _ (s : System) (keeps : Bool) (log : List (ℕ × Entry)) (slaves : List 
   stand_more = record {
     ports = length-set slaves e.port new ∙ stand.ports;
     served = in_turn_more s log m e stand.served entry_is;
-    wide = wide_more s.counts log (m, e) stand.wide (wide, widened);
+    wide = wide_more s.owners log (m, e) stand.wide (wide, widened);
     each = λ port slave at. ⊎_elim
         (λ same.
         let there : slice_get (set slaves e.port new) e.port ≡ Some slave =
@@ -192,7 +182,7 @@ module _ (s : System) (keeps : Bool) (slaves : List Slave) (lawful : IsLawfulSys
     ports =
         let all : length slaves ≡ length s.stores + 1 =
         sym (length-map slaves bank_of) ∙ ap length banks ∙ length-append s.stores (error_store ∷ []) in
-        let ranges : length s.stores ≡ length s.ranges = sym (length-map s.stores range_of) ∙ ap length lawful.ranges in
+        let ranges = ports_counted s lawful in
         omega (arith, all, ranges);
     served = λ k e at. absurd (cc);
     wide = tt;
@@ -205,17 +195,17 @@ module _ (s : System) (keeps : Bool) (slaves : List Slave) (lawful : IsLawfulSys
 pub histories_are : (s : System) (log : List (ℕ × Entry)) (slaves : List Slave)
     (histories : List (List (Request × Response))) → Stand s true log slaves → histories ≡ map history_of slaves
     → (p : ℕ) (history : List (Request × Response)) → slice_get histories p ≡ Some history
-    → IsHistoryOf s.counts (at_port p log) history
+    → IsHistoryOf s.owners (at_port p log) history
 histories_are s log slaves histories stand are p history at =
     by_slave (slice_get slaves p) refl (sym (slice_get-map history_of slaves p)
     ∙ ap (λ (hs : List (List (Request × Response))). slice_get hs p) (sym are) ∙ at) where
-      kept_is : (kept : Option (List (Request × Response))) → IsSomeAnd kept (IsHistoryOf s.counts (at_port p log))
-          → unwrap_or kept [] ≡ history → IsHistoryOf s.counts (at_port p log) history
+      kept_is : (kept : Option (List (Request × Response))) → IsSomeAnd kept (IsHistoryOf s.owners (at_port p log))
+          → unwrap_or kept [] ≡ history → IsHistoryOf s.owners (at_port p log) history
       kept_is None h same = absurd h
       kept_is (Some found) h same = rw (← same) h
 
       by_slave : (found : Option Slave) → slice_get slaves p ≡ found → option_map history_of found ≡ Some history
-          → IsHistoryOf s.counts (at_port p log) history
+          → IsHistoryOf s.owners (at_port p log) history
       by_slave None is none = absurd (cc)
       by_slave (Some slave) is here =
           let same : history_of slave ≡ history = cc in
@@ -224,37 +214,37 @@ histories_are s log slaves histories stand are p history at =
 -- ---- histories that nobody kept
 
 -- one entry more, at this port or at another
-history_with : (counts : List ℕ) (e : ℕ × Entry) (here : Bool) (entries : List (ℕ × Entry))
-    → ((wide : ℕ) × IsWide counts e.0 e.1.ask.source wide)
-    → ((history : List (Request × Response)) × IsHistoryOf counts entries history)
-    → (history : List (Request × Response)) × IsHistoryOf counts (cond here (e ∷ entries) entries) history
-history_with counts e true entries (wide, is) (history, of) = (
+history_with : (owners : List Owner) (e : ℕ × Entry) (here : Bool) (entries : List (ℕ × Entry))
+    → ((wide : ℕ) × IsWideSource owners e.0 e.1.ask.source wide)
+    → ((history : List (Request × Response)) × IsHistoryOf owners entries history)
+    → (history : List (Request × Response)) × IsHistoryOf owners (cond here (e ∷ entries) entries) history
+history_with owners e true entries (wide, is) (history, of) = (
   (record e.1.ask { source = wide }, record e.1.reply { source = wide })
       ∷ history,
   (record { wide = wide; is = is; ask = refl; reply = refl }, of),
 )
-history_with counts e false entries has rest = rest
+history_with owners e false entries has rest = rest
 
 -- entries with wide sources have a history at each port
-history_there : (counts : List ℕ) (port : ℕ) (log : List (ℕ × Entry)) → HaveWide counts log
-    → (history : List (Request × Response)) × IsHistoryOf counts (at_port port log) history
-history_there counts port [] have = ([], tt)
-history_there counts port (e ∷ log) have =
-    history_with counts e (eqb e.1.port port) (at_port port log) have.0 (history_there counts port log have.1)
+history_there : (owners : List Owner) (port : ℕ) (log : List (ℕ × Entry)) → HaveWide owners log
+    → (history : List (Request × Response)) × IsHistoryOf owners (at_port port log) history
+history_there owners port [] have = ([], tt)
+history_there owners port (e ∷ log) have =
+    history_with owners e (eqb e.1.port port) (at_port port log) have.0 (history_there owners port log have.1)
 
 -- a list of such histories, one for each of this many ports
-record HistoriesOf (counts : List ℕ) (log : List (ℕ × Entry)) (ports : ℕ) : Type 0 where
+record HistoriesOf (owners : List Owner) (log : List (ℕ × Entry)) (ports : ℕ) : Type 0 where
   pub histories : List (List (Request × Response))
   pub counted : length histories ≡ ports
   pub each : (p : ℕ) (history : List (Request × Response)) → slice_get histories p ≡ Some history
-      → IsHistoryOf counts (at_port p log) history
+      → IsHistoryOf owners (at_port p log) history
 
-histories_there : (counts : List ℕ) (log : List (ℕ × Entry)) (ports : ℕ) → HaveWide counts log
-    → HistoriesOf counts log ports
-histories_there counts log zero have = record { histories = []; counted = refl; each = λ p history at. absurd (cc) }
-histories_there counts log (suc ports) have =
-    let before = histories_there counts log ports have in
-    let last = history_there counts ports log have in
+histories_there : (owners : List Owner) (log : List (ℕ × Entry)) (ports : ℕ) → HaveWide owners log
+    → HistoriesOf owners log ports
+histories_there owners log zero have = record { histories = []; counted = refl; each = λ p history at. absurd (cc) }
+histories_there owners log (suc ports) have =
+    let before = histories_there owners log ports have in
+    let last = history_there owners ports log have in
     record {
       histories = before.histories ++ last.0 ∷ [];
       counted = length-append before.histories (last.0 ∷ []) ∙ ap (λ (n : ℕ). n + 1) before.counted ∙ omega arith;
@@ -268,7 +258,7 @@ pub serial_text_is : (s : System) (keeps : Bool) (old new : List Slave) (text : 
     → AreWritten s old new text (length s.jobs) → IsSerialText false s text
 serial_text_is s keeps old new text start written =
     let stand = written.stands keeps start in
-    let there = histories_there s.counts (log_of written.traces) (length s.ranges + 1) stand.wide in
+    let there = histories_there s.owners (log_of written.traces) (length s.ranges + 1) stand.wide in
     record {
       traces = written.traces;
       histories = there.histories;

@@ -7,7 +7,8 @@ use Rattle.tl_types.specs.declared.trace.Entry.{Entry}
 use Rattle.tl_ops.specs.Store.{reply}
 use Rattle.tl_ops.specs.History.{replay}
 use Rattle.tl_map.specs.Map.{Routes}
-use Rattle.tl_map.specs.Block.{IsWide}
+use Rattle.tl_map.specs.Owner.{IsWideSource}
+use Rattle.tl_map.specs.declared.owners.Owner.{Owner}
 use Rattle.tl_script.specs.System.{System, sends, resets}
 
 -- ---- the entries of a run, in the order served
@@ -50,18 +51,18 @@ AreServedInTurn s log = (k : ℕ) (e : ℕ × Entry) → slice_get log k ≡ Som
 -- ---- histories
 
 -- a request and its reply are a master's entry with the wide source in place of the master's own
-pub record IsWidened (counts : List ℕ) (e : ℕ × Entry) (pair : Request × Response) : Type 0 where
+pub record IsWidened (owners : List Owner) (e : ℕ × Entry) (pair : Request × Response) : Type 0 where
   pub wide : ℕ
-  pub is : IsWide counts e.0 e.1.ask.source wide
+  pub is : IsWideSource owners e.0 e.1.ask.source wide
   pub ask : pair.0 ≡ record e.1.ask { source = wide }
   pub reply : pair.1 ≡ record e.1.reply { source = wide }
 
 -- the history is these entries, one by one, with wide sources
-abbrev pub IsHistoryOf : List ℕ → List (ℕ × Entry) → List (Request × Response) → Type 0
-IsHistoryOf counts [] [] = Unit {0}
-IsHistoryOf counts [] (pair ∷ history) = ⊥
-IsHistoryOf counts (e ∷ entries) [] = ⊥
-IsHistoryOf counts (e ∷ entries) (pair ∷ history) = IsWidened counts e pair × IsHistoryOf counts entries history
+abbrev pub IsHistoryOf : List Owner → List (ℕ × Entry) → List (Request × Response) → Type 0
+IsHistoryOf owners [] [] = Unit {0}
+IsHistoryOf owners [] (pair ∷ history) = ⊥
+IsHistoryOf owners (e ∷ entries) [] = ⊥
+IsHistoryOf owners (e ∷ entries) (pair ∷ history) = IsWidened owners e pair × IsHistoryOf owners entries history
 
 -- ---- the run
 
@@ -77,4 +78,4 @@ pub record IsSerialRun (s : System) (traces : List (List Entry))
   pub served : AreServedInTurn s (log_of traces)
   pub ports : length histories ≡ length s.ranges + 1
   pub recorded : (p : ℕ) (history : List (Request × Response)) → slice_get histories p ≡ Some history
-      → IsHistoryOf s.counts (at_port p (log_of traces)) history
+      → IsHistoryOf s.owners (at_port p (log_of traces)) history

@@ -1,11 +1,12 @@
 -- Where the slaves of a system stand after a list of entries. This project's own.
 use Rattle.std.specs.Prelude.{◌≡◌, ℕ, ◌+◌, Bool, true, List, [], ◌∷◌, ◌++◌, length, Option, Some, option_map, unwrap_or, slice_get, IsSomeAnd, map, take}
-use Rattle.tl_map.specs.Block.{IsWide}
+use Rattle.tl_map.specs.Owner.{IsWideSource}
 use Rattle.tl_types.specs.declared.trace.Entry.{Entry}
 use Rattle.tl_types.specs.Request.{Request}
 use Rattle.tl_types.specs.Response.{Response}
 use Rattle.tl_ops.specs.Store.{Store}
 use Rattle.tl_ops.specs.History.{replay}
+use Rattle.tl_map.specs.declared.owners.Owner.{Owner}
 use Rattle.tl_script.specs.System.{System, sends}
 use Rattle.tl_script.specs.Trace.{lines_of, trace_text}
 use Rattle.tl_serial.specs.Serial.{requests_at, at_port, asks_in, log_of, numbered, AreServedInTurn, IsHistoryOf}
@@ -39,18 +40,18 @@ pub record IsFresh (keeps : Bool) (slave : Slave) : Type 0 where
 pub record HasServed (s : System) (keeps : Bool) (log : List (ℕ × Entry)) (port : ℕ) (slave : Slave) : Type 0 where
   pub bank : IsSomeAnd (slice_get (resets s) port) (λ reset. bank_of slave ≡ replay reset (requests_at port log))
   pub served : count_of slave ≡ length (at_port port log)
-  pub history : keeps ≡ true → IsSomeAnd (kept_by slave) (IsHistoryOf s.counts (at_port port log))
+  pub history : keeps ≡ true → IsSomeAnd (kept_by slave) (IsHistoryOf s.owners (at_port port log))
 
 -- each entry's source has a wide one
-abbrev pub HaveWide : List ℕ → List (ℕ × Entry) → Type 0
-HaveWide counts [] = Unit {0}
-HaveWide counts (e ∷ log) = ((wide : ℕ) × IsWide counts e.0 e.1.ask.source wide) × HaveWide counts log
+abbrev pub HaveWide : List Owner → List (ℕ × Entry) → Type 0
+HaveWide owners [] = Unit {0}
+HaveWide owners (e ∷ log) = ((wide : ℕ) × IsWideSource owners e.0 e.1.ask.source wide) × HaveWide owners log
 
 -- the slaves of a system after these entries, which were served in turn
 pub record Stand (s : System) (keeps : Bool) (log : List (ℕ × Entry)) (slaves : List Slave) : Type 0 where
   pub ports : length slaves ≡ length s.ranges + 1
   pub served : AreServedInTurn s log
-  pub wide : HaveWide s.counts log
+  pub wide : HaveWide s.owners log
   pub each : (port : ℕ) (slave : Slave) → slice_get slaves port ≡ Some slave → HasServed s keeps log port slave
 
 -- a master's operations took the slaves from the ones to the others, and the lines of its entries were put after the

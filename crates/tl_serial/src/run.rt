@@ -4,6 +4,7 @@ ghost use Rattle.tl_types.specs.declared.trace.Entry.{Entry};
 ghost use Rattle.tl_journal.specs.Journal.{pairs_in};
 ghost use Rattle.tl_journal.specs.Trace.{entries_in, served_entry};
 ghost use Rattle.tl_ops.specs.Store.{after, reply};
+ghost use Rattle.tl_map.specs.Blocks.{counts_in};
 ghost use Rattle.tl_script.specs.System.{System, IsLawfulDevice, sends, store_of, error_store};
 ghost use Rattle.tl_serial.specs.Serial.{IsSerialRun, numbered, asks_in, log_of};
 ghost use Rattle.tl_serial.specs.Slave.{Stand, IsFresh, bank_of, count_of, history_of, kept_by};
@@ -63,7 +64,7 @@ pub(crate) fn send(
     answer: &mut Reply,
 ) -> Result<Place, Memory>
     requires ready { length slaves.old ≡ length system.now.ranges + 1 }
-    requires source { IsSomeAnd (slice_get system.now.counts master)
+    requires source { IsSomeAnd (slice_get (counts_in system.now.owners) master)
         (λ count. ask.now.source < count) }
     ensures source { OnOk result (answer.new.source ≡ ask.now.source) }
     ensures stands { IfOk result (λ place. (keeps : Bool) (log : List (ℕ × Entry))
@@ -85,7 +86,7 @@ fn run_master(
     jobs: &Operations,
 ) -> Result<Trace, Memory>
     requires ready { length slaves.old ≡ length system.now.ranges + 1 }
-    requires source { IsSomeAnd (slice_get system.now.counts master)
+    requires source { IsSomeAnd (slice_get (counts_in system.now.owners) master)
         (λ count. All (λ ask. ask.source < count) (sends jobs.now)) }
     ensures asked { IfOk result (λ trace. asks_in trace.items ≡ sends jobs.now) }
     ensures stands { IfOk result (λ trace. (keeps : Bool) (log : List (ℕ × Entry))

@@ -1,6 +1,7 @@
 //! The text of the run of a system by one thread.
 ghost use Rattle.std.specs.Prelude.{◌≡◌, ◌+◌, ◌++◌, ◌<◌, All, length, IfOk, IsSomeAnd, OnOk, false, slice_get};
 ghost use Rattle.tl_journal.specs.Journal.{pairs_in};
+ghost use Rattle.tl_map.specs.Blocks.{counts_in};
 ghost use Rattle.tl_script.specs.System.{sends};
 ghost use Rattle.tl_serial.specs.Text.{histories_text, IsSerialText};
 ghost use Rattle.tl_serial.specs.Slave.{AreWritten, IsAppended};
@@ -21,7 +22,7 @@ fn write_master(
     jobs: &Operations,
 ) -> Result<(), Memory>
     requires ready { length slaves.old ≡ length system.now.ranges + 1 }
-    requires source { IsSomeAnd (slice_get system.now.counts master)
+    requires source { IsSomeAnd (slice_get (counts_in system.now.owners) master)
         (λ count. All (λ ask. ask.source < count) (sends jobs.now)) }
     ensures { OnOk result (IsAppended system.now master jobs.now slaves.old slaves.new
         text.old.items text.new.items) }

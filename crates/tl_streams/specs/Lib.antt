@@ -1,3 +1,2 @@
 pub mod Streams
 pub mod Input
-pub mod Ends

@@ -7,19 +7,15 @@
 //! that are tried again since they were interrupted): so whatever a stream does, they end. [`NamedFile`] is a file that is
 //! opened when it is read.
 //!
-//! [`fail`], [`no_memory`], [`unread`] and [`refused`] end a program that has a fault, with its line and its status.
-//!
-//! The programs `tlx`, `tlcheck` and `tlvcd` read, write and end through this. Read on in `docs/PROVED.md`.
+//! The programs `tlx`, `tlcheck` and `tlvcd` read and write through this. Read on in `docs/PROVED.md`.
 #![tactic(auto)]
 
-mod ends;
 mod file;
 mod input;
 pub mod laws;
 mod limited;
 mod streams;
 
-pub use ends::{fail, line_status, no_memory, refused, unread};
 pub use file::NamedFile;
 pub use input::{InputFault, read_whole_system};
 pub use limited::{LimitedReader, LimitedWriter, READS, RETRIES};

@@ -1,15 +1,17 @@
 -- How many requests go to each port, from request to request and from master to master.
 use Rattle.std.proofs.Common.{◌≡◌, ℕ, zero, suc, ◌+◌, ◌*◌, ◌^◌, ◌<◌, ◌≤◌, ◌∙◌, List, [], ◌∷◌, ◌++◌, length, take, replicate, get_or, slice_get, set, cond, eqb, Some, refl, sym, ap, subst, arith, length-append, length-set, eq-eqb}
 use Rattle.std.proofs.lemmas.Bool.{ne_eqb}
-use Rattle.std.proofs.lemmas.List.{append-nil, take_more, flat_map_more, take_all, take-append-le, length-replicate}
+use Rattle.std.proofs.lemmas.List.{append-nil, length-map, take_more, flat_map_more, take_all, take-append-le, length-replicate}
 use Rattle.std.proofs.lemmas.List.Sums.{sum_by-append, count_by-le-length}
 use Rattle.std.proofs.lemmas.Option.{slice_get_within, slice_get-get_or, get_or_from_slice_get}
 use mathlib.Core.Logic.{dite}
 use native.Mathlib.Decide.{ℕ_discrete}
 use Rattle.tl_types.specs.Request.{Request}
 use Rattle.tl_types.proofs.Lists.{slice_get-set_same, slice_get-set_other}
-use Rattle.tl_map.specs.declared.map.Range.{Range}
+use Rattle.tl_map.specs.declared.range.Range.{Range}
 use Rattle.tl_map.specs.Map.{Routes}
+use Rattle.tl_map.specs.Blocks.{counts_in}
+use Rattle.tl_map.specs.declared.owners.Owner.{Owner}
 use Rattle.tl_script.specs.declared.operation.Job.{Job}
 use Rattle.tl_script.specs.declared.operation.Job.TheVariants.{Wait, Send}
 use Rattle.tl_types.specs.declared.limits.TheConstants.{MAX_MASTERS}
@@ -24,14 +26,14 @@ use Rattle.tl_port.specs.Book.{BookView, new_book}
 
 -- ---- the ports of requests
 
-ports_many : (ranges : List Range) (asks : List Request) (ports : List ℕ) → ArePortsOf ranges asks ports
+ports_many : (ranges : List (List Range)) (asks : List Request) (ports : List ℕ) → ArePortsOf ranges asks ports
     → length ports ≡ length asks
 ports_many ranges [] [] are = refl
 ports_many ranges [] (p ∷ ports) are = absurd are
 ports_many ranges (a ∷ asks) [] are = absurd are
 ports_many ranges (a ∷ asks) (p ∷ ports) are = ap suc (ports_many ranges asks ports are.1)
 
-ports_then : (ranges : List Range) (xs ys : List Request) (ps qs : List ℕ) → ArePortsOf ranges xs ps
+ports_then : (ranges : List (List Range)) (xs ys : List Request) (ps qs : List ℕ) → ArePortsOf ranges xs ps
     → ArePortsOf ranges ys qs → ArePortsOf ranges (xs ++ ys) (ps ++ qs)
 ports_then ranges [] ys [] qs are more = more
 ports_then ranges [] ys (p ∷ ps) qs are more = absurd are
@@ -49,7 +51,7 @@ times_elsewhere q p not = ap (λ b. 0 + cond b 1 0) (ne_eqb q p not)
 
 -- ---- counts
 
-pub adds_none : (ranges : List Range) (counts : List ℕ) → AddsArrivals ranges [] counts counts
+pub adds_none : (ranges : List (List Range)) (counts : List ℕ) → AddsArrivals ranges [] counts counts
 adds_none ranges counts = record {
   ports = [];
   are = tt;
@@ -57,7 +59,7 @@ adds_none ranges counts = record {
   each = λ p n is. is ∙ ap (λ (m : ℕ). Some m) (omega arith);
 }
 
-pub adds_one : (ranges : List Range) (ask : Request) (port n : ℕ) (old : List ℕ) → slice_get old port ≡ Some n
+pub adds_one : (ranges : List (List Range)) (ask : Request) (port n : ℕ) (old : List ℕ) → slice_get old port ≡ Some n
     → Routes ranges ask port → AddsArrivals ranges (ask ∷ []) old (set old port (n + 1))
 adds_one ranges ask port n old at goes = record {
   ports = port ∷ [];
@@ -77,7 +79,7 @@ adds_one ranges ask port n old at goes = record {
       slice_get-set_other old port p (n + 1) other ∙ is ∙ ap (λ (k : ℕ). Some k) sum);
 }
 
-pub adds_then : (ranges : List Range) (xs ys : List Request) (a b c : List ℕ) → AddsArrivals ranges xs a b
+pub adds_then : (ranges : List (List Range)) (xs ys : List Request) (a b c : List ℕ) → AddsArrivals ranges xs a b
     → AddsArrivals ranges ys b c → AddsArrivals ranges (xs ++ ys) a c
 adds_then ranges xs ys a b c p q = record {
   ports = p.ports ++ q.ports;
@@ -90,7 +92,7 @@ adds_then ranges xs ys a b c p q = record {
 }
 
 -- a count was there before, and grew by so many requests, which are no more than there are
-grown_by : (ranges : List Range) (asks : List Request) (old new : List ℕ) (p m : ℕ)
+grown_by : (ranges : List (List Range)) (asks : List Request) (old new : List ℕ) (p m : ℕ)
     (adds : AddsArrivals ranges asks old new) → slice_get new p ≡ Some m → (n : ℕ) × (slice_get old p ≡ Some n)
     × (m ≡ n + occurrences_of adds.ports p)
 grown_by ranges asks old new p m adds at =
@@ -102,7 +104,7 @@ grown_by ranges asks old new p m adds at =
           (adds.each p (get_or old p 0) was),
     )
 
-pub grown : (ranges : List Range) (asks : List Request) (old new : List ℕ) (p m : ℕ) → AddsArrivals ranges asks old new
+pub grown : (ranges : List (List Range)) (asks : List Request) (old new : List ℕ) (p m : ℕ) → AddsArrivals ranges asks old new
     → slice_get new p ≡ Some m → (n : ℕ) × (slice_get old p ≡ Some n) × (m ≤ n + length asks)
 grown ranges asks old new p m adds at =
     let was = grown_by ranges asks old new p m adds at in (
@@ -131,7 +133,7 @@ few_before (job ∷ jobs) zero = omega arith
 few_before (Wait ∷ jobs) (suc k) = let few = few_before jobs k in omega (arith, few)
 few_before (Send ask ∷ jobs) (suc k) = let few = few_before jobs k in omega (arith, few)
 
-module _ (ranges : List Range) (jobs : List Job) (k : ℕ) (d : Job) (within : k < length jobs) (old new : List ℕ)
+module _ (ranges : List (List Range)) (jobs : List Job) (k : ℕ) (d : Job) (within : k < length jobs) (old new : List ℕ)
     (was : AddsArrivals ranges (sends (take k jobs)) old new) where
   pub wait_adds : get_or jobs k d ≡ Wait → AddsArrivals ranges (sends (take (k + 1) jobs)) old new
   wait_adds is = subst (λ (asks : List Request). AddsArrivals ranges asks old new)
@@ -175,7 +177,7 @@ few_more lists k most jobs at short few =
     let own = few_sends jobs in
     grind (arith, sum, own, few, short)
 
-pub list_adds : (ranges : List Range) (lists : List (List Job)) (k : ℕ) (jobs : List Job) (zeros old new : List ℕ)
+pub list_adds : (ranges : List (List Range)) (lists : List (List Job)) (k : ℕ) (jobs : List Job) (zeros old new : List ℕ)
     → slice_get lists k ≡ Some jobs → AddsArrivals ranges (all_sends (take k lists)) zeros old
     → AddsArrivals ranges (sends jobs) old new → AddsArrivals ranges (all_sends (take (k + 1) lists)) zeros new
 list_adds ranges lists k jobs zeros old new at was more =
@@ -183,7 +185,7 @@ list_adds ranges lists k jobs zeros old new at was more =
     (adds_then ranges (all_sends (take k lists)) (sends jobs) zeros old new was more)
 
 -- a count from zero on is no more than there are requests
-pub from_zero : (ranges : List Range) (asks : List Request) (many : ℕ) (new : List ℕ) (p m : ℕ)
+pub from_zero : (ranges : List (List Range)) (asks : List Request) (many : ℕ) (new : List ℕ) (p m : ℕ)
     → AddsArrivals ranges asks (replicate many 0) new → slice_get new p ≡ Some m → m ≤ length asks
 from_zero ranges asks many new p m adds at =
     let was = grown ranges asks (replicate many 0) new p m adds at in
@@ -210,8 +212,11 @@ listed_many s lists are = ap (λ (l : List (List Job)). length l) are
 pub short_list : (s : System) → IsLawfulSystem s → (k : ℕ) (jobs : List Job) → slice_get s.jobs k ≡ Some jobs
     → length jobs ≤ MAX_JOBS
 short_list s lawful k jobs at =
-    let within : k < length s.counts = subst (λ (n : ℕ). k < n) lawful.lists (slice_get_within s.jobs k jobs at) in
-    (lawful.jobs k (get_or s.counts k 0) jobs (slice_get-get_or s.counts k 0 within) at).in_limit
+    let below = slice_get_within s.jobs k jobs at in
+    let lists = lawful.lists in
+    let counted = length-map s.owners (λ (owner : Owner). owner.count) in
+    let within : k < length (counts_in s.owners) = omega (arith, below, lists, counted) in
+    (lawful.jobs k (get_or (counts_in s.owners) k 0) jobs (slice_get-get_or (counts_in s.owners) k 0 within) at).in_limit
 
 -- a count and one master's operations more are a number
 pub fits_number : (n asks k own : ℕ) → n ≤ asks → asks ≤ k * MAX_JOBS → k ≤ MAX_MASTERS → own ≤ MAX_JOBS

@@ -11,7 +11,7 @@ use Rattle.tl_types.specs.Request.{Request}
 use Rattle.tl_types.specs.declared.trace.Entry.{Entry}
 use Rattle.tl_journal.specs.Trace.{TraceView}
 use Rattle.tl_types.proofs.Lists.{slice_get-push}
-use Rattle.tl_map.specs.declared.map.Range.{Range}
+use Rattle.tl_map.specs.declared.range.Range.{Range}
 use Rattle.tl_map.specs.Map.{Routes}
 use Rattle.tl_script.specs.declared.operation.Job.{Job}
 use Rattle.tl_script.specs.declared.operation.Job.TheVariants.{Wait, Send}
@@ -42,14 +42,14 @@ longer_then es fs gs p q =
       is = q.is ∙ ap (λ (l : List Entry). l ++ q.more) p.is ∙ append_assoc es p.more q.more;
     }
 
-routed_more : (ranges : List Range) (es : List Entry) (e : Entry) → AreRouted ranges es → Routes ranges e.ask e.port
+routed_more : (ranges : List (List Range)) (es : List Entry) (e : Entry) → AreRouted ranges es → Routes ranges e.ask e.port
     → AreRouted ranges (es ++ e ∷ [])
 routed_more ranges es e all new k f at = ⊎_elim (λ (old : slice_get es k ≡ Some f). all k f old)
     (λ (last : (k ≡ length es) × (e ≡ f)). subst (λ (x : Entry). Routes ranges x.ask x.port) last.1 new)
     (slice_get-push es e f k at)
 
 -- what is out after a request was put out for its source
-sends_routed : (ranges : List Range) (m : MasterState) (q : Request) (issued : Issued) (n : MasterState)
+sends_routed : (ranges : List (List Range)) (m : MasterState) (q : Request) (issued : Issued) (n : MasterState)
     → IssuesOne ranges m q issued n → IsRouted ranges m → IsRouted ranges n
 sends_routed ranges m q issued n s r =
     subst (λ (x : MasterState). IsRouted ranges x) (sym s.master) (record { trace = r.trace; out = still }) where
@@ -71,7 +71,7 @@ sends_routed ranges m q issued n s r =
           (λ ne. r.out z u (sym (get_or-set_other m.out q.source z (Some t) None ne) ∙ at))
 
 -- the entry of what was out goes where that went
-collects_routed : (ranges : List Range) (m : MasterState) (source place : ℕ) (n : MasterState)
+collects_routed : (ranges : List (List Range)) (m : MasterState) (source place : ℕ) (n : MasterState)
     → CollectsOne m source place n → IsRouted ranges m → IsRouted ranges n
 collects_routed ranges m source place n c r =
     subst (λ (x : MasterState). IsRouted ranges x) (sym c.master)
@@ -120,7 +120,7 @@ same_then m n o p q = record {
   routed = λ ranges r. q.routed ranges (p.routed ranges r);
 }
 
-pub same_asked : (ranges : List Range) (m n o : MasterState) (q : Request) → IsSame m n → HasAsked ranges n q o
+pub same_asked : (ranges : List (List Range)) (m n o : MasterState) (q : Request) → IsSame m n → HasAsked ranges n q o
     → HasAsked ranges m q o
 same_asked ranges m n o q p r = record {
   arena = r.arena ∙ p.arena;
@@ -133,7 +133,7 @@ same_asked ranges m n o q p r = record {
 }
 
 -- what an issue sends was asked
-pub issue_asks : (ranges : List Range) (m : MasterState) (q : Request) (issued : Issued) (n : MasterState)
+pub issue_asks : (ranges : List (List Range)) (m : MasterState) (q : Request) (issued : Issued) (n : MasterState)
     → IssuesOne ranges m q issued n → AsksMore m q n → HasAsked ranges m q n
 issue_asks ranges m q issued n s more = record {
   arena = ap (λ (x : MasterState). x.seat.arena) s.master;
@@ -208,7 +208,7 @@ turns_more js k d j m n within here was longer cuts last i job lt is =
     (subst (λ (x : Job). WasDone (sends (take k js)) x n) same last))
     (cases_lt i k)
 
-module _ (a : ArenaId) (ranges : List Range) (number : ℕ) (js : List Job) where
+module _ (a : ArenaId) (ranges : List (List Range)) (number : ℕ) (js : List Job) where
   -- nothing was done yet
   pub idle_driven : (m : MasterState) → IsIdle a number m → IsDriven a ranges number js 0 m
   idle_driven m idle = record {
@@ -250,7 +250,7 @@ module _ (a : ArenaId) (ranges : List Range) (number : ℕ) (js : List Job) wher
   -- where nothing is out any more, the trace is that of the operations
   pub traced : (k : ℕ) (m n : MasterState) (es : List Entry) → length js ≤ k → IsDriven a ranges number js k m
       → IsSame m n → out_of n.out ≡ 0 → es ≡ n.trace → IsInOrder es
-      → AreWidened n.seat.arena.about.counts n.seat.number es n.seat.got → OwnsHistories n.seat
+      → AreWidened n.seat.arena.about.owners n.seat.number es n.seat.got → OwnsHistories n.seat
       → IsTrace a ranges number js es
   traced k m n es end d p none is order widened own = record {
     each = λ s. ap (λ (l : List Entry). of_source s (requests_of l)) is ∙ sym (all_asked n none s) ∙ p.asked_is s
@@ -262,8 +262,8 @@ module _ (a : ArenaId) (ranges : List Range) (number : ℕ) (js : List Job) wher
     seat = n.seat;
     arena_is = p.arena ∙ d.arena_is;
     number_is = p.number ∙ d.number_is;
-    widened = subst (λ (i : ℕ). AreWidened a.about.counts i es n.seat.got) (p.number ∙ d.number_is)
-        (subst (λ (b : ArenaId). AreWidened b.about.counts n.seat.number es n.seat.got) (p.arena ∙ d.arena_is) widened);
+    widened = subst (λ (i : ℕ). AreWidened a.about.owners i es n.seat.got) (p.number ∙ d.number_is)
+        (subst (λ (b : ArenaId). AreWidened b.about.owners n.seat.number es n.seat.got) (p.arena ∙ d.arena_is) widened);
     own = own;
   }
     where
@@ -274,7 +274,7 @@ module _ (a : ArenaId) (ranges : List Range) (number : ℕ) (js : List Job) wher
           (d.turns i job (omega arith) at) p.longer (p.cuts (sends (take i js)))) is
 
 -- what a promise that was kept says
-pub kept_promise : (a : ArenaId) (ranges : List Range) (jobs : List (List Job)) (k : ℕ) (h : Handle) (t : TraceView)
+pub kept_promise : (a : ArenaId) (ranges : List (List Range)) (jobs : List (List Job)) (k : ℕ) (h : Handle) (t : TraceView)
     → IsPromised a ranges jobs k h
     → IsTrace h.promise.arena.value h.promise.map.value h.promise.number h.promise.jobs.value t.items
     → IsTraceOf a ranges jobs k t
@@ -282,7 +282,7 @@ kept_promise a ranges jobs k h t is kept =
     let numbered = subst (λ
     (n : ℕ). IsTrace h.promise.arena.value h.promise.map.value n h.promise.jobs.value t.items) is.number_is kept in
     let mapped = subst (λ
-    (rs : List Range). IsTrace h.promise.arena.value rs k h.promise.jobs.value t.items) is.map_is numbered in
+    (rs : List (List Range)). IsTrace h.promise.arena.value rs k h.promise.jobs.value t.items) is.map_is numbered in
     record {
       its_jobs = h.promise.jobs.value;
       at = is.jobs_are;
@@ -296,7 +296,7 @@ new_idle a number limit v m is made = record {
   arena_is = ap (λ (x : MasterState). x.seat.arena) made ∙ ap (λ (w : MasterView). w.arena) is;
   number_is = ap (λ (x : MasterState). x.seat.number) made ∙ ap (λ (w : MasterView). w.number) is;
   none = λ s. ap (λ (x : MasterState). asked x s) made
-      ∙ ap (out_ask s) (blank_out (count_of v.arena.about.counts v.number) s);
+      ∙ ap (out_ask s) (blank_out (count_of v.arena.about.owners v.number) s);
   routed = λ ranges. subst (λ (x : MasterState). IsRouted ranges x) (sym made)
       (record { trace = λ k e at. absurd cc; out = nothing ranges });
 }
@@ -306,10 +306,10 @@ new_idle a number limit v m is made = record {
     blank_out (suc n) zero = refl
     blank_out (suc n) (suc s) = blank_out n s
 
-    nothing : (ranges : List Range) (s : ℕ) (t : TicketView) → ticket_at (new_state v limit).out s ≡ Some t
+    nothing : (ranges : List (List Range)) (s : ℕ) (t : TicketView) → ticket_at (new_state v limit).out s ≡ Some t
         → Routes ranges t.ask t.port
     nothing ranges s t at = let clash : None ≡ Some t =
-        sym (blank_out (count_of v.arena.about.counts v.number) s) ∙ at in absurd cc
+        sym (blank_out (count_of v.arena.about.owners v.number) s) ∙ at in absurd cc
 
 -- a new master owns nothing
 pub new_owned : (a : ArenaId) (number : ℕ) (v : MasterView) → v ≡ new_master a number → owned_of v ≡ 0

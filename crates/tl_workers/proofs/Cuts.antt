@@ -9,7 +9,7 @@ use native.Mathlib.Decide.{ℕ_discrete}
 use Rattle.tl_types.specs.Request.{Request}
 use Rattle.tl_types.specs.declared.trace.Entry.{Entry}
 use Rattle.tl_types.proofs.Lists.{slice_get-push, slice_get-take, slice_get-drop}
-use Rattle.tl_map.specs.declared.map.Range.{Range}
+use Rattle.tl_map.specs.declared.range.Range.{Range}
 use Rattle.tl_script.specs.declared.operation.Job.{Job}
 use Rattle.tl_script.specs.declared.operation.Job.TheVariants.{Wait, Send}
 use Rattle.tl_script.specs.System.{sends}
@@ -87,7 +87,7 @@ cut_now asks m all = record {
 -- ---- and stays
 
 -- what was out goes on being out, and something more is
-pub issues_cut : (ranges : List Range) (m : MasterState) (q : Request) (issued : Issued) (n : MasterState)
+pub issues_cut : (ranges : List (List Range)) (m : MasterState) (q : Request) (issued : Issued) (n : MasterState)
     → IssuesOne ranges m q issued n → (asks : List Request) (had : ℕ) → IsCut asks had m → IsCut asks had n
 issues_cut ranges m q issued n s asks had c =
     subst (λ (x : MasterState). IsCut asks had x) (sym s.master)
@@ -178,7 +178,7 @@ module _ (m : MasterState) (source place : ℕ) (n : MasterState) (c : CollectsO
 -- ---- an operation was done
 
 -- a request was issued: nothing of its source was out
-pub issues_turn : (ranges : List Range) (m : MasterState) (q : Request) (issued : Issued) (n : MasterState)
+pub issues_turn : (ranges : List (List Range)) (m : MasterState) (q : Request) (issued : Issued) (n : MasterState)
     → IssuesOne ranges m q issued n → (asks : List Request) → HasBeenAsked asks m → WasDone asks (Send q) n
 issues_turn ranges m q issued n s asks all = record {
   had = length m.trace;

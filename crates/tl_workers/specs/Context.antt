@@ -9,4 +9,4 @@ pub record AreShared (named : ArenaId) (s : System) (arena : ArenaId) (ports : �
   pub arena_is : arena ≡ named
   pub reached : length s.ranges + 1 ≤ arena.about.ports
   pub all_ports : ports ≡ length s.ranges + 1
-  pub all_masters : length s.jobs ≡ length s.counts
+  pub all_masters : length s.jobs ≡ length s.owners

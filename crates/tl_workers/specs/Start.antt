@@ -4,7 +4,7 @@ use Rattle.std.specs.List.{flat_map}
 use Rattle.std.specs.declared.thread.PromisedHandle.{PromisedHandle}
 use Rattle.tl_types.specs.Request.{Request}
 use Rattle.tl_journal.specs.Trace.{TraceView}
-use Rattle.tl_map.specs.declared.map.Range.{Range}
+use Rattle.tl_map.specs.declared.range.Range.{Range}
 use Rattle.tl_map.specs.Map.{Routes}
 use Rattle.tl_script.specs.System.{System, sends}
 use Rattle.tl_script.specs.declared.operation.Job.{Job}
@@ -56,7 +56,7 @@ pub record IsHeardAt (journals : List ℕ) (workers : ℕ) (p : PortListeners) :
 -- ---- how many requests go to each port
 
 -- these are the ports that the map has these requests with, one for one
-abbrev pub ArePortsOf : List Range → List Request → List ℕ → Type 0
+abbrev pub ArePortsOf : List (List Range) → List Request → List ℕ → Type 0
 ArePortsOf ranges [] [] = Unit {0}
 ArePortsOf ranges [] (port ∷ ports) = ⊥
 ArePortsOf ranges (ask ∷ asks) [] = ⊥
@@ -67,13 +67,13 @@ abbrev pub occurrences_of : List ℕ → ℕ → ℕ
 occurrences_of numbers n = count_by (λ m. eqb m n) numbers
 
 -- so many of these requests go to the port
-pub record GoTo (ranges : List Range) (asks : List Request) (port count : ℕ) : Type 0 where
+pub record GoTo (ranges : List (List Range)) (asks : List Request) (port count : ℕ) : Type 0 where
   pub ports : List ℕ
   pub are : ArePortsOf ranges asks ports
   pub count_is : count ≡ occurrences_of ports port
 
 -- each port's count is larger by the number of these requests that go there
-pub record AddsArrivals (ranges : List Range) (asks : List Request) (old new : List ℕ) : Type 0 where
+pub record AddsArrivals (ranges : List (List Range)) (asks : List Request) (old new : List ℕ) : Type 0 where
   pub ports : List ℕ
   pub are : ArePortsOf ranges asks ports
   pub many : length new ≡ length old
@@ -92,7 +92,7 @@ abbrev pub Handle : Type 0
 Handle = PromisedHandle TraceView TraceOf
 
 -- the thread promised the trace of this master's operations
-pub record IsPromised (arena : ArenaId) (ranges : List Range) (jobs : List (List Job)) (number : ℕ)
+pub record IsPromised (arena : ArenaId) (ranges : List (List Range)) (jobs : List (List Job)) (number : ℕ)
     (h : Handle) : Type 0 where
   pub number_is : h.promise.number ≡ number
   pub arena_is : h.promise.arena.value ≡ arena
@@ -100,7 +100,7 @@ pub record IsPromised (arena : ArenaId) (ranges : List Range) (jobs : List (List
   pub jobs_are : slice_get jobs number ≡ Some h.promise.jobs.value
 
 -- the trace is that of this master's operations
-pub record IsTraceOf (arena : ArenaId) (ranges : List Range) (jobs : List (List Job)) (number : ℕ)
+pub record IsTraceOf (arena : ArenaId) (ranges : List (List Range)) (jobs : List (List Job)) (number : ℕ)
     (t : TraceView) : Type 0 where
   pub its_jobs : List Job
   pub at : slice_get jobs number ≡ Some its_jobs

@@ -2,7 +2,7 @@
 use Rattle.std.specs.Prelude.{◌≡◌, ℕ, ◌<◌, ◌≤◌, ◌++◌, ⊤, List, [], length, take, slice_get, Some}
 use Rattle.tl_types.specs.Request.{Request}
 use Rattle.tl_types.specs.declared.trace.Entry.{Entry}
-use Rattle.tl_map.specs.declared.map.Range.{Range}
+use Rattle.tl_map.specs.declared.range.Range.{Range}
 use Rattle.tl_map.specs.Map.{Routes}
 use Rattle.tl_script.specs.declared.operation.Job.{Job}
 use Rattle.tl_script.specs.declared.operation.Job.TheVariants.{Wait, Send}
@@ -64,7 +64,7 @@ AreDoneInTurn jobs entries =
     (k : ℕ) (job : Job) → slice_get jobs k ≡ Some job → IsDoneAfter (sends (take k jobs)) job entries
 
 -- each entry is of the port that the map has its request with
-abbrev pub AreRouted : List Range → List Entry → Type 0
+abbrev pub AreRouted : List (List Range) → List Entry → Type 0
 AreRouted ranges entries = (k : ℕ) (e : Entry) → slice_get entries k ≡ Some e → Routes ranges e.ask e.port
 
 -- the trace of master `number` of the arena, whose operations are these: it has for each source the requests of that
@@ -73,7 +73,7 @@ AreRouted ranges entries = (k : ℕ) (e : Entry) → slice_get entries k ≡ Som
 -- indexes than what was sent then or later; each entry is of the port that the map has its request with; of two entries
 -- with one source and port the earlier has the smaller index; and with its sources widened it is what the master's seat
 -- had collected when it left, of which for each port one lawful history has just the master's own
-pub record IsTrace (arena : ArenaId) (ranges : List Range) (number : ℕ) (jobs : List Job)
+pub record IsTrace (arena : ArenaId) (ranges : List (List Range)) (number : ℕ) (jobs : List Job)
     (entries : List Entry) : Type 0 where
   pub each : (source : ℕ) → of_source source (requests_of entries) ≡ of_source source (sends jobs)
   pub waits : AreWaitedFor jobs entries
@@ -83,13 +83,13 @@ pub record IsTrace (arena : ArenaId) (ranges : List Range) (number : ℕ) (jobs 
   pub seat : MasterView
   pub arena_is : seat.arena ≡ arena
   pub number_is : seat.number ≡ number
-  pub widened : AreWidened arena.about.counts number entries seat.got
+  pub widened : AreWidened arena.about.owners number entries seat.got
   pub own : OwnsHistories seat
 
 -- ---- on the way there
 
 -- what the master has collected, and what it has out, is of the port that the map has it with
-pub record IsRouted (ranges : List Range) (m : MasterState) : Type 0 where
+pub record IsRouted (ranges : List (List Range)) (m : MasterState) : Type 0 where
   pub trace : AreRouted ranges m.trace
   pub out : (source : ℕ) (t : TicketView) → ticket_at m.out source ≡ Some t → Routes ranges t.ask t.port
 
@@ -124,11 +124,11 @@ pub record IsSame (m n : MasterState) : Type 0 where
   pub asked_is : AsksSame m n
   pub longer : IsLonger m.trace n.trace
   pub cuts : (asks : List Request) (had : ℕ) → IsCut asks had m → IsCut asks had n
-  pub routed : (ranges : List Range) → IsRouted ranges m → IsRouted ranges n
+  pub routed : (ranges : List (List Range)) → IsRouted ranges m → IsRouted ranges n
 
 -- it is the same master, and the request is the last that was asked of it, in its turn, and sent to the port that the
 -- map has it with
-pub record HasAsked (ranges : List Range) (m : MasterState) (q : Request) (n : MasterState) : Type 0 where
+pub record HasAsked (ranges : List (List Range)) (m : MasterState) (q : Request) (n : MasterState) : Type 0 where
   pub arena : n.seat.arena ≡ m.seat.arena
   pub number : n.seat.number ≡ m.seat.number
   pub asked_is : AsksMore m q n
@@ -138,7 +138,7 @@ pub record HasAsked (ranges : List Range) (m : MasterState) (q : Request) (n : M
   pub routed : IsRouted ranges m → IsRouted ranges n
 
 -- an operation was done: after a wait nothing is out
-abbrev pub HasDone : List Range → MasterState → Job → MasterState → Type 0
+abbrev pub HasDone : List (List Range) → MasterState → Job → MasterState → Type 0
 HasDone ranges m Wait n = IsSame m n × (out_of n.out ≡ 0)
 HasDone ranges m (Send q) n = HasAsked ranges m q n
 
@@ -147,7 +147,7 @@ pub record IsIdle (arena : ArenaId) (number : ℕ) (m : MasterState) : Type 0 wh
   pub arena_is : m.seat.arena ≡ arena
   pub number_is : m.seat.number ≡ number
   pub none : (source : ℕ) → asked m source ≡ []
-  pub routed : (ranges : List Range) → IsRouted ranges m
+  pub routed : (ranges : List (List Range)) → IsRouted ranges m
 
 -- so was each of the first `done` operations
 abbrev pub WereDone : List Job → ℕ → MasterState → Type 0
@@ -155,7 +155,7 @@ WereDone jobs done m =
     (k : ℕ) (job : Job) → k < done → slice_get jobs k ≡ Some job → WasDone (sends (take k jobs)) job m
 
 -- the first `done` operations of the master were done, each in its turn
-pub record IsDriven (arena : ArenaId) (ranges : List Range) (number : ℕ) (jobs : List Job) (done : ℕ)
+pub record IsDriven (arena : ArenaId) (ranges : List (List Range)) (number : ℕ) (jobs : List Job) (done : ℕ)
     (m : MasterState) : Type 0 where
   pub arena_is : m.seat.arena ≡ arena
   pub number_is : m.seat.number ≡ number

@@ -15,7 +15,7 @@ use crate::bell::{Bells, Listener, Ringer};
 use crate::run::{MasterThread, ThreadSet, WorkerThread};
 use std::alloc::Global;
 use tl_arena::{Arena, MasterSeat, PortSeat};
-use tl_map::Map;
+use tl_map::AddressMap;
 use tl_master::Master;
 use tl_ops::Bank;
 use tl_port::Book;
@@ -23,7 +23,7 @@ use tl_script::{Operations, System};
 use tl_types::{Ask, Memory};
 
 /// Adds to each port's count the requests of these operations that go there.
-fn count_sends(map: &Map, jobs: &Operations, counts: &mut [usize])
+fn count_sends(map: &AddressMap, jobs: &Operations, counts: &mut [usize])
     requires ports { length counts.old ≡ length map.now + 1 }
     requires room { (p n : ℕ) → slice_get counts.old p ≡ Some n → n + length jobs.now < 2 ^ 64 }
     ensures { AddsArrivals map.now (sends jobs.now) counts.old counts.new }
@@ -41,7 +41,6 @@ pub fn journals_of(alloc: Global, system: &System) -> Result<Vec<usize>, Memory>
     ensures counted { IfOk result (λ journals. AreJournals system.now journals.items) }
     ensures few { IfOk result (λ journals. All (λ n. n ≤ MAX_MASTERS * MAX_JOBS) journals.items) }
 {
-    let _few_masters = system.sources().masters();
     let map = system.map();
     let Ok(mut counts) = Vec::from_elem(alloc, 0usize, map.ports()) else {
         return Err(Memory);
@@ -134,7 +133,7 @@ fn master_thread_of(
     port_bells: &mut [Ringer],
 ) -> Result<(MasterThread, Ringer), Memory>
     requires seat { seat ≡ new_master arena.now number }
-    requires sources { arena.now.about.counts ≡ system.now.counts }
+    requires sources { arena.now.about.owners ≡ system.now.owners }
     requires jobs { number < length system.now.jobs }
     requires ports { length port_bells.old ≡ length system.now.ranges + 1 }
     ensures { IfOk result (λ made. IsNewMasterThread arena.now system.now number made.0) }
@@ -170,7 +169,7 @@ fn master_of(
     limit: usize,
 ) -> Result<Master, Memory>
     requires seat { seat ≡ new_master arena.now number }
-    requires sources { arena.now.about.counts ≡ system.now.counts }
+    requires sources { arena.now.about.owners ≡ system.now.owners }
     ensures idle { IfOk result (λ master. IsIdle arena.now number master) }
     ensures room { IfOk result (λ master. master.limit ≡ limit) }
 {
@@ -189,7 +188,7 @@ fn master_threads_of(
     port_bells: &mut [Ringer],
 ) -> Result<(Vec<MasterThread>, Vec<Ringer>), Memory>
     requires seats { AreNewMasters arena.now (length system.now.jobs) seats.items }
-    requires sources { arena.now.about.counts ≡ system.now.counts }
+    requires sources { arena.now.about.owners ≡ system.now.owners }
     requires ports { length port_bells.old ≡ length system.now.ranges + 1 }
     ensures many { IfOk result (λ made. vec_len made.0 ≡ length system.now.jobs) }
     ensures threads { IfOk result (λ made. AreFrom (IsNewMasterThread arena.now system.now)
@@ -313,7 +312,7 @@ pub fn threads_of(
     workers: usize,
 ) -> Result<ThreadSet, Memory>
     requires seats { AreNewMasters arena.now (length system.now.jobs) seats.items }
-    requires sources { arena.now.about.counts ≡ system.now.counts }
+    requires sources { arena.now.about.owners ≡ system.now.owners }
     requires ports { length journals.now ≡ length system.now.ranges + 1 }
     requires few { All (λ n. n ≤ MAX_MASTERS * MAX_JOBS) journals.now }
     requires workers { workers ≤ MAX_WORKERS }

@@ -14,7 +14,7 @@ use std::sync::Wait;
 use std::thread::{JoinHandle, Promise, PromisedHandle, Scope, Threads};
 use tl_arena::{Arena, ArenaName};
 use tl_journal::Trace;
-use tl_map::Map;
+use tl_map::AddressMap;
 use tl_master::Master;
 use tl_script::Operations;
 
@@ -24,7 +24,7 @@ pub(crate) struct TraceOf {
     pub(crate) number: usize,
     pub(crate) jobs: Snapshot<Operations>,
     pub(crate) arena: Snapshot<Arena>,
-    pub(crate) map: Snapshot<Map>,
+    pub(crate) map: Snapshot<AddressMap>,
 }
 
 impl Promise<Trace> for TraceOf {

@@ -8,7 +8,7 @@ use crate::gate::{Gate, opens};
 use arrayvec::ArrayVec;
 use std::sync::Wait;
 use tl_arena::ArenaName;
-use tl_map::Sources;
+use tl_map::SourceOwners;
 
 /// The most rings that a port's thread owes masters at a time.
 const MAX_OWED: usize = 16;
@@ -65,7 +65,7 @@ fn may_serve<R: Wait, G: Gate>(
 }
 
 /// The master whose wide source this is, if there is one.
-fn master_of(sources: &Sources, wide: u16) -> Option<usize>
+fn master_of(sources: &SourceOwners, wide: u16) -> Option<usize>
     ensures { IfSome result (λ master. master < length sources.now) }
 {
     let (master, _) = sources.owner(wide)?;
@@ -94,7 +94,7 @@ fn is_held<R: Wait, G: Gate>(
 }
 
 /// Notes the master whose request was answered, if one was.
-fn owe(sources: &Sources, answered: Option<u16>, owed: &mut Owed)
+fn owe(sources: &SourceOwners, answered: Option<u16>, owed: &mut Owed)
     requires room { array_vec_len owed.old < MAX_OWED }
     ensures { (masters : ℕ) → length sources.now ≤ masters
         → All (λ master. master < masters) owed.old.items

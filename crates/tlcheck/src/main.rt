@@ -23,24 +23,18 @@ use check_program::{
     CheckFault, Erasing, Meter, Shown, check_as_asked, end_check, read_images, read_system_parts,
     write_coverage,
 };
+use std::fs;
 use std::io::{IsTerminal, Read};
 use std::process::ExitCode;
-use std::{env, fs};
-use tl_streams::{NamedFile, no_memory, refused, unread};
+use tl_cli::{read_words, refused};
+use tl_streams::NamedFile;
 
 fn main(rt: HostRuntime) -> ExitCode {
-    let words = match env::args(&rt) {
-        Ok(words) => words.collect::<Vec<String>>(rt.alloc()),
-        Err(error) => return unread(&rt, &error),
+    let words = match read_words(&rt) {
+        Ok(words) => words,
+        Err(status) => return status,
     };
-    let Ok(words) = words else {
-        return no_memory(&rt);
-    };
-    let line = words.iter().map(|word| word.as_str());
-    let Ok(line) = line.collect::<Vec<&str>>(rt.alloc()) else {
-        return no_memory(&rt);
-    };
-    match read_check_options(rt.alloc(), &line) {
+    match read_check_options(rt.alloc(), &words) {
         Ok(options) => end_check(&rt, run(&rt, &options)),
         Err(error) => refused(&rt, error),
     }

@@ -9,23 +9,16 @@
 #![tactic(auto)]
 
 use check_waves::{WaveFault, WaveOptions, end_waves, read_wave_options, write_capture};
-use std::env;
 use std::process::ExitCode;
-use tl_streams::{NamedFile, no_memory, refused, unread};
+use tl_cli::{read_words, refused};
+use tl_streams::NamedFile;
 
 fn main(rt: HostRuntime) -> ExitCode {
-    let words = match env::args(&rt) {
-        Ok(words) => words.collect::<Vec<String>>(rt.alloc()),
-        Err(error) => return unread(&rt, &error),
+    let words = match read_words(&rt) {
+        Ok(words) => words,
+        Err(status) => return status,
     };
-    let Ok(words) = words else {
-        return no_memory(&rt);
-    };
-    let line = words.iter().map(|word| word.as_str());
-    let Ok(line) = line.collect::<Vec<&str>>(rt.alloc()) else {
-        return no_memory(&rt);
-    };
-    match read_wave_options(rt.alloc(), &line) {
+    match read_wave_options(rt.alloc(), &words) {
         Ok(options) => end_waves(&rt, run(&rt, &options)),
         Err(error) => refused(&rt, error),
     }

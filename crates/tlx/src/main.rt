@@ -10,25 +10,17 @@
 //! memory are handed to it. It is a crate of its own, so that its proof is not done again for the tests.
 #![tactic(auto)]
 
-use std::env;
 use std::process::ExitCode;
+use tl_cli::{read_words, refused};
 use tl_options::read_options;
 use tl_program::{ended, run};
-use tl_streams::{no_memory, refused, unread};
 
 fn main(rt: HostRuntime) -> ExitCode {
-    let words = match env::args(&rt) {
-        Ok(words) => words.collect::<Vec<String>>(rt.alloc()),
-        Err(error) => return unread(&rt, &error),
+    let words = match read_words(&rt) {
+        Ok(words) => words,
+        Err(status) => return status,
     };
-    let Ok(words) = words else {
-        return no_memory(&rt);
-    };
-    let line = words.iter().map(|word| word.as_str());
-    let Ok(line) = line.collect::<Vec<&str>>(rt.alloc()) else {
-        return no_memory(&rt);
-    };
-    match read_options(rt.alloc(), &line) {
+    match read_options(rt.alloc(), &words) {
         Ok(options) => ended(
             &rt,
             run(&rt, rt.alloc(), &mut rt.stdin(), &mut rt.stdout(), options),

@@ -2,7 +2,7 @@
 use check_flight::Order;
 use check_options::{CheckOptions, read_check_options};
 use check_sides::Links;
-use tl_streams::line_status;
+use tl_cli::line_status;
 
 /// The options of a command line that has a system alone.
 const PLAIN: CheckOptions<'static> = CheckOptions {

@@ -1,14 +1,16 @@
 //! An arena with two ports, and what its masters and ports are handed.
 ghost use Rattle.std.specs.Prelude.{◌≡◌, ◌+◌, ◌≤◌, All, length, slice_get};
 ghost use Rattle.std.specs.Prelude as std;
+ghost use Rattle.tl_map.specs.Blocks.{HaveBlocks};
 ghost use Rattle.tl_arena.specs.Views.{about_of, new_master, new_port};
 ghost use Rattle.tl_arena.specs.Promises.{memory_of};
 
 use super::stage::Setting;
 use std::alloc::Global;
+use std::marker::Model;
 use std::process::Abort;
 use tl_arena::{Arena, Made, MasterSeat, PortSeat};
-use tl_map::{Map, Range, Sources};
+use tl_map::{AddressMap, Range, SourceOwners, blocks};
 use tl_ops::{Bank, Kind};
 
 /// The first address of each memory: a port knows nothing of the map.
@@ -68,16 +70,55 @@ pub(super) struct Ports {
     ghost far_memory: { far_bank ≡ memory_of far },
 }
 
+/// The sources of masters, each of which has a block.
+#[derive(Drop)]
+pub(in crate::tests) struct BlockSources {
+    sources: SourceOwners,
+}
+
+impl Model for BlockSources {
+    ghost use Rattle.std.specs.Prelude.{List};
+    ghost use Rattle.tl_map.specs.Blocks.{HaveBlocks};
+    ghost use Rattle.tl_map.specs.declared.owners.Owner.{Owner};
+
+    ghost Value = { List Owner };
+
+    ghost view = { λ s. s.sources };
+
+    ghost invariant = { λ s. HaveBlocks s.sources };
+}
+
+impl BlockSources {
+    /// The sources of masters with these counts.
+    pub(in crate::tests) fn new(rt: &impl Abort, alloc: Global, counts: &[u32]) -> BlockSources {
+        let Ok(owners) = blocks(alloc, counts) else {
+            panic!(rt; "no blocks");
+        };
+        let Ok(sources) = SourceOwners::new(alloc, &owners) else {
+            panic!(rt; "no sources");
+        };
+        BlockSources { sources }
+    }
+
+    /// The same as sources of any kind.
+    pub(in crate::tests) fn owners(&self) -> &SourceOwners
+        ensures same { result.now ≡ self.now }
+        ensures blocks { HaveBlocks result.now }
+    {
+        &self.sources
+    }
+}
+
 /// An arena with its map, its sources and its seats.
 #[derive(Drop)]
 pub(super) struct Floor {
     pub(super) arena: Arena,
-    pub(super) map: Map,
-    pub(super) sources: Sources,
+    pub(super) map: AddressMap,
+    pub(super) sources: BlockSources,
     pub(super) masters: Vec<MasterSeat>,
     pub(super) ports: Ports,
     ghost routes: { length map + 1 ≤ arena.about.ports },
-    ghost blocks: { sources ≡ arena.about.counts },
+    ghost owners: { sources ≡ arena.about.owners },
     ghost new_masters: { All (λ v. v ≡ new_master arena v.number) masters.items },
     ghost here: { ports.near.arena ≡ arena },
 }
@@ -109,7 +150,7 @@ fn seats(
     rt: &impl Abort,
     alloc: Global,
     slots: usize,
-    sources: &Sources,
+    sources: &SourceOwners,
     banks: &[Bank; 2],
 ) -> (Arena, Vec<MasterSeat>, PortSeat, PortSeat)
     ensures about { result.0.about ≡ about_of slots sources.now banks.now }
@@ -131,15 +172,23 @@ fn seats(
     (arena, masters, near, far)
 }
 
+/// The map of a port with one range, and of the error port.
+fn map_of(rt: &impl Abort, alloc: Global) -> AddressMap
+    ensures { length result ≡ 1 }
+{
+    let ports = [Vec::from_slice(alloc, &[RANGE]).expect(rt, "memory")];
+    AddressMap::new(alloc, &ports).expect(rt, "a map")
+}
+
 /// The arena of a setting. Its ports get banks of their own, like those that it was made of.
 pub(super) fn open_floor(rt: &impl Abort, alloc: Global, setting: &Setting) -> Floor {
-    let sources = Sources::new(alloc, setting.sources).expect(rt, "sources");
-    let map = Map::new(alloc, &[RANGE]).expect(rt, "a map");
+    let sources = BlockSources::new(rt, alloc, setting.sources);
+    let map = map_of(rt, alloc);
     let banks = [
         bank_of(rt, alloc, &setting.near),
         bank_of(rt, alloc, &setting.far),
     ];
-    let (arena, masters, near, far) = seats(rt, alloc, setting.slots, &sources, &banks);
+    let (arena, masters, near, far) = seats(rt, alloc, setting.slots, sources.owners(), &banks);
     let ports = Ports {
         near,
         near_bank: bank_of(rt, alloc, &setting.near),

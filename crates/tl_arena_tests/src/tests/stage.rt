@@ -1,6 +1,7 @@
 //! The arena on which a scene is played: a table of calls, each with its answer. All scenes share one stage, since to
 //! set it up and to take it down takes the prover long.
 ghost use Rattle.std.specs.Prelude.{◌≡◌, ◌+◌, ◌≤◌, All, length};
+ghost use Rattle.tl_map.specs.Blocks.{HaveBlocks};
 ghost use Rattle.tl_arena.specs.Views.{new_master};
 
 use super::agents::book::{BookCall, Keeper, new_keeper};
@@ -16,7 +17,7 @@ use std::process::Abort;
 use std::sync::Wait;
 use std::thread::Threads;
 use tl_arena::{Account, Arena, HeldSlot, MasterSeat};
-use tl_map::{Map, Sources};
+use tl_map::{AddressMap, SourceOwners};
 
 /// Who makes the calls.
 #[derive(Clone, Copy)]
@@ -72,7 +73,7 @@ pub(super) struct End {
 pub(super) struct Setting {
     pub(super) slots: usize,
     /// How many sources each master has.
-    pub(super) sources: &'static [u16],
+    pub(super) sources: &'static [u32],
     pub(super) near: Memory,
     pub(super) far: Memory,
     pub(super) cast: Cast,
@@ -134,14 +135,15 @@ fn stage_of<'a>(
     rt: &impl Abort,
     alloc: Global,
     arena: &'a Arena,
-    map: &'a Map,
-    sources: &'a Sources,
+    map: &'a AddressMap,
+    sources: &'a SourceOwners,
     masters: Vec<MasterSeat>,
     ports: Ports,
     cast: Cast,
 ) -> Stage<'a>
     requires routes { length map.now + 1 ≤ arena.now.about.ports }
-    requires blocks { sources.now ≡ arena.now.about.counts }
+    requires owners { sources.now ≡ arena.now.about.owners }
+    requires blocks { HaveBlocks sources.now }
     requires masters { All (λ v. v ≡ new_master arena.now v.number) masters.items }
     requires ports { ports.near.arena ≡ arena.now }
 {
@@ -274,7 +276,8 @@ fn account_of<R: Abort + Threads + Wait + Sync>(rt: &R, alloc: Global, scene: &S
     } = open_floor(rt, alloc, &scene.setting);
     {
         let cast = scene.setting.cast;
-        let stage = stage_of(rt, alloc, &arena, &map, &sources, masters, ports, cast);
+        let owners = sources.owners();
+        let stage = stage_of(rt, alloc, &arena, &map, owners, masters, ports, cast);
         play_script(rt, alloc, stage, scene.script);
     }
     arena.close(alloc).expect(rt, "memory")

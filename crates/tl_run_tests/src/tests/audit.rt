@@ -1,9 +1,9 @@
 //! Audits of small traces and histories.
+use super::sources_of;
 use std::alloc::Global;
 use std::process::Abort;
 use tl_audit::{AuditFault, audit_lists};
 use tl_journal::{Journal, Place, Trace};
-use tl_map::Sources;
 use tl_types::{Ask, AskOp, Reply, ReplyOp};
 
 /// One of two messages with their replies: four bytes are put at an address, and got again.
@@ -126,12 +126,12 @@ static ONE_MASTER: [Case; 9] = [
 ];
 
 /// A master with 16 sources for each of these.
-const COUNTS: [u16; 2] = [16, 16];
+const COUNTS: [u32; 2] = [16, 16];
 
 /// The audit of a case.
 fn audit_of(rt: &impl Abort, alloc: Global, case: &Case) -> Result<(), AuditFault> {
     let counts = COUNTS.get(..case.masters.len()).expect(rt, "few masters");
-    let sources = Sources::new(alloc, counts).expect(rt, "sources");
+    let sources = sources_of(rt, alloc, counts);
     let mut traces = Vec::new(alloc);
     for entries in case.masters {
         let trace = trace_of(rt, alloc, case.source, entries);

@@ -3,7 +3,7 @@ use std::alloc::{AllocError, Global};
 use std::process::Abort;
 use tl_audit::{AuditFault, audit_lists};
 use tl_journal::{Journal, Place, Trace};
-use tl_map::Sources;
+use tl_map::{SourceOwners, blocks};
 use tl_types::{Ask, AskOp, Reply, ReplyOp};
 
 /// A put of a byte from source 0, and its reply.
@@ -45,7 +45,10 @@ fn audit_of(
     indexes: &[usize],
     puts: usize,
 ) -> Result<(), AuditFault> {
-    let Ok(sources) = Sources::new(alloc, &[1]) else {
+    let Ok(owners) = blocks(alloc, &[1]) else {
+        return Err(AuditFault::Memory);
+    };
+    let Ok(sources) = SourceOwners::new(alloc, &owners) else {
         return Err(AuditFault::Memory);
     };
     let Ok(history) = history_of(rt, alloc, puts) else {

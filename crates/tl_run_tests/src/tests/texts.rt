@@ -4,9 +4,8 @@ use std::alloc::Global;
 use std::fmt::Display;
 use std::process::Abort;
 use tl_beats::BeatFault;
-use tl_map::{MapFault, SourceFault};
 use tl_ops::BankFault;
-use tl_script::ScriptFault;
+use tl_script::{MapFault, ScriptFault, SourceFault};
 use tl_slots::{CoreFault, CoreMakeFault};
 use tl_types::{AskFault, OpFault, ReplyFault};
 

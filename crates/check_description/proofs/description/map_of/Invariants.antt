@@ -1,6 +1,6 @@
 -- The ranges so far.
 use Rattle.std.proofs.Common.{◌≡◌, map, take}
-use Rattle.check_map.specs.Ranges.{lists_in}
+use Rattle.tl_map.specs.Map.{lists_in}
 use Rattle.check_description.specs.Port.{port_view}
 use Rattle.check_description.specs.Description.{ranges_of}
 use Rattle.check_description.proofs.description.map_of.Given as goal

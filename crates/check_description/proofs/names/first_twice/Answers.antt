@@ -1,8 +1,9 @@
 -- The name at one more place is looked at.
 use Rattle.std.proofs.Common.{map, take, IsTrue, [], arith}
 use Rattle.std.proofs.lemmas.List.{length-map}
-use Rattle.tl_map.proofs.Faults.{place_within}
-use Rattle.check_description.specs.Name.{StoodBefore, is_among}
+use Rattle.tl_map.proofs.Place.{place_within}
+use Rattle.check_keys.specs.Known.{is_among}
+use Rattle.check_description.specs.Name.{StoodBefore}
 use Rattle.check_description.proofs.NameLemmas.{shown, stood, not_stood}
 use borrow.Author.Count.{below_more}
 use Rattle.check_description.proofs.names.first_twice.Goals as goal

@@ -1,6 +1,6 @@
 -- No name so far is the one.
 use Rattle.std.proofs.Common.{◌≡◌, drop, map}
-use Rattle.check_description.specs.Name.{is_among}
+use Rattle.check_keys.specs.Known.{is_among}
 use Rattle.check_description.proofs.names.is_among.Given as goal
 
 abbrev pub invariant-loop-other : goal.invariant-loop-other

@@ -1,13 +1,14 @@
 -- Blocks are lawful owners, so only want of memory is left.
 use Rattle.std.proofs.Common.{◌≢◌}
-use Rattle.check_map.specs.Sources.{IsFirstSourceOwnerFault}
-use Rattle.check_map.specs.declared.sources.SourceOwnerFault.TheVariants.{Memory as SourceMemory}
+use Rattle.tl_map.specs.Owners.{IsFirstSourceOwnerFault}
+use Rattle.tl_map.specs.declared.owners.SourceOwnerFault.TheVariants.{Memory as SourceMemory}
 use Rattle.check_description.specs.Master.{IsBlockFault}
 use Rattle.check_keys.specs.Reading.{source_fault}
 use Rattle.check_description.specs.Description.{IsOfSources}
 use Rattle.check_keys.specs.declared.fault.SystemFault.{SystemFault}
 use Rattle.check_keys.specs.declared.fault.SystemFault.TheVariants.{Memory}
-use Rattle.check_description.proofs.BlockLemmas.{blocks_lawful, error_is, no_fault}
+use Rattle.tl_map.proofs.LawfulBlocks.{blocks_lawful}
+use Rattle.check_description.proofs.BlockLemmas.{error_is, no_fault}
 use Rattle.check_description.proofs.owners.sources_in_blocks.Goals as goal
 
 pub returns-in_err-new-clause-fault : goal.returns-in_err-new-clause-fault

@@ -1,6 +1,6 @@
 -- The ranges so far, and those of the rest, are the ranges of all; those so far are lawful.
 use Rattle.std.proofs.Common.{◌≡◌, All, drop, length}
-use Rattle.check_map.specs.Ranges.{IsLawfulRange}
+use Rattle.tl_map.specs.Map.{IsLawfulRange}
 use Rattle.tl_text.specs.Reading.{each, with_front}
 use Rattle.check_description.specs.Ranges.{range_of_pair}
 use Rattle.check_description.proofs.ranges.make_each_range.Given as goal

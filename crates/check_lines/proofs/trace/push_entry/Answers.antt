@@ -1,9 +1,9 @@
 -- What was written so far, appended to what there was.
 use Rattle.std.proofs.Common.{[], ◌∷◌, rules}
-use Rattle.check_lines.specs.Trace.{entry_line, exchange_text, origin_text, place_text}
-use Rattle.check_lines.proofs.Joined.{four}
+use Rattle.tl_script.specs.Trace.{origin_text, place_text}
+use Rattle.check_lines.specs.Trace.{entry_line, exchange_text}
 use Rattle.tl_text.proofs.TextLemmas.{begins_appended, begins_before, begins_with_itself}
-use Rattle.tl_script.proofs.Appended.{on_err}
+use Rattle.tl_script.proofs.Appended.{four, on_err}
 use Rattle.check_lines.proofs.trace.push_entry.Goals as goal
 
 pub returns-clause-ok : goal.returns-clause-ok

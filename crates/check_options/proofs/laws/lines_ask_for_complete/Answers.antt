@@ -1,6 +1,6 @@
 use Rattle.std.proofs.Common.{refl, codes, true, Some}
 use Rattle.clap.proofs.OnLiterals.{clap_on_literals}
-use Rattle.check_sides.specs.declared.links.Links.TheVariants.{Masters}
+use Rattle.check_watch.specs.declared.links.Links.TheVariants.{Masters}
 use Rattle.check_options.specs.Options.{plain}
 use Rattle.check_options.proofs.CommandLine.{asks}
 use Rattle.check_options.proofs.laws.lines_ask_for_complete.Goals as goal

@@ -1,5 +1,5 @@
 use Rattle.std.proofs.Common.{rules}
-use Rattle.check_options.proofs.Rules.{with_long}
+use Rattle.tl_cli.proofs.Rules.{with_long}
 use Rattle.check_options.proofs.options.coverage_option.Goals as goal
 
 pub returns-clause-rule : goal.returns-clause-rule

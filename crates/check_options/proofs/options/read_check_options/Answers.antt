@@ -1,26 +1,28 @@
 use Rattle.std.proofs.Common.{◌≡◌, ◌∙◌, rules, ap, map, refl, codes, [], Option}
 use Rattle.std.specs.Prelude.{option_map, unwrap_or}
 use Rattle.clap.specs.Words.{Text, app_of, first_of, matches_of}
-use Rattle.check_options.specs.Options.{file_of, flag_of, links_of, order_of, value_of}
-use Rattle.check_options.proofs.CommandLine.{first_read, is_free_line, some_line}
+use Rattle.tl_cli.specs.Rules.{file_of, flag_of, value_of}
+use Rattle.tl_cli.proofs.Rules.{first_read}
+use Rattle.check_options.specs.Options.{links_of, order_of}
+use Rattle.check_options.proofs.CommandLine.{is_free_line, is_simple_line, some_line}
 use Rattle.check_options.proofs.options.read_check_options.Goals as goal
 
 pub returns-in_err-command : goal.returns-in_err-command
-returns-in_err-command c =
+returns-in_err-command g c =
     record { answer = record { app = _; is = some_line; faults = search rules; asked = search rules } }
 
 pub returns-in_err-matches : goal.returns-in_err-matches
-returns-in_err-matches c =
+returns-in_err-matches g c =
     let line = c.in_ok-command.ensures in
     let faults = c.in_err-matches.ensures.kinds (is_free_line _ line) in
     record { answer = record { app = _; is = line; faults = search (rules, faults); asked = search rules } }
 
 pub returns : goal.returns
-returns c =
+returns g c =
     let command = c.in_ok-command.field-0 in
     let line = c.in_ok-command.ensures in
-    let words = map (λ word. word.now) c.args.words.now in
-    let read = first_read (app_of command) c.in_ok-matches.matches words line c.in_ok-matches.ensures.matches in
+    let words = map g.S.AsStr.text c.args.words.now in
+    let read = first_read (app_of command) c.in_ok-matches.matches words (is_simple_line _ line) c.in_ok-matches.ensures.matches in
     let rows = matches_of (app_of command) words in
     let or_none : Option Text → Text = λ o. unwrap_or o [] in
     let links : c.read_links.result ≡ links_of (value_of rows (codes "links")) =

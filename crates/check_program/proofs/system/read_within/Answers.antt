@@ -1,6 +1,7 @@
 -- A file that names parts is shorter than what is read at most, so the reader is at its end.
-use Rattle.std.proofs.Common.{rules, ◌≡◌, Ok, arith}
-use Rattle.check_description.specs.File.{parts_of, parts_view}
+use Rattle.std.proofs.Common.{ℕ, List, arith, subst}
+use Rattle.check_description.specs.Name.{NamesParts}
+use Rattle.check_description.specs.File.{parts_view}
 use Rattle.check_program.proofs.Files.{length-named}
 use Rattle.check_program.proofs.system.read_within.Goals as goal
 
@@ -9,11 +10,10 @@ returns-clause-ok g c =
     let file = c.in_ok-file.file.items in
     let parts = parts_view c.in_ok-parts.parts in
     let read = c.in_ok-file.ensures.bytes in
-    let named : parts_of file ≡ Ok parts = search rules in
-    let short = length-named file parts named in
+    let named = subst (λ (b : List ℕ). NamesParts b parts) c.deref.ensures.value c.in_ok-parts.ensures.named in
+    let short = length-named file parts named.are in
     record {
       file = file;
       read = record { taken = read.taken; whole = read.whole (omega arith) };
       named = named;
-      distinct = c.in_ok-parts.ensures.distinct;
     }

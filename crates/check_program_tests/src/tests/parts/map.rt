@@ -1,12 +1,11 @@
 //! The address map of ports with several ranges.
 ghost use Rattle.std.specs.Prelude.{◌↔◌, IsTrue, ◌≡◌, ◌<◌, true, All};
-ghost use Rattle.check_map.specs.Ranges.{AreRanges, IsLawfulRange, lists_in};
+ghost use Rattle.tl_map.specs.Map.{AreRanges, IsLawfulRange, lists_in};
 ghost use Rattle.check_program_tests.specs.Port.{IsPort};
 
-use check_map::{AddressMap, AddressMapFault, MAX_JUDGED_PORTS, MAX_RANGES_OF_PORT};
 use std::alloc::Global;
 use std::process::Abort;
-use tl_map::Range;
+use tl_map::{AddressMap, AddressMapFault, MAX_JUDGED_PORTS, MAX_RANGES_OF_PORT, Range};
 use tl_types::{Ask, AskOp};
 
 fn range(base: u64, length: u64) -> Range {

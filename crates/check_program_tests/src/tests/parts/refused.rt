@@ -2,9 +2,8 @@
 //! that each request may be refused in turn (`rt try --test --fail-alloc N`): the answer is the right one, or that
 //! memory was refused.
 use super::map::made;
-use check_map::{AddressMapFault, Owner, SourceOwnerFault, SourceOwners, blocks};
 use std::alloc::{AllocError, Global};
-use tl_map::Range;
+use tl_map::{AddressMapFault, Owner, Range, SourceOwnerFault, SourceOwners, blocks};
 
 static OWNERS: [Owner; 2] = [
     Owner {

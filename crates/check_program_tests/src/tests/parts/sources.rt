@@ -1,7 +1,7 @@
 //! The sources of masters.
-use check_map::{Owner, SourceOwnerFault, SourceOwners, blocks};
 use std::alloc::Global;
 use std::process::Abort;
+use tl_map::{Owner, SourceOwnerFault, SourceOwners, blocks};
 
 fn owner(first: u16, count: u32, stride: u16) -> Owner {
     Owner {

@@ -43,8 +43,8 @@ returns-in-Ok-true-take_quietly-clause-next g c =
         row,
         spells,
         λ text. record {
-          traced = c.in-Ok-true-take_quietly.ensures.trace;
-          asked = c.in-Ok-true-take_quietly.ensures.asked;
+          traced = c.in-Ok-true-take_quietly.ensures.same.trace;
+          asked = c.in-Ok-true-take_quietly.ensures.same.asked;
           tells = λ plan rows so_far has.
               subst (λ lanes. TellsOn plan (rows ++ seen_row c.in-Ok.row lanes ∷ []) c.take_quietly.new.self so_far text text)
               c.as_slice.ensures

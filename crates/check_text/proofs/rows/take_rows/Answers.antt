@@ -56,9 +56,9 @@ returns-in-Err-clause-halt g c =
     text grown c.args.records.now.left at to (halt_of r.line c.in-Err.stop) c.loop.invariant.taken
     (subst S next.2 (row_stops (link_buses c.args.buses.now) r (seen_row c.in-Left.row c.take_next.new.lanes) next.1 at to next.0 c.take_next.new.judge c.take.new.self.tally text grown c.in-Err.stop
     (λ plan rows so_far has. (
-      c.in-Err.ensures.stop plan rows has.judges,
-      c.in-Err.ensures.stop_covered plan rows has.judges,
-      c.in-Err.ensures.stop_told plan rows so_far has,
+      c.in-Err.ensures.row.stop plan rows has.judges,
+      c.in-Err.ensures.row.stop_covered plan rows has.judges,
+      c.in-Err.ensures.row.stop_told plan rows so_far has,
     )))))
 
 pub returns-in-Err-write_long-clause-halt : goal.returns-in-Err-write_long-clause-halt
@@ -78,11 +78,11 @@ returns-in-Err-write_long-clause-halt g c =
     text grown c.write_long.new.text.items c.args.records.now.left at to c.loop.invariant.taken
     (row_taken (link_buses c.args.buses.now) r (seen_row c.in-Left.row c.take_next.new.lanes) next.1 at to next.0 c.loop.judge c.take.new.self text grown
     (subst T next.2 (record {
-      traced = c.in_default.ensures.trace;
-      asked = c.in_default.ensures.asked;
+      traced = c.in_default.ensures.same.trace;
+      asked = c.in_default.ensures.same.asked;
       tells = λ plan rows so_far has.
           subst (λ lanes. TellsOn plan (rows ++ seen_row c.in-Left.row lanes ∷ []) c.take.new.self so_far text grown)
-          c.as_slice.ensures (c.in_default.ensures.told plan rows so_far has);
+          c.as_slice.ensures (c.in_default.ensures.row.told plan rows so_far has);
     }))) c.in-Err-write_long.ensures.front)
 
 pub loop-preserved : goal.loop-preserved
@@ -110,19 +110,19 @@ loop-preserved g c =
           let T : JudgeView → Type 0 = λ judge. Took judge (seen_row w.in-Left.row c.take_next.new.lanes) w.take.new.self text grown in
           rw (w.judge-is, w.writer-is, w.text-is) (record {
             fresh = w.in-Left.ensures.goes_on.0;
-            covered = w.in_default.ensures.covered ∙ w.in-Left.ensures.covered ∙ c.loop.invariant.covered;
-            layout = w.in_default.ensures.layout ∙ w.in-Left.ensures.layout ∙ c.loop.invariant.layout;
+            covered = w.in_default.ensures.same.covered ∙ w.in-Left.ensures.covered ∙ c.loop.invariant.covered;
+            layout = w.in_default.ensures.same.layout ∙ w.in-Left.ensures.layout ∙ c.loop.invariant.layout;
             same = w.in_default-write_long.ensures.same ∙ c.loop.invariant.same;
             taken = took_more (link_buses c.args.buses.now) c.args.judge.now (contents c.args.writer.now.writer.now) c.loop.judge w.take.new.self
                 (contents c.loop.writer.writer.now) (contents w.write_long.new.writer.writer.now)
                 text grown w.write_long.new.text.items c.args.records.now.left at to c.loop.invariant.taken
                 (row_taken (link_buses c.args.buses.now) r (seen_row w.in-Left.row c.take_next.new.lanes) next.1 at to next.0 c.loop.judge w.take.new.self text grown
                 (subst T next.2 (record {
-                  traced = w.in_default.ensures.trace;
-                  asked = w.in_default.ensures.asked;
+                  traced = w.in_default.ensures.same.trace;
+                  asked = w.in_default.ensures.same.asked;
                   tells = λ plan rows so_far has.
                       subst (λ lanes. TellsOn plan (rows ++ seen_row w.in-Left.row lanes ∷ []) w.take.new.self so_far text
-                      grown) w.as_slice.ensures (w.in_default.ensures.told plan rows so_far has);
+                      grown) w.as_slice.ensures (w.in_default.ensures.row.told plan rows so_far has);
                 }))) w.in_default-write_long.ensures.moves;
           })
     ]

@@ -20,7 +20,7 @@ returns-in_err-system-clause-fault c old new reads =
     (system-first old new c.args.bytes.now fault reads
     (λ not_memory. inr (
       _,
-      record { are = c.in_ok-parts.ensures.named; distinct = c.in_ok-parts.ensures.distinct },
+      c.in_ok-parts.ensures.named,
       c.in_err-system.ensures.fault not_memory,
     )))
 
@@ -28,7 +28,7 @@ pub returns-clause-ok : goal.returns-clause-ok
 returns-clause-ok c old new reads =
     c.named_links.ensures.ok old new reads (record {
       parts = _;
-      named = record { are = c.in_ok-parts.ensures.named; distinct = c.in_ok-parts.ensures.distinct };
+      named = c.in_ok-parts.ensures.named;
       made = c.in_ok-system.ensures.made;
     })
 
@@ -36,6 +36,6 @@ pub returns-clause-fault : goal.returns-clause-fault
 returns-clause-fault c old new reads =
     c.named_links.ensures.fault old new reads (record {
       parts = _;
-      named = record { are = c.in_ok-parts.ensures.named; distinct = c.in_ok-parts.ensures.distinct };
+      named = c.in_ok-parts.ensures.named;
       made = c.in_ok-system.ensures.made;
     })

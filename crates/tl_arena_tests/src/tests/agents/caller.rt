@@ -10,7 +10,7 @@ use crate::tests::floor::BASE;
 use std::alloc::Global;
 use std::process::Abort;
 use tl_arena::{Arena, Claim, MasterSeat, Served, Ticket};
-use tl_map::Sources;
+use tl_map::SourceOwners;
 use tl_types::{Ask, AskOp, Reply, ReplyOp};
 
 /// How often a caller looks for its reply before it gives up.
@@ -20,10 +20,10 @@ const MAX_LOOKS: usize = 1_000_000_000;
 #[derive(Drop)]
 pub(in crate::tests) struct Seat<'a> {
     arena: &'a Arena,
-    sources: &'a Sources,
+    sources: &'a SourceOwners,
     seat: MasterSeat,
     ghost at: { seat.arena ≡ arena.now },
-    ghost blocks: { arena.now.about.counts ≡ sources.now },
+    ghost blocks: { arena.now.about.owners ≡ sources.now },
 }
 
 /// A reply that was collected, with some of its bytes as they lie (the first, the fourth and the fifth), the port that
@@ -170,10 +170,10 @@ pub(in crate::tests) fn callers_of<'a>(
     rt: &impl Abort,
     alloc: Global,
     arena: &'a Arena,
-    sources: &'a Sources,
+    sources: &'a SourceOwners,
     seats: Vec<MasterSeat>,
 ) -> Vec<Caller<'a>>
-    requires blocks { sources.now ≡ arena.now.about.counts }
+    requires blocks { sources.now ≡ arena.now.about.owners }
     requires seats { All (λ v. v ≡ new_master arena.now v.number) seats.items }
 {
     let mut callers = Vec::new(alloc);

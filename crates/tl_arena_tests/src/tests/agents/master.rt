@@ -1,5 +1,6 @@
 //! A master (`tl_master`).
 ghost use Rattle.std.specs.Prelude.{◌≡◌, ◌+◌, ◌≤◌, All, length};
+ghost use Rattle.tl_map.specs.Blocks.{HaveBlocks};
 ghost use Rattle.tl_arena.specs.Views.{new_master};
 
 use crate::tests::floor::BASE;
@@ -7,7 +8,7 @@ use std::alloc::Global;
 use std::process::Abort;
 use tl_arena::{Arena, MasterSeat};
 use tl_journal::Trace;
-use tl_map::{Map, Sources};
+use tl_map::{AddressMap, SourceOwners};
 use tl_master::{IssueFault, Issued, Master, Polled};
 use tl_types::{Ask, AskOp};
 
@@ -15,7 +16,7 @@ use tl_types::{Ask, AskOp};
 #[derive(Drop)]
 pub(in crate::tests) struct Client<'a> {
     pub(in crate::tests) arena: &'a Arena,
-    pub(in crate::tests) map: &'a Map,
+    pub(in crate::tests) map: &'a AddressMap,
     pub(in crate::tests) master: Master,
     ghost here: { master.seat.arena ≡ arena.now },
     ghost ports: { length map.now + 1 ≤ arena.now.about.ports },
@@ -43,13 +44,14 @@ pub(in crate::tests) fn clients_of<'a>(
     rt: &impl Abort,
     alloc: Global,
     arena: &'a Arena,
-    map: &'a Map,
-    sources: &Sources,
+    map: &'a AddressMap,
+    sources: &SourceOwners,
     seats: Vec<MasterSeat>,
     limit: usize,
 ) -> Vec<Client<'a>>
     requires ports { length map.now + 1 ≤ arena.now.about.ports }
-    requires blocks { sources.now ≡ arena.now.about.counts }
+    requires owners { sources.now ≡ arena.now.about.owners }
+    requires blocks { HaveBlocks sources.now }
     requires seats { All (λ v. v ≡ new_master arena.now v.number) seats.items }
 {
     let mut clients = Vec::new(alloc);

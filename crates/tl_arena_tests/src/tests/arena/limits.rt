@@ -1,9 +1,8 @@
 //! How many slots, masters and ports an arena may have.
-use crate::tests::floor::{RAM, bank_of};
+use crate::tests::floor::{BlockSources, RAM, bank_of};
 use std::alloc::Global;
 use std::process::Abort;
 use tl_arena::{Arena, ArenaFault};
-use tl_map::Sources;
 
 /// The fault of an arena of so many slots, of masters with one source each, and of so many ports, if it has one.
 fn fault_of(
@@ -17,9 +16,9 @@ fn fault_of(
     for _ in 0..ports {
         banks.push(bank_of(rt, alloc, &RAM)).expect(rt, "memory");
     }
-    let counts = Vec::from_elem(alloc, 1u16, masters).expect(rt, "memory");
-    let sources = Sources::new(alloc, counts.as_slice()).expect(rt, "sources");
-    Arena::new(alloc, slots, &sources, banks.as_slice()).err()
+    let counts = Vec::from_elem(alloc, 1u32, masters).expect(rt, "memory");
+    let sources = BlockSources::new(rt, alloc, counts.as_slice());
+    Arena::new(alloc, slots, sources.owners(), banks.as_slice()).err()
 }
 
 /// Slots, masters and ports, and the fault of an arena with so many.

@@ -378,7 +378,7 @@ pub(in crate::tests) fn walk_along(rt: &impl Abort, alloc: Global, stage: Stage)
 static SCENE: Scene = Scene {
     setting: Setting {
         slots: SLOTS,
-        sources: &[SOURCES; MASTERS],
+        sources: &[4; MASTERS],
         near: RAM,
         far: NO_DEVICE,
         cast: Cast::Masters(LIMIT),

@@ -11,7 +11,7 @@ use std::sync::Wait;
 use std::thread;
 use std::thread::Threads;
 use tl_arena::{Arena, ArenaName};
-use tl_map::Map;
+use tl_map::AddressMap;
 use tl_master::{Master, Polled};
 use tl_port::{Book, Intake, Port, Step};
 use tl_types::Ask;
@@ -19,7 +19,7 @@ use tl_types::Ask;
 /// A master, and the slots of two requests that it issues.
 fn issue_two(
     arena: &Arena,
-    map: &Map,
+    map: &AddressMap,
     master: Master,
     asks: &[Ask; 2],
 ) -> (Master, Option<[usize; 2]>)

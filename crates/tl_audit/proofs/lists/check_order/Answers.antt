@@ -3,6 +3,7 @@ use Rattle.std.proofs.lemmas.Bool.{cases_lt}
 use Rattle.std.proofs.lemmas.List.{length-map}
 use Rattle.std.proofs.lemmas.Option.{slice_get_read, slice_get_within}
 use Rattle.tl_journal.specs.Trace.{entries_in}
+use Rattle.tl_map.proofs.Counted.{below_count}
 use Rattle.tl_audit.specs.Agrees.{HasEntry, journals_in}
 use Rattle.tl_audit.proofs.Cells.{cell_within}
 use Rattle.tl_audit.proofs.Entries.{trace_at}
@@ -19,7 +20,7 @@ first_disordered-requires c k e at =
     search (rules, length-map) in
     let within = cell_within (journals_in c.args.histories.now) e.port e.index _ recorded.at in (
       rw lengths at within,
-      recorded.is.counted,
+      below_count c.args.sources.now c.loop-master.master e.ask.source recorded.wide recorded.is,
     )
 
 pub returns-in-Some-clause-fault : goal.returns-in-Some-clause-fault

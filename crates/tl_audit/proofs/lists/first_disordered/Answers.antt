@@ -10,7 +10,7 @@ pub first_out_of_order-requires-clause-cells : goal.first_out_of_order-requires-
 first_out_of_order-requires-clause-cells c k e at =
     let places = c.requires k e at in
     let within : e.ask.source < c.unwrap_or-count.result =
-    rw (c.unwrap_or-count.ensures, c.count.ensures.value) (below_it _ e.ask.source places.1) in
+    rw (c.unwrap_or-count.ensures, c.count.ensures) (below_it _ e.ask.source places.1) in
     rw (
       c.deref_mut.ensures.value,
       c.in_ok-lasts.ensures,

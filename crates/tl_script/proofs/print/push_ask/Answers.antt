@@ -1,8 +1,8 @@
 -- What was written so far, appended to what there was.
 use Rattle.std.proofs.Common.{rules, append_assoc}
 use Rattle.std.proofs.lemmas.Result.{on_err_weaker}
-use Rattle.tl_text.proofs.TextLemmas.{begins_before}
-use Rattle.tl_script.proofs.Appended.{on_err, twice, thrice}
+use Rattle.tl_text.proofs.TextLemmas.{begins_appended, begins_before}
+use Rattle.tl_script.proofs.Appended.{on_err}
 use Rattle.tl_script.proofs.print.push_ask.Goals as goal
 
 pub returns-in_err-push_target-clause-ok : goal.returns-in_err-push_target-clause-ok
@@ -12,19 +12,10 @@ pub returns-in_err-push_target-clause-err : goal.returns-in_err-push_target-clau
 returns-in_err-push_target-clause-err c =
     on_err c.from_residual.result c.in_err-push_target.ensures.err
 
-pub returns-in_err-push_field-clause-ok : goal.returns-in_err-push_field-clause-ok
-returns-in_err-push_field-clause-ok c = search rules
-
-pub returns-in_err-push_field-clause-err : goal.returns-in_err-push_field-clause-err
-returns-in_err-push_field-clause-err c =
-    let b0 = thrice _ _ _ _ _ c.in_ok-push_target.ensures.ok in
-    on_err c.from_residual-in_err-push_field.result (begins_before _ _ _ c.in_err-push_field.ensures.err b0)
-
 pub returns-clause-err : goal.returns-clause-err
 returns-clause-err c =
-    let b0 = thrice _ _ _ _ _ c.in_ok-push_target.ensures.ok in
-    let b1 = begins_before _ _ _ (twice _ _ _ _ c.in_ok-push_field.ensures.ok) b0 in
-    on_err_weaker c.push_data.result (λ after. begins_before _ _ _ after b1) c.push_data.ensures.err
+    let b0 = begins_appended _ _ _ c.in_ok-push_target.ensures.ok in
+    on_err_weaker c.push_data.result (λ after. begins_before _ _ _ after b0) c.push_data.ensures.err
 
 pub returns-clause-ok : goal.returns-clause-ok
 returns-clause-ok c = search (rules, append_assoc)

@@ -1,6 +1,7 @@
 -- An operation's line more.
 use Rattle.std.proofs.Common.{◌≡◌, ◌∙◌, ◌++◌, ◌∷◌, [], ℕ, Bool, List, Some, slice_get, sym, ap}
 use Rattle.tl_types.specs.Request.{Request}
+use Rattle.tl_map.specs.Blocks.{counts_in}
 use Rattle.tl_script.specs.Trace.{trace_line}
 use Rattle.tl_journal.specs.Trace.{served_entry}
 use Rattle.tl_script.specs.Operations.{job_at}
@@ -14,7 +15,7 @@ pub send-requires-clause-source : goal.send-requires-clause-source
 send-requires-clause-source c =
     let at : slice_get c.args.jobs.now c.loop-number.number ≡ Some (Send c.fill.new.ask) =
     c.fill.ensures.job ∙ ap (λ (sends : Bool). Some (job_at sends c.fill.new.ask)) c.if-fill.true in
-    some_sent (slice_get c.args.system.now.counts c.args.master) c.args.jobs.now c.loop-number.number c.fill.new.ask at c.requires.source
+    some_sent (slice_get (counts_in c.args.system.now.owners) c.args.master) c.args.jobs.now c.loop-number.number c.fill.new.ask at c.requires.source
 
 pub loop-number-preserved : goal.loop-number-preserved
 loop-number-preserved c =

@@ -1,15 +1,15 @@
 use Rattle.std.proofs.Common.{List, sym, subst}
-use Rattle.tl_map.specs.declared.map.Range.{Range}
+use Rattle.tl_map.specs.declared.range.Range.{Range}
 use Rattle.tl_master.specs.Master.{MasterState}
 use Rattle.tl_workers.specs.Trace.{HasAsked, IsSame}
 use Rattle.tl_workers.proofs.Asking.{same_then, same_asked, issue_asks}
-use Rattle.tl_workers.proofs.Routed.{routed_in_range}
+use Rattle.tl_map.proofs.Routing.{routed_in_range}
 use Rattle.tl_workers.proofs.master_thread.issue.Goals as goal
 
 pub returns-in-Ok-clause-asked : goal.returns-in-Ok-clause-asked
 returns-in-Ok-clause-asked g c =
     let ranges = c.map-map.result.now in
-    subst (λ (rs : List Range). HasAsked rs c.args.master.now c.args.ask.now c.issue.new.self) c.map-map.ensures
+    subst (λ (rs : List (List Range)). HasAsked rs c.args.master.now c.args.ask.now c.issue.new.self) c.map-map.ensures
     (same_asked ranges c.args.master.now c.loop.master c.issue.new.self c.args.ask.now c.loop.invariant.2
     (issue_asks ranges c.loop.master c.args.ask.now c.in-Ok.issued c.issue.new.self c.in-Ok.ensures.issues c.in-Ok.ensures.asked))
 

@@ -2,7 +2,7 @@ use Rattle.std.proofs.lemmas.Option.{slice_get-get_or}
 use Rattle.std.proofs.Math.Nat.{mul-le-mul_right}
 use Rattle.std.proofs.Common.{get_or, ◌≡◌, ◌≤◌, ◌+◌, ◌∙◌, ℕ, List, length, replicate, take, slice_get, Some, ap, sym, subst, arith}
 use Rattle.tl_types.specs.declared.limits.TheConstants.{MAX_MASTERS}
-use Rattle.tl_map.specs.declared.map.Range.{Range}
+use Rattle.tl_map.specs.declared.range.Range.{Range}
 use Rattle.tl_script.specs.declared.system.TheConstants.{MAX_JOBS}
 use Rattle.tl_script.specs.System.{sends}
 use Rattle.tl_workers.specs.Start.{AddsArrivals, all_sends}
@@ -21,16 +21,13 @@ count_sends-requires-clause-room c p n at =
     let short : length c.jobs-item.result ≤ MAX_JOBS =
     short_list s c.jobs-jobs-items.ensures.lawful k c.jobs-item.result here in
     let many = listed_many s c.jobs-jobs-items.result.now c.jobs-jobs-items.ensures.value in
-    let counts : c.masters-few_masters.result ≡ length s.counts =
-    c.masters-few_masters.ensures.value ∙ ap (λ (l : List ℕ). length l) c.sources.ensures in
     let masters : k ≤ MAX_MASTERS =
     omega (
       arith,
       c.loop-jobs-test.true,
       many,
       c.jobs-jobs-items.ensures.lawful.lists,
-      counts,
-      c.masters-few_masters.ensures.in_limit,
+      c.jobs-jobs-items.ensures.lawful.few_masters,
     ) in
     fits_number n (length asks) k (length c.jobs-item.result) few was.few masters short
 
@@ -45,7 +42,7 @@ loop-jobs-preserved c =
     let here = listed_at s c.jobs-jobs-items.result.now k c.jobs-item.result c.jobs-jobs-items.ensures.value c.loop-jobs-test.true c.jobs-item.is in
     let from : AddsArrivals s.ranges (sends own) c.loop-jobs.counts.items new =
     subst (λ (l : List ℕ). AddsArrivals s.ranges (sends own) l new) c.deref_mut.ensures.value
-    (subst (λ (rs : List Range). AddsArrivals rs
+    (subst (λ (rs : List (List Range)). AddsArrivals rs
     (sends own) c.deref_mut.result.now new) c.map-map.ensures c.count_sends.ensures) in
     let written = all_written c.loop-jobs.counts.len new _ (c.count_sends.ensures.many ∙ c.deref_mut.ensures.len) in
     record {
@@ -72,15 +69,12 @@ returns-clause-few c =
     let was = c.loop-jobs.invariant in
     let asks = all_sends (take k s.jobs) in
     let many = listed_many s c.jobs-jobs-items.result.now c.jobs-jobs-items.ensures.value in
-    let counts : c.masters-few_masters.result ≡ length s.counts =
-    c.masters-few_masters.ensures.value ∙ ap (λ (l : List ℕ). length l) c.sources.ensures in
     let masters : k ≤ MAX_MASTERS =
     omega (
       arith,
       many,
       c.jobs-jobs-items.ensures.lawful.lists,
-      counts,
-      c.masters-few_masters.ensures.in_limit,
+      c.jobs-jobs-items.ensures.lawful.few_masters,
       c.loop-jobs.auto.jobs-index-end,
     ) in
     λ i d within.

@@ -6,7 +6,7 @@ pub loop-preserved : goal.loop-preserved
 loop-preserved g c =
     let bells = c.is_held-held.ensures.bells ∙ c.next_ring.ensures.bells ∙ c.loop.invariant.2 in
     let within : length c.sources-sources.result.now ≤ vec_len c.is_held-held.new.bells.others =
-    rw (bells, c.sources-sources.ensures) (omega arith) in (
+    rw (bells, c.sources-sources.ensures.value) (omega arith) in (
       c.loop.invariant.0,
       c.loop.invariant.1,
       bells,

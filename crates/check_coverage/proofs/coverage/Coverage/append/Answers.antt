@@ -1,6 +1,6 @@
 -- The first line, and those of all bins.
 use Rattle.std.proofs.Common.{◌≡◌, ◌∙◌, ap, arith, length, List}
-use Rattle.tl_map.specs.declared.map.Range.{Range}
+use Rattle.tl_map.specs.declared.range.Range.{Range}
 use Rattle.std.proofs.lemmas.Result.{on_err_weaker}
 use Rattle.tl_text.proofs.TextLemmas.{begins_appended, begins_before, begins_with_itself}
 use Rattle.check_sides.specs.Plan.{Layout}

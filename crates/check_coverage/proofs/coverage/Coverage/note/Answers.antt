@@ -3,9 +3,9 @@ use Rattle.std.proofs.Common.{◌≡◌, ◌∙◌, ℕ, true, Some, ap, sym, su
 use Rattle.std.specs.Prelude.{◌↔◌}
 use Rattle.std.proofs.lemmas.Option.{none-some, same_Some}
 use Rattle.check_beats.specs.Bus.{bus_bytes}
-use Rattle.check_map.specs.Owner.{IsWideSource}
+use Rattle.tl_map.specs.Owner.{IsWideSource}
 use Rattle.check_watch.specs.declared.seen.Ended.{Ended}
-use Rattle.check_sides.specs.declared.links.Links.{Links}
+use Rattle.check_watch.specs.declared.links.Links.{Links}
 use Rattle.check_sides.specs.Plan.{Layout, bus_of}
 use Rattle.check_unanswered.specs.Began.{beats_of, row_with}
 use Rattle.check_coverage.specs.Flights.{is_counted, wide_at}
@@ -37,8 +37,8 @@ returns-in-Some c = λ plan rows lanes covers keeps is_end.
     found_wide plan (beats_of rows) row.sighting keeps.suits.lawful keeps.lawful counted c.sources.result.now
     c.wide_source.result owners
     (λ number wide is. subst (λ (s : ℕ). (c.wide_source.result ≡ Some wide) ↔ IsWideSource c.sources.result.now number s wide)
-    c.source_of.ensures (c.wide_source.ensures.master number wide is))
-    (λ number is. c.wide_source.ensures.port number is ∙ ap (λ (s : ℕ). Some s) c.source_of.ensures) in
+    c.source.ensures (c.wide_source.ensures.master number wide is))
+    (λ number is. c.wide_source.ensures.port number is ∙ ap (λ (s : ℕ). Some s) c.source.ensures) in
     let wide : c.in-Some.wide ≡ wide_at plan row.sighting =
     same_Some c.in-Some.wide (wide_at plan row.sighting) (sym c.in-Some.is ∙ found) in
     ok_then c.note_beat.result
@@ -62,6 +62,6 @@ returns-in-None c = λ plan rows lanes covers keeps is_end.
     found_wide plan (beats_of rows) row.sighting keeps.suits.lawful keeps.lawful counted c.sources.result.now
     c.wide_source.result owners
     (λ number wide is. subst (λ (s : ℕ). (c.wide_source.result ≡ Some wide) ↔ IsWideSource c.sources.result.now number s wide)
-    c.source_of.ensures (c.wide_source.ensures.master number wide is))
-    (λ number is. c.wide_source.ensures.port number is ∙ ap (λ (s : ℕ). Some s) c.source_of.ensures) in
+    c.source.ensures (c.wide_source.ensures.master number wide is))
+    (λ number is. c.wide_source.ensures.port number is ∙ ap (λ (s : ℕ). Some s) c.source.ensures) in
     absurd (none-some (wide_at plan row.sighting) (sym c.in-None.is ∙ found))

@@ -63,7 +63,7 @@ returns-clause-left c plan file =
     record {
       crossed = crossed;
       crossing = judges.crossing;
-      is = subst A c.in_default.ensures.asked (c.left.ensures plan (watched plan.layout crossed) kept.pending);
+      is = subst A c.in_default.ensures.same.asked (c.left.ensures plan (watched plan.layout crossed) kept.pending);
     })
 
 pub returns-clause-counts : goal.returns-clause-counts

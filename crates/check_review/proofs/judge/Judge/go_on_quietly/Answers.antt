@@ -23,6 +23,6 @@ returns-clause-told c plan file so_far text has = λ _.
     (subst (λ (tally : Tally). Kept plan (reverse c.self.inside.moment.rows ++ has.judges.before) tally)
     (sym (ap (λ (judge : JudgeView). judge.tally) c.begin_moment.ensures))
     (c.in_ok-pass_rows.ensures.keeps plan has.judges.before has.judges.kept passed))
-    (ap (λ (judge : JudgeView). judge.tally.trace) c.begin_moment.ensures ∙ c.in_ok-pass_rows.ensures.trace)
+    (ap (λ (judge : JudgeView). judge.tally.trace) c.begin_moment.ensures ∙ c.in_ok-pass_rows.ensures.same.trace)
     (c.in_ok-pass_rows.ensures.told plan has.judges.before text has.judges.kept passed))
     c.requires.later has

@@ -14,7 +14,7 @@ returns-clause-keeps c plan before kept =
     kept_noted plan before row c.args.self.now c.step_row.new.self c.note.new.self c.change-change.result kept (record {
       here = (watched_is plan.layout row.sighting.link).1
           (subst P kept.tallied.keeps.suits.layout (c.watches.ensures.0 c.if-not-watches.false));
-      tallied = c.in_default.ensures.keeps plan before kept.tallied;
+      tallied = c.in_default.ensures.row.keeps plan before kept.tallied;
       same = c.in_default.ensures.pending;
       asked = c.change-change.ensures.asked;
       change = c.change-change.ensures.change plan (sightings_of plan.layout before) c.args.lanes.now kept.tallied.keeps;

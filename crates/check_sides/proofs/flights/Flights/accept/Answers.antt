@@ -1,7 +1,8 @@
 use Rattle.std.proofs.Common.{◌≡◌, rules, Some}
 use Rattle.std.specs.BTreeMap.{get}
 use Rattle.std.specs.Ordering.{nat_cmp}
-use Rattle.check_sides.proofs.Outcomes.{on_err, on_ok}
+use Rattle.check_watch.proofs.Keeping.{on_ok}
+use Rattle.check_watch.proofs.Stepping.{on_err}
 use Rattle.check_sides.proofs.Puts.{put_through, written_same}
 use Rattle.check_sides.proofs.flights.Flights.accept.Goals as goal
 

@@ -5,7 +5,8 @@ use Rattle.std.specs.Prelude.{IsTrue, IsSomeAnd, OnOk, OnErr}
 use Rattle.check_flight.specs.Flight.{Flight, asked, flight_due, idle}
 use Rattle.check_flight.specs.PortSlave.{answering, due_answering, may_need_to_answer}
 use Rattle.check_sides.specs.Flights.{flight_of, flight_kept}
-use Rattle.check_sides.proofs.Outcomes.{on_err, on_ok}
+use Rattle.check_watch.proofs.Keeping.{on_ok}
+use Rattle.check_watch.proofs.Stepping.{on_err}
 use Rattle.check_sides.proofs.Puts.{changed_some, put_through, written_same}
 use Rattle.check_sides.proofs.flights.Flights.answer.Goals as goal
 

@@ -1,6 +1,6 @@
 use Rattle.std.proofs.Common.{◌≡◌, ◌∙◌, ◌<◌, None, List, rules, arith, ap, sym, subst}
-use Rattle.tl_map.specs.declared.map.Range.{Range}
-use Rattle.check_map.specs.Ranges.{RoutesBytesByRanges}
+use Rattle.tl_map.specs.declared.range.Range.{Range}
+use Rattle.tl_map.specs.Map.{RoutesBytes}
 use Rattle.check_beats.specs.Form.{FitsAsk}
 use Rattle.check_beats.specs.State.{first_ask}
 use Rattle.check_flight.specs.Flight.{Flight}
@@ -42,8 +42,8 @@ returns-then-route_bytes-port-clause-reason c layout beyond lanes own =
     let free : (flight_in view beat.source).turn ≡ Idle =
     ap (λ (f : Flight). f.turn) (sym flight) ∙ c.is_idle.ensures.0 c.if-not-is_idle.false in
     first_ask_reason layout (Port c.args.port) here beat c.args.known lanes WrongPort
-    (λ placed. let at : RoutesBytesByRanges c.args.map.now beat.address beat.size c.args.port =
-    subst (λ (m : List (List Range)). RoutesBytesByRanges m beat.address beat.size c.args.port) own.ranges (placed begins) in
+    (λ placed. let at : RoutesBytes c.args.map.now beat.address beat.size c.args.port =
+    subst (λ (m : List (List Range)). RoutesBytes m beat.address beat.size c.args.port) own.ranges (placed begins) in
     c.if-route_bytes-port.true ((c.route_bytes.ensures.port c.args.port).1 at))
     (up_to layout c.args.map.now c.args.port own here beat c.args.known lanes 9 fits c.in_default.ensures.known small
     (λ lower _. free) (λ lower. absurd (omega (arith, lower))))
@@ -59,8 +59,8 @@ returns-clause-allowed c layout beyond lanes own =
     c.flight.ensures ∙ ap (λ (p : PortView). flight_in p beat.source) c.self.view_is in
     let free : (flight_in view beat.source).turn ≡ Idle =
     ap (λ (f : Flight). f.turn) (sym flight) ∙ c.is_idle.ensures.0 c.if-not-is_idle.false in
-    let at : RoutesBytesByRanges layout.ports beat.address beat.size c.args.port =
-    subst (λ (m : List (List Range)). RoutesBytesByRanges m beat.address beat.size c.args.port) (sym own.ranges)
+    let at : RoutesBytes layout.ports beat.address beat.size c.args.port =
+    subst (λ (m : List (List Range)). RoutesBytes m beat.address beat.size c.args.port) (sym own.ranges)
     ((c.route_bytes.ensures.port c.args.port).0 c.if-route_bytes-port.false) in
     allowed_ask layout (Port c.args.port) here beat c.args.known lanes
     (up_to layout c.args.map.now c.args.port own here beat c.args.known lanes 18 fits c.in_default.ensures.known small

@@ -1,6 +1,6 @@
 use Rattle.std.proofs.Common.{◌≡◌, true, false, sym, subst}
 use Rattle.check_watch.specs.Plan.{seen_at}
-use Rattle.check_sides.specs.Groups.{is_alone, shared_past, shared_plan}
+use Rattle.check_sides.specs.Groups.{is_alone, shared_past}
 use Rattle.check_sides.specs.Plan.{Layout}
 use Rattle.check_sides.specs.View.{Keeps, View}
 use Rattle.check_sides.proofs.Changes.{alone_changes, shared_changes}
@@ -19,6 +19,6 @@ returns-in-None-clause-change c plan past known lanes keeps lawful =
     subst (λ (l : Layout). is_alone l.links c.args.link ≡ false) keeps.suits.layout c.in-None.ensures.shared in
     let view : View = c.args.self.now in
     shared_changes plan past x shared c.change.result
-    (c.change.ensures.change (shared_plan plan) (shared_past plan.layout.links past) known lanes
+    (c.change.ensures.change plan (shared_past plan.layout.links past) known lanes
     (subst (Keeps plan past) (sym c.self.view_is) keeps).shared
     (shared_allowed plan past view x keeps shared lawful))

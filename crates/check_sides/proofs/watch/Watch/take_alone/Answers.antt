@@ -1,119 +1,58 @@
-use Rattle.std.proofs.Common.{◌≡◌, ◌∙◌, ◌⊎◌, ◌∷◌, List, Some, length, slice_get, true, ap, sym, subst}
-use Rattle.std.specs.Prelude.{◌↔◌, IfOk, IfSome, IsSome, OnErr, OnSome, Option, slice_set}
+use Rattle.std.proofs.Common.{◌≡◌, ◌∙◌, Some, length, slice_get, true, ap, sym, subst}
+use Rattle.std.specs.Prelude.{slice_set}
 use Rattle.check_watch.specs.declared.beat.Link.{Link}
 use Rattle.check_watch.specs.declared.beat.Link.TheVariants.{Port}
-use Rattle.check_watch.specs.declared.seen.Ended.{Ended}
-use Rattle.check_watch.specs.Lawful as group_lawful
-use Rattle.check_watch.specs.Plan.{Sighting, seen_at}
-use Rattle.check_watch.specs.Scene.{ended_by}
-use Rattle.check_sides.specs.Groups.{is_alone, layout_with, port_past, port_plan}
-use Rattle.check_sides.specs.Lawful.{IsFirstRequest, IsLawful, MayNeedMemory, what_is_seen}
-use Rattle.check_sides.specs.Plan.{Layout, Plan}
-use Rattle.check_sides.specs.View.{IsOwnPort, Keeps, KeepsPort, View}
-use Rattle.check_sides.proofs.Outcomes.{if_ok, on_err, on_some}
-use Rattle.check_sides.proofs.Grouping.{of_group}
-use Rattle.check_sides.proofs.Keeping.{alone_before, alone_kept, alone_lawful, alone_there, found_before, kept_here, needed_alone, own_port, sized_with, wide_before}
+use Rattle.check_watch.specs.Plan.{seen_at}
+use Rattle.check_sides.specs.Groups.{is_alone, port_past, port_plan}
+use Rattle.check_sides.specs.Plan.{Layout}
+use Rattle.check_sides.specs.Steps.{IsTakeAfter}
+use Rattle.check_sides.specs.View.{Keeps, View}
+use Rattle.check_sides.proofs.Keeping.{alone_before, alone_take, found_before, kept_here, own_port, sized_with, wide_before}
 use Rattle.check_sides.proofs.watch.Watch.take_alone.Goals as goal
 
 abbrev view_of : goal.After-self-1 → View
 view_of c = record {
-  layout = layout_with c.self.inside.links c.self.inside.shared.layout;
+  layout = c.self.inside.shared.layout;
   shared = c.self.inside.shared;
   ports = c.self.inside.ports.items;
 }
 
-alone_inside : (c : goal.After-self-1) → is_alone c.self.inside.links (Port c.args.port) ≡ true
-alone_inside c =
-    alone_before (view_of c) c.args.self.now c.args.port c.args.link c.self.view_is c.requires.here c.requires.alone
-
 found : (c : goal.After-self-1) → slice_get c.self.inside.ports.items c.args.port ≡ Some c.index_mut.result.now
 found c =
     found_before (view_of c) c.args.self.now c.args.port c.args.link c.self.view_is c.requires.here c.requires.alone
-    c.self.invariant c.requires.known c.index_mut.result.now c.index_mut.ensures.value
+    c.self.invariant c.requires.beat.known c.index_mut.result.now c.index_mut.ensures.value
 
-module _ (c : goal.After-self-1) (plan : Plan) (past : List Sighting) (keeps : Keeps plan past (view_of c)) where
-  abbrev at : Link → Sighting
-  at link = seen_at link c.args.beat.now c.args.known c.args.lanes.now
-
-  alone : is_alone plan.layout.links (Port c.args.port) ≡ true
-  alone =
-      subst (λ (l : Layout). is_alone l.links (Port c.args.port) ≡ true) keeps.suits.layout
-      (alone_inside c)
-
-  here : KeepsPort (port_plan plan) c.args.port (port_past c.args.port past) c.index_mut.result.now
-  here = kept_here plan past (view_of c) c.args.port c.args.beat.now c.args.known c.args.lanes.now keeps alone
-      c.index_mut.result.now (found c)
-
-  own : IsOwnPort (port_plan plan).layout c.map-map.result.now
-  own = own_port plan past (view_of c) c.args.port c.args.beat.now c.args.known c.args.lanes.now keeps alone
-      c.map-map.result.now (ap (λ (l : Layout). l.ports) (sym keeps.suits.layout) ∙ sym c.map-map.ensures)
-
--- what is kept is that of the fields
-within : (c : goal.After-self-1) (plan : Plan) (past : List Sighting) → Keeps plan past c.args.self.now
-    → Keeps plan past (view_of c)
-within c plan past keeps = subst (Keeps plan past) (sym c.self.view_is) keeps
-
-pub returns-clause-lawful : goal.returns-clause-lawful
-returns-clause-lawful c plan past keeps =
-    let k = within c plan past keeps in
-    subst (λ (l : Link). IfOk c.take.result (λ end. IsSome end ↔ IsLawful plan (at c plan past k l ∷ past)))
-    (sym c.requires.here)
-    (if_ok c.take.result (λ (end : Option Ended).
-    alone_there plan past (view_of c) c.args.port c.args.beat.now c.args.known c.args.lanes.now k (alone c plan past k)
-    c.index_mut.result.now (found c) (IsSome end))
-    (c.take.ensures.lawful (port_plan plan) (port_past c.args.port past) (own c plan past k) (here c plan past k)))
-
-pub returns-clause-keeps : goal.returns-clause-keeps
-returns-clause-keeps c plan past keeps =
-    let k = within c plan past keeps in
-    let new : View = record (view_of c) { ports = slice_set c.self.inside.ports.items c.args.port c.take.new.self } in
-    subst (λ (l : Link). IfOk c.take.result (λ end. OnSome end (Keeps plan (at c plan past k l ∷ past) new)))
-    (sym c.requires.here)
-    (if_ok c.take.result (λ (end : Option Ended). on_some end (alone_kept plan past (view_of c) c.args.port c.args.beat.now
-    c.args.known c.args.lanes.now k (alone c plan past k) c.index_mut.result.now c.take.new.self (found c)))
-    (c.take.ensures.keeps (port_plan plan) (port_past c.args.port past) (own c plan past k) (here c plan past k)))
-
-pub returns-clause-ended : goal.returns-clause-ended
-returns-clause-ended c plan past keeps =
-    let k = within c plan past keeps in
-    let x = at c plan past k (Port c.args.port) in
-    subst (λ (l : Link). IfOk c.take.result (λ end. IfSome end (λ e.
-    e ≡ ended_by (what_is_seen plan past (at c plan past k l))))) (sym c.requires.here)
-    (of_group plan past (Port c.args.port)
-    (λ p l. IfOk c.take.result (λ end. IfSome end (λ e. e ≡ ended_by (group_lawful.seen_in_group p l x)))) true
-    (alone c plan past k)
-    (c.take.ensures.ended (port_plan plan) (port_past c.args.port past) (own c plan past k) (here c plan past k)))
-
-pub returns-clause-memory : goal.returns-clause-memory
-returns-clause-memory c plan past keeps =
-    let k = within c plan past keeps in
-    subst (λ (l : Link). OnErr c.take.result (IsLawful plan (at c plan past k l ∷ past))) (sym c.requires.here)
-    (on_err c.take.result
-    (alone_lawful plan past (view_of c) c.args.port c.args.beat.now c.args.known c.args.lanes.now k (alone c plan past k))
-    (c.take.ensures.memory (port_plan plan) (port_past c.args.port past) (own c plan past k) (here c plan past k)))
-
-pub returns-clause-needed : goal.returns-clause-needed
-returns-clause-needed c plan past keeps =
-    let k = within c plan past keeps in
-    let x = at c plan past k (Port c.args.port) in
-    subst (λ (l : Link). OnErr c.take.result (MayNeedMemory plan past (at c plan past k l))) (sym c.requires.here)
-    (on_err c.take.result (needed_alone plan past x (alone c plan past k))
-    (of_group plan past (Port c.args.port)
-    (λ p l. OnErr c.take.result (group_lawful.GroupMayNeedMemory p l x ⊎ IsFirstRequest l c.args.beat.now)) true
-    (alone c plan past k)
-    (c.take.ensures.needed (port_plan plan) (port_past c.args.port past) (own c plan past k) (here c plan past k))))
+pub returns-clause-taken : goal.returns-clause-taken
+returns-clause-taken c plan past keeps =
+    let port = c.args.port in
+    let beat = c.args.beat.now in
+    let known = c.args.known in
+    let lanes = c.args.lanes.now in
+    let link = c.index_mut.result.now in
+    let view : View = view_of c in
+    let new : View = record view { ports = slice_set view.ports port c.take.new.self } in
+    let inside : Keeps plan past view = subst (Keeps plan past) (sym c.self.view_is) keeps in
+    let alone : is_alone plan.layout.links (Port port) ≡ true =
+    subst (λ (l : Layout). is_alone l.links (Port port) ≡ true) inside.suits.layout
+    (alone_before view c.args.self.now port c.args.link c.self.view_is c.requires.here c.requires.alone) in
+    let here = kept_here plan past view port beat known lanes inside alone link (found c) in
+    let own = own_port plan past view port beat known lanes inside alone c.map-map.result.now
+    (ap (λ (l : Layout). l.ports) (sym inside.suits.layout) ∙ sym c.map-map.ensures) in
+    subst (λ (l : Link). IsTakeAfter plan past (seen_at l beat known lanes) new c.take.result) (sym c.requires.here)
+    (alone_take plan past view port beat known lanes inside alone link c.take.new.self (found c) c.take.result
+    (c.take.ensures.taken (port_plan plan) (port_past port past) own here))
 
 pub take-requires : goal.take-requires
 take-requires c =
     let view : View = record {
-      layout = layout_with c.self.inside.links c.self.inside.shared.layout;
+      layout = c.self.inside.shared.layout;
       shared = c.self.inside.shared;
       ports = c.self.inside.ports.items;
     } in
     record {
       lanes = wide_before view c.args.self.now c.args.port c.args.link c.self.view_is c.requires.here c.requires.alone
-          c.self.invariant c.requires.known c.index_mut.result.now c.index_mut.ensures.value (length c.args.lanes.now)
-          c.requires.lanes;
+          c.self.invariant c.requires.beat.known c.index_mut.result.now c.index_mut.ensures.value (length c.args.lanes.now)
+          c.requires.beat.lanes;
     }
 
 pub invariant_of-self : goal.invariant_of-self

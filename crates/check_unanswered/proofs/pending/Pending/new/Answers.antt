@@ -1,7 +1,7 @@
 -- Nothing is in flight, and there is room for each wide source that somebody has.
 use Rattle.std.proofs.Common.{◌≡◌, ℕ, ◌<◌, List, Option, None, length, refl, sym, subst, arith}
-use Rattle.check_map.specs.Owner.{IsOwned}
-use Rattle.check_map.specs.declared.sources.Owner.{Owner}
+use Rattle.tl_map.specs.Owner.{IsOwned}
+use Rattle.tl_map.specs.declared.owners.Owner.{Owner}
 use Rattle.check_watch.specs.Plan.{LinkSide}
 use Rattle.check_watch.specs.Plan.LinkSide.{AtMasters, AtPorts}
 use Rattle.check_unanswered.specs.declared.request.Open.{Open}

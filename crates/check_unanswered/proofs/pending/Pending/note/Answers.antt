@@ -1,5 +1,5 @@
 -- What is kept after one row more.
-use Rattle.std.proofs.Common.{◌≡◌, ◌∷◌, ◌+◌, ◌%◌, ◌^◌, None, Some, refl, sym, subst}
+use Rattle.std.proofs.Common.{◌∷◌, ◌+◌, ◌%◌, ◌^◌, None, Some, refl, sym, subst}
 use Rattle.check_watch.specs.Plan.{side_of}
 use Rattle.check_sides.specs.Pending.{IsChange}
 use Rattle.check_unanswered.specs.Began.{beats_of, began_with, row_with}
@@ -32,5 +32,5 @@ returns-in-Ends c plan rows lanes holds change =
     let P : PendingView → Type 0 = λ v. Holds plan (row ∷ rows)
     (with_open (record v { taken = (v.taken + 1) % 2 ^ 64 }) (side_of row.sighting.link) wide None) in
     subst (λ (v : PendingView). Holds plan (row ∷ rows) v) (sym c.set-in-Ends.ensures)
-    (subst P (sym c.self.view_is) (holds_ends plan rows row c.args.self.now holds wide
+    (subst P (sym c.self.view_is) (holds_ends plan rows row c.args.self.now holds _ wide
     (subst (IsChange plan (beats_of rows) row.sighting) c.in-Ends.is change)))

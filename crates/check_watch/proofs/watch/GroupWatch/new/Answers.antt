@@ -1,7 +1,7 @@
 use Rattle.std.proofs.Common.{◌∙◌, length, refl, ap, sym}
 use Rattle.check_beats.specs.State.{Under}
 use Rattle.check_flight.specs.Side.{bus_at}
-use Rattle.check_watch.specs.Plan.{GroupPlan, IsGroupPlan}
+use Rattle.check_watch.specs.Plan.{Plan, IsPlan}
 use Rattle.check_watch.specs.View.{GroupView}
 use Rattle.check_watch.proofs.Beginning.{fresh_keeps}
 use Rattle.check_watch.proofs.Wides.{wide_by, wide_by_is}
@@ -23,7 +23,7 @@ invariant_of-result c = record {
 
 pub returns-clause-plan : goal.returns-clause-plan
 returns-clause-plan c =
-    let plan : GroupPlan = record {
+    let plan : Plan = record {
       layout = record {
         links = c.args.links;
         owners = c.args.sources;
@@ -35,7 +35,7 @@ returns-clause-plan c =
       wide = wide_by c.args.sources;
       route = c.ports-slots.ensures.routes.0;
     } in
-    let lawful : IsGroupPlan plan = record {
+    let lawful : IsPlan plan = record {
       owners = c.masters-owners.ensures.lawful;
       wide = wide_by_is c.args.sources;
       route = c.ports-slots.ensures.routes.1;

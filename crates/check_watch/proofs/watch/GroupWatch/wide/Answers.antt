@@ -1,5 +1,5 @@
 use Rattle.std.proofs.Common.{ℕ, length}
-use Rattle.check_map.specs.Owner.{IsOwned}
+use Rattle.tl_map.specs.Owner.{IsOwned}
 use Rattle.check_watch.proofs.Wides.{within}
 use Rattle.check_watch.proofs.watch.GroupWatch.wide.Goals as goal
 

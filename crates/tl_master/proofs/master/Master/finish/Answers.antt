@@ -8,5 +8,5 @@ returns-clause-widened c =
     let inside = c.self.inside in
     let m : MasterState =
     record { seat = inside.seat; out = inside.out.items; trace = inside.trace.items; limit = inside.limit } in
-    subst (λ (n : MasterState). AreWidened n.seat.arena.about.counts n.seat.number inside.trace.items n.seat.got) c.self.view_is
+    subst (λ (n : MasterState). AreWidened n.seat.arena.about.owners n.seat.number inside.trace.items n.seat.got) c.self.view_is
     (kept_widened m inside.start inside.count c.self.invariant.0)

@@ -28,7 +28,7 @@ returns c = λ place count.
       place = rw (at) at (rw (← c.self.view_is) at count);
       is = ap (λ (states : List PortState). record {
         ranges = c.self.inside.ranges;
-        counts = c.self.inside.sources;
+        owners = c.self.inside.sources;
         ports = states;
       }) ports;
     })

@@ -30,7 +30,7 @@ returns-in_err-write_all-clause-answered g c read_old read_new given taken ran =
           held = run.account.held.items;
           left = run.account.left.items;
           run = ran;
-          agrees = rw (c.sources.ensures, c.deref.ensures.value, c.deref-2.ensures.value) at agrees;
+          agrees = rw (c.sources.ensures.value, c.deref.ensures.value, c.deref-2.ensures.value) at agrees;
           is = c.in_ok-text.ensures;
         };
         written = rw c.deref-3.ensures.value at front;
@@ -56,7 +56,7 @@ returns-in_err-audit-clause-answered g c read_old read_new given taken ran =
               held = run.account.held.items;
               left = run.account.left.items;
               run = ran;
-              has = rw (c.sources.ensures, c.deref.ensures.value, c.deref-2.ensures.value, told.0) at found;
+              has = rw (c.sources.ensures.value, c.deref.ensures.value, c.deref-2.ensures.value, told.0) at found;
               told = told.1;
             };
           };

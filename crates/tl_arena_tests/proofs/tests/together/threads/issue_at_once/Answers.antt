@@ -7,8 +7,8 @@ use denote.Param.Send.{IsSend, AllSend, array_sync, shr_send, param_send, arg_se
 use Rattle.std.proofs.Crossing.{crosses}
 use Rattle.tl_types.specs.contracts.request.Ask as Ask
 use Rattle.tl_types.proofs.request.Ask.TheSendSync as ask
-use Rattle.tl_map.specs.contracts.map.Map as Map
-use Rattle.tl_map.proofs.map.Map.TheSendSync as map
+use Rattle.tl_map.specs.contracts.address_map.AddressMap as AddressMap
+use Rattle.tl_map.proofs.address_map.AddressMap.TheSendSync as map
 use Rattle.tl_arena.specs.contracts.arena.Arena as Arena
 use Rattle.tl_arena.proofs.arena.Arena.TheSendSync as arena
 use Rattle.tl_master.proofs.Crossing.{master_send, tuple_send}
@@ -25,7 +25,7 @@ join-first-requires-send-F g c κs within =
     let all : AllSend (shape (type_at name captured)).fields = (
       shr_send _ _ Arena.the_row arena.the_sync,
       (
-        shr_send _ _ Map.the_row map.the_sync,
+        shr_send _ _ AddressMap.the_row map.the_sync,
         (
           master_send,
           (shr_send _ _ (Array Ask.the_row 2) (array_sync Ask.the_row 2 ask.the_sync), tt),

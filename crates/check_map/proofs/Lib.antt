@@ -1,9 +1,0 @@
-pub mod Marking
-pub mod Kept
-pub mod Faults
-pub mod Placing
-pub mod Instance
-pub mod Overlaps
-pub mod Listing
-pub mod Routing
-pub mod Ways

@@ -1,6 +1,0 @@
-use Rattle.std.proofs.Common.{rules}
-use Rattle.tl_map.proofs.Placing.{start_from}
-use Rattle.check_map.proofs.block.block_start.Goals as goal
-
-pub returns-clause-start : goal.returns-clause-start
-returns-clause-start c = search (rules, start_from)

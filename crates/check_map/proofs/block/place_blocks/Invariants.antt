@@ -1,6 +1,0 @@
--- The blocks of the masters so far.
-use Rattle.check_map.proofs.Placing.{ArePlacedSoFar}
-use Rattle.check_map.proofs.block.place_blocks.Given as goal
-
-abbrev pub invariant-loop-count : goal.invariant-loop-count
-invariant-loop-count l = ArePlacedSoFar l.counts l.count-index l.end l.owners.items

@@ -1,5 +1,0 @@
-use Rattle.check_map.proofs.map.AddressMap.keep.Goals as goal
-
-pub invariant_of-result : goal.invariant_of-result
-invariant_of-result c =
-    rw c.in_ok-ports.ensures (record { lawful = c.requires; placed = c.in_ok-placed.ensures })

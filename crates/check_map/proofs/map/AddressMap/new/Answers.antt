@@ -1,4 +1,0 @@
-use Rattle.check_map.proofs.map.AddressMap.new.Goals as goal
-
-pub keep-requires : goal.keep-requires
-keep-requires c = record { ranges = c.requires; apart = c.in_default.ensures.none }

@@ -1,5 +1,0 @@
-use Rattle.check_map.proofs.Ways.{has_routes}
-use Rattle.check_map.proofs.map.AddressMap.ports.Goals as goal
-
-pub returns-clause-routes : goal.returns-clause-routes
-returns-clause-routes c = has_routes c.args.self.now

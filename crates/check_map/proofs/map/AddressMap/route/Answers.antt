@@ -1,4 +1,0 @@
-use Rattle.check_map.proofs.map.AddressMap.route.Goals as goal
-
-pub returns-clause-port : goal.returns-clause-port
-returns-clause-port c port = rw (c.address.ensures, c.size.ensures.value) at (c.route_bytes.ensures.port port)

@@ -1,8 +1,0 @@
-use Rattle.std.proofs.Common.{◌≡◌, ◌++◌, map, take}
-use Rattle.check_map.specs.Placed.{placed_at}
-use Rattle.check_map.proofs.map.list_port.Given as goal
-
--- the ranges so far are added
-abbrev pub invariant-loop-range : goal.invariant-loop-range
-invariant-loop-range l =
-    l.placed.items ≡ l.initial.placed.items ++ map (placed_at l.port) (take l.range-index l.ranges)

@@ -1,6 +1,0 @@
-use Rattle.check_map.specs.Ranges.{AreApartBefore, lists_in}
-use Rattle.check_map.proofs.map.port_fault.Given as goal
-
--- none of the ranges so far meets an earlier one
-abbrev pub invariant-loop-place : goal.invariant-loop-place
-invariant-loop-place l = AreApartBefore (lists_in l.ports) l.port l.place

@@ -1,6 +1,0 @@
--- The bound of the owners so far.
-use Rattle.check_map.proofs.Kept.{IsBoundUpTo}
-use Rattle.check_map.proofs.sources.bound_of.Given as goal
-
-abbrev pub invariant-loop-owner : goal.invariant-loop-owner
-invariant-loop-owner l = IsBoundUpTo l.owners l.owner-index l.bound

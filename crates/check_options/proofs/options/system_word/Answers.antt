@@ -1,7 +1,0 @@
-use Rattle.std.proofs.Common.{rules}
-use Rattle.check_options.proofs.Rules.{with_required}
-use Rattle.check_options.proofs.options.system_word.Goals as goal
-
-pub returns-clause-rule : goal.returns-clause-rule
-returns-clause-rule c =
-    rw (with_required c.valued.result c.required.result _ _ c.valued.ensures.rule c.required.ensures) (search rules)
