@@ -1,5 +1,5 @@
 -- A memory in one range, whose sizes are its kind's row, is the store of tl_ops.
-use Rattle.std.proofs.Common.{◌≡◌, ◌∙◌, ℕ, ◌+◌, ◌-◌, ◌%◌, ◌^◌, ◌≤◌, Bool, true, false, ◌&&◌, ◌||◌, ◌==◌, nat_le, List, ◌++◌, length, take, drop, Option, refl, sym, ap, rules, arith}
+use Rattle.std.proofs.Common.{◌≡◌, ◌∙◌, ℕ, ◌+◌, ◌-◌, ◌%◌, ◌^◌, ◌≤◌, Bool, true, false, ◌&&◌, ◌||◌, ◌==◌, List, ◌++◌, length, take, drop, Option, refl, sym, ap, arith}
 use Rattle.std.proofs.lemmas.List.{append_assoc, length-append, length-take-le, length-drop, take-append-drop, drop-drop}
 use Rattle.tl_types.specs.Operation.{carries_bytes, byte_count, reply_op_of}
 use Rattle.tl_types.specs.Request.{Request}
@@ -7,7 +7,6 @@ use Rattle.tl_types.specs.Response.{Response}
 use Rattle.tl_types.specs.declared.operation.AskOp.{AskOp}
 use Rattle.tl_types.specs.declared.operation.AskOp.TheVariants.{PutFull, PutPartial, Arithmetic, Logical, Get, Intent}
 use Rattle.tl_ops.specs.declared.kind.Kind.{Kind}
-use Rattle.tl_ops.specs.declared.kind.Kind.TheVariants.{Ram, Rom, Regs, ClearRegs, NoDevice}
 use Rattle.tl_ops.specs.Support.{supports}
 use Rattle.tl_ops.specs.Store.{Store, legal, contains_window, window, with_window, after, reply, shown}
 use Rattle.tl_ops.specs.Window.{new_window}

@@ -1,7 +1,6 @@
 -- What a legal request is like.
-use Rattle.std.proofs.Common.{◌≡◌, ◌∙◌, ℕ, zero, suc, ◌+◌, ◌-◌, ◌*◌, ◌/◌, ◌%◌, ◌^◌, ◌<◌, ◌≤◌, Bool, true, false, ◌&&◌, List, [], ◌∷◌, ◌++◌, length, take, drop, Option, None, Some, refl, sym, ap, subst, lit≤, rules, arith}
-use Rattle.std.specs.Prelude.{IfSome, OnErr, Result, Ok, Err}
-use Rattle.std.proofs.Math.Nat.{pow-le-pow_right}
+use Rattle.std.proofs.Common.{◌≡◌, ◌∙◌, ℕ, zero, suc, ◌+◌, ◌-◌, ◌*◌, ◌/◌, ◌%◌, ◌^◌, ◌<◌, ◌≤◌, Bool, true, false, ◌&&◌, List, [], ◌∷◌, ◌++◌, length, take, drop, Option, None, Some, refl, sym, ap, subst, rules, arith}
+use Rattle.std.specs.Prelude.{OnErr, Result, Ok, Err}
 use Rattle.std.proofs.lemmas.Nat.{pow_pos}
 use Rattle.std.proofs.lemmas.List.{append_assoc, take-append-drop, drop-drop}
 use Rattle.tl_types.specs.Operation.{carries_bytes, byte_count}
@@ -14,9 +13,9 @@ use Rattle.tl_ops.proofs.Kept.{FitsWords-from_aligned}
 use Rattle.tl_ops.specs.declared.sizes.SizeSpan.{SizeSpan}
 use Rattle.tl_ops.specs.declared.sizes.SizeTable.{SizeTable}
 use Rattle.tl_ops.specs.Support.{spans, allows}
-use Rattle.check_memory.specs.Sizes.{IsBetween, IsLawfulTable}
+use Rattle.check_memory.specs.Sizes.{IsMessageSpan, IsLawfulTable}
 use Rattle.check_memory.specs.Known.{replaced}
-use Rattle.check_memory.specs.Cells.{new_cells, is_atomic}
+use Rattle.check_memory.specs.Cells.{new_cells}
 use Rattle.check_memory.specs.Partial.{Partial, permits, takes_bytes, window_of, after_partial, after_forgetting}
 
 -- what holds is said of an error too
@@ -53,36 +52,22 @@ in_page address (suc (suc (suc (suc (suc (suc (suc (suc (suc size))))))))) small
 
 -- ---- sizes of a table within the rules
 
-in_span : (low high : ℕ) (span : Option SizeSpan) (size : ℕ) → IfSome span (IsBetween low high) → spans span size ≡ true
-    → size ≤ high
-in_span low high None size lawful is = cc
-in_span low high (Some span) size lawful is =
+in_span : (span : Option SizeSpan) (size : ℕ) → IsMessageSpan span → spans span size ≡ true → size ≤ 8
+in_span None size lawful is = cc
+in_span (Some span) size lawful is =
     let below : size ≤ span.greatest = search rules in
-    omega (arith, below, lawful.to)
+    let to : span.greatest ≤ 8 = lawful.to in
+    omega (arith, below, to)
 
 -- none is over that of the largest message
 pub small_size : (table : SizeTable) (op : AskOp) (size : ℕ) → IsLawfulTable table → allows table op size ≡ true
     → size ≤ 8
-small_size table PutFull size lawful is = in_span 0 8 table.put_full size lawful.put_full is
-small_size table PutPartial size lawful is = in_span 0 8 table.put_partial size lawful.put_partial is
-small_size table (Arithmetic op) size lawful is =
-    let word : size ≤ 3 = in_span 2 3 table.arithmetic size lawful.arithmetic is in omega (arith, word)
-small_size table (Logical op) size lawful is =
-    let word : size ≤ 3 = in_span 2 3 table.logical size lawful.logical is in omega (arith, word)
-small_size table Get size lawful is = in_span 0 8 table.get size lawful.get is
-small_size table (Intent _) size lawful is = in_span 0 8 table.intent size lawful.intent is
-
--- an atomic is of one word
-pub atomic_in_word : (table : SizeTable) (op : AskOp) (size : ℕ) → IsLawfulTable table → allows table op size ≡ true
-    → is_atomic op ≡ true → 2 ^ size ≤ 8
-atomic_in_word table PutFull size lawful is atomic = cc
-atomic_in_word table PutPartial size lawful is atomic = cc
-atomic_in_word table (Arithmetic op) size lawful is atomic =
-    pow-le-pow_right (lit≤ tt) (in_span 2 3 table.arithmetic size lawful.arithmetic is)
-atomic_in_word table (Logical op) size lawful is atomic =
-    pow-le-pow_right (lit≤ tt) (in_span 2 3 table.logical size lawful.logical is)
-atomic_in_word table Get size lawful is atomic = cc
-atomic_in_word table (Intent _) size lawful is atomic = cc
+small_size table PutFull size lawful is = in_span table.put_full size lawful.put_full is
+small_size table PutPartial size lawful is = in_span table.put_partial size lawful.put_partial is
+small_size table (Arithmetic op) size lawful is = in_span table.arithmetic size lawful.arithmetic is
+small_size table (Logical op) size lawful is = in_span table.logical size lawful.logical is
+small_size table Get size lawful is = in_span table.get size lawful.get is
+small_size table (Intent _) size lawful is = in_span table.intent size lawful.intent is
 
 -- ---- a request with no bytes changes nothing
 

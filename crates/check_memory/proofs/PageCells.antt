@@ -24,7 +24,7 @@ use Rattle.check_memory.proofs.Soundness.{swapped}
 
 -- ---- read
 
-bit_in-part : (masks : List ℕ) (first count start k : ℕ) → start ≡ 8 * first → k < 8 * count
+pub bit_in-part : (masks : List ℕ) (first count start k : ℕ) → start ≡ 8 * first → k < 8 * count
     → bit_in (take count (drop first masks)) k ≡ bit_in masks (start + k)
 unfolding bit_in
 bit_in-part masks first count start k at below =

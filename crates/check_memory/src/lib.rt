@@ -21,6 +21,7 @@ mod sheet;
 mod sizes;
 mod slave;
 mod slots;
+mod wide;
 
 pub use check_cells::{Cells, Pattern};
 pub use memory::PartialMemory;

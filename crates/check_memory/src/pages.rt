@@ -3,7 +3,7 @@ ghost use Rattle.std.specs.Prelude.{◌≡◌, ℕ, ◌+◌, ◌*◌, ◌/◌, �
 ghost use Rattle.tl_types.specs.Operation.{carries_bytes, reply_op_of};
 ghost use Rattle.tl_ops.specs.Cell.{FitsWords};
 ghost use Rattle.check_memory.specs.Known.{known, replaced};
-ghost use Rattle.check_memory.specs.Cells.{new_cells, is_atomic, forgotten};
+ghost use Rattle.check_memory.specs.Cells.{new_cells, forgotten};
 ghost use Rattle.check_memory.specs.Pattern.{shown_cells};
 ghost use Rattle.check_memory.specs.Paged.{paged_cells, IsAt};
 
@@ -14,7 +14,7 @@ use std::alloc::{AllocError, Global};
 use std::collections::HashMap;
 use std::marker::Model;
 use tl_ops::Kind;
-use tl_types::{Ask, MAX_BYTES, WORD_BYTES};
+use tl_types::{Ask, MAX_BYTES};
 
 /// Pages, in the order in which they were made.
 ///
@@ -130,7 +130,6 @@ impl Pages {
         requires at { IsAt self.old.slots (ask.now.address / PAGE_BYTES) at }
         requires carries { carries_bytes ask.now.op ≡ true }
         requires counted { length ask.now.bytes ≡ 2 ^ ask.now.size }
-        requires word { is_atomic ask.now.op ≡ true → 2 ^ ask.now.size ≤ WORD_BYTES }
         requires fits { FitsWords (ask.now.address % PAGE_BYTES) (2 ^ ask.now.size) }
         requires inside { ask.now.address % PAGE_BYTES + 2 ^ ask.now.size ≤ PAGE_BYTES }
         ensures after { let old = take (2 ^ ask.now.size) (drop ask.now.address (paged_cells self.old)) in

@@ -1,5 +1,6 @@
 //! Sheets: bytes next to one another, each known or unknown, with room for some pages.
-ghost use Rattle.std.specs.Prelude.{◌≡◌, ℕ, ◌+◌, ◌*◌, ◌%◌, ◌^◌, ◌<◌, ◌≤◌, ◌∷◌, [], length, take, drop, replicate, IfOk, slice_index_or, None, Some, slice_set, true, ◌||◌, unwrap_or};
+ghost use Rattle.std.specs.Prelude.{◌≡◌, ◌↔◌, ◌⊎◌, ℕ, ◌+◌, ◌*◌, ◌%◌, ◌^◌, ◌<◌, ◌≤◌, ◌∷◌, [], length, take, drop, replicate, IfOk, IsTrue, slice_index_or, None, Some, slice_set, true, ◌||◌, unwrap_or};
+ghost use Rattle.tl_types.specs.Bytes.{bit_in};
 ghost use Rattle.tl_types.specs.declared.operation.AskOp.TheVariants.{PutFull};
 ghost use Rattle.tl_ops.specs.Cell.{FitsWords};
 ghost use Rattle.tl_ops.specs.declared.kind.Kind.TheVariants.{Ram, ClearRegs};
@@ -7,8 +8,9 @@ ghost use Rattle.tl_types.specs.Operation.{carries_bytes, reply_op_of};
 ghost use Rattle.check_memory.specs.Known.{known, replaced};
 ghost use Rattle.check_memory.specs.Pattern.{shown_cells};
 ghost use Rattle.check_memory.specs.Cells.{put_cells, new_cells, clear_cell, is_atomic, is_swap, forgotten};
-ghost use Rattle.check_memory.specs.Place.{fill_of};
+ghost use Rattle.check_memory.specs.Place.{fill_of, known_bit};
 
+use crate::wide::combined_words;
 use check_cells::{Cells, give, known_cell, mark_cell, mask_of, ones};
 use std::alloc::{AllocError, Global};
 use std::marker::Model;
@@ -172,7 +174,6 @@ impl Sheet {
         requires carries { carries_bytes ask.now.op ≡ true }
         requires counted { length ask.now.bytes ≡ 2 ^ ask.now.size }
         requires limit { start ≤ SHEET_BYTES }
-        requires word { is_atomic ask.now.op ≡ true → 2 ^ ask.now.size ≤ WORD_BYTES }
         requires fits { FitsWords start (2 ^ ask.now.size) }
         requires inside { start + 2 ^ ask.now.size ≤ length self.old }
         ensures after { let old = take (2 ^ ask.now.size) (drop start self.old) in
@@ -187,9 +188,26 @@ impl Sheet {
                 cells.clear();
             }
             AskOp::Arithmetic(_) | AskOp::Logical(_) => {
-                self.combine(start, ask.op(), ask.bytes(), cells);
+                self.serve_atomic(start, ask.op(), ask.bytes(), cells);
             }
             AskOp::Get | AskOp::Intent(_) => unreachable!(),
+        }
+    }
+
+    /// Serves an atomic, and shows the bytes that stood there.
+    fn serve_atomic(&mut self, start: usize, op: AskOp, given: &Bytes, cells: &mut Cells)
+        requires fits { FitsWords start (length given.now) }
+        requires inside { start + length given.now ≤ length self.old }
+        requires atomic { is_atomic op ≡ true }
+        ensures after { let old = take (length given.now) (drop start self.old) in
+            self.new ≡ replaced self.old start (new_cells Ram op old given.now) }
+        ensures shown { cells.new ≡ take (length given.now) (drop start self.old) }
+        ensures len { length self.new ≡ length self.old }
+    {
+        if given.len() <= WORD_BYTES {
+            self.combine(start, op, given, cells);
+        } else {
+            self.combine_words(start, op, given, cells);
         }
     }
 
@@ -210,6 +228,30 @@ impl Sheet {
         let old = self.lanes.update(start, op, given);
         cells.set_cell(old, mask, width);
         mark_cell(&mut self.masks, start, width, known);
+    }
+
+    /// Serves an atomic on whole words, and shows the bytes that stood there.
+    // apart, so that an atomic on one word goes by short code
+    #[inline(never)]
+    fn combine_words(&mut self, start: usize, op: AskOp, given: &Bytes, cells: &mut Cells)
+        requires some { 0 < length given.now }
+        requires whole { start % WORD_BYTES ≡ 0 }
+        requires words { length given.now % WORD_BYTES ≡ 0 }
+        requires inside { start + length given.now ≤ length self.old }
+        requires atomic { is_atomic op ≡ true }
+        ensures after { let old = take (length given.now) (drop start self.old) in
+            self.new ≡ replaced self.old start (new_cells Ram op old given.now) }
+        ensures shown { cells.new ≡ take (length given.now) (drop start self.old) }
+        ensures len { length self.new ≡ length self.old }
+    {
+        let width = given.len();
+        let first = start / WORD_BYTES;
+        let count = width / WORD_BYTES;
+        self.read_words(start, width, cells);
+        let full = are_full(part(&self.masks, first, count));
+        let window = combined_words(op, self.lanes.words(start, count), given);
+        self.lanes.put(start, &window);
+        mark_words(&mut self.masks, first, count, is_known_after(full, op));
     }
 
     /// Makes the bytes that are flagged unknown, from a place on.
@@ -241,6 +283,27 @@ fn is_known_after(whole: bool, op: AskOp) -> bool
     ensures { result ≡ (whole || is_swap op) }
 {
     whole || matches!(op, AskOp::Logical(Logic::Swap))
+}
+
+/// Whether the bytes of words are all known, by their masks.
+fn are_full(masks: &[u8]) -> bool
+    ensures { IsTrue result ↔ ((place : ℕ) → place < WORD_BYTES * length masks.now
+        → bit_in masks.now place ≡ 1) }
+{
+    masks.iter().all(|mask| *mask == u8::MAX)
+}
+
+/// Makes so many whole words known or unknown, from one on.
+fn mark_words(masks: &mut [u8], first: usize, count: usize, known: bool)
+    requires { first + count ≤ length masks.old }
+    ensures inside { (place : ℕ) → WORD_BYTES * first ≤ place → place < WORD_BYTES * (first + count)
+        → bit_in masks.new place ≡ known_bit known }
+    ensures outside { (place : ℕ) → (place < WORD_BYTES * first) ⊎ (WORD_BYTES * (first + count) ≤ place)
+        → bit_in masks.new place ≡ bit_in masks.old place }
+{
+    for word in first..first + count {
+        masks[word] = mask_of(known);
+    }
 }
 
 /// So many masks from one on.

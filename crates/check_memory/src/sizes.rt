@@ -1,13 +1,13 @@
 //! The tables of sizes that a port may have.
-ghost use Rattle.std.specs.Prelude.{◌≡◌, ◌↔◌, ℕ, IsTrue, IsSome, IfSome};
+ghost use Rattle.std.specs.Prelude.{◌≡◌, ◌↔◌, IsTrue, IsSome, IfSome};
 ghost use Rattle.tl_ops.specs.Support.{row_of_kind};
-ghost use Rattle.check_memory.specs.Sizes.{IsBetween, IsLawfulTable};
+ghost use Rattle.check_memory.specs.Sizes.{IsMessageSpan, IsLawfulTable};
 
 use std::marker::Model;
 use tl_ops::{Kind, SizeSpan, SizeTable};
 use tl_types::MAX_SIZE;
 
-/// A table of sizes within the rules: sizes are those of messages, of atomics 2 and 3.
+/// A table of sizes within the rules: they are sizes of messages.
 #[derive(Debug, Drop)]
 pub struct Sizes {
     table: SizeTable,
@@ -59,20 +59,20 @@ impl Sizes {
 fn is_lawful(table: &SizeTable) -> bool
     ensures { IsTrue result ↔ IsLawfulTable table.now }
 {
-    is_between(table.get, 0, MAX_SIZE)
-        && is_between(table.put_full, 0, MAX_SIZE)
-        && is_between(table.put_partial, 0, MAX_SIZE)
-        && is_between(table.arithmetic, 2, 3)
-        && is_between(table.logical, 2, 3)
-        && is_between(table.intent, 0, MAX_SIZE)
+    is_message_span(table.get)
+        && is_message_span(table.put_full)
+        && is_message_span(table.put_partial)
+        && is_message_span(table.arithmetic)
+        && is_message_span(table.logical)
+        && is_message_span(table.intent)
 }
 
-/// Whether a span, if there is one, lies between two sizes.
-fn is_between(span: Option<SizeSpan>, low: u8, high: u8) -> bool
-    ensures { IsTrue result ↔ IfSome span (IsBetween low high) }
+/// Whether a span, if there is one, is one of the sizes of messages.
+fn is_message_span(span: Option<SizeSpan>) -> bool
+    ensures { IsTrue result ↔ IsMessageSpan span }
 {
     match span {
-        Some(span) => low <= span.least && span.least <= span.greatest && span.greatest <= high,
+        Some(span) => span.least <= span.greatest && span.greatest <= MAX_SIZE,
         None => true,
     }
 }

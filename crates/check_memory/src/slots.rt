@@ -3,7 +3,7 @@ ghost use Rattle.std.specs.Prelude.{◌≡◌, ℕ, ◌+◌, ◌*◌, ◌%◌, �
 ghost use Rattle.tl_types.specs.Operation.{carries_bytes, reply_op_of};
 ghost use Rattle.tl_ops.specs.Cell.{FitsWords};
 ghost use Rattle.check_memory.specs.Known.{known, replaced};
-ghost use Rattle.check_memory.specs.Cells.{new_cells, is_atomic, forgotten};
+ghost use Rattle.check_memory.specs.Cells.{new_cells, forgotten};
 ghost use Rattle.check_memory.specs.Pattern.{shown_cells};
 ghost use Rattle.check_memory.specs.Place.{fill_of};
 ghost use Rattle.check_memory.specs.Paged.{blank_slot, page_at, AreFilled};
@@ -13,7 +13,7 @@ use check_cells::Cells;
 use std::alloc::{AllocError, Global};
 use std::marker::Model;
 use tl_ops::Kind;
-use tl_types::{Ask, MAX_BYTES, WORD_BYTES};
+use tl_types::{Ask, MAX_BYTES};
 
 /// Pages in the order in which they were made, each with its number.
 #[derive(Drop)]
@@ -95,7 +95,6 @@ impl Slots {
         requires at { at < length self.old.slots }
         requires carries { carries_bytes ask.now.op ≡ true }
         requires counted { length ask.now.bytes ≡ 2 ^ ask.now.size }
-        requires word { is_atomic ask.now.op ≡ true → 2 ^ ask.now.size ≤ WORD_BYTES }
         requires fits { FitsWords start (2 ^ ask.now.size) }
         requires inside { start + 2 ^ ask.now.size ≤ PAGE_BYTES }
         ensures after { let slot = slice_index_or self.old.slots at blank_slot in

@@ -2,7 +2,7 @@ use Rattle.std.proofs.Common.{◌≡◌, ◌∙◌, ◌≤◌, length, sym, ap, 
 use Rattle.tl_types.specs.Operation.{byte_count}
 use Rattle.tl_ops.specs.Support.{allows}
 use Rattle.check_memory.specs.Partial.{Partial}
-use Rattle.check_memory.proofs.Legal.{allowed, small_size, aligned, fits_words, in_page, atomic_in_word, on_err, takes_some, unchanged}
+use Rattle.check_memory.proofs.Legal.{allowed, small_size, aligned, fits_words, in_page, on_err, takes_some, unchanged}
 use Rattle.check_memory.proofs.memory.PartialMemory.serve_legal.Goals as goal
 
 pub returns-then-is_empty-clause-after : goal.returns-then-is_empty-clause-after
@@ -19,13 +19,6 @@ returns-in_err-at-clause-takes c =
     let some : length c.bytes.result.now ≡ 0 → ⊥ = search rules in
     on_err c.from_residual.result (takes_some c.args.self.now ask c.requires
     (λ none. some (ap length c.bytes.ensures.value ∙ c.bytes.ensures.lawful.counted ∙ none)))
-
-pub serve-requires-clause-word : goal.serve-requires-clause-word
-serve-requires-clause-word c = λ atomic.
-    let ask = c.args.ask.now in
-    let sizes : c.self.inside.sizes ≡ c.args.self.now.sizes = ap (λ (m : Partial). m.sizes) c.self.view_is in
-    atomic_in_word c.self.inside.sizes ask.op ask.size c.self.invariant.1 (ap (λ s. allows s ask.op ask.size) sizes
-    ∙ allowed c.args.self.now ask c.requires) atomic
 
 pub serve-requires-clause-fits : goal.serve-requires-clause-fits
 serve-requires-clause-fits c =
