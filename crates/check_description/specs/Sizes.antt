@@ -36,22 +36,22 @@ pairs_in members = do
 
 -- ---- sizes
 
--- from the first integer to the second, which lie between two sizes and do not fall
-unfoldable pub span_of : ℕ → ℕ → ℤ × ℤ → Result SizeSpan SystemFault
-span_of low high pair = do
-  least ← in_range Sizes low high pair.0
-  greatest ← in_range Sizes least high pair.1
+-- from the first integer to the second, which are sizes of messages and do not fall
+unfoldable pub span_of : ℤ × ℤ → Result SizeSpan SystemFault
+span_of pair = do
+  least ← in_range Sizes 0 MAX_SIZE pair.0
+  greatest ← in_range Sizes least MAX_SIZE pair.1
   Ok (record { least = least; greatest = greatest })
 
--- the sizes of messages, and of atomics those of four bytes and of eight; an operation that is not there has none
+-- the sizes of each operation; one that is not there has none
 unfoldable pub size_table_of : Pairs → Result SizeTable SystemFault
 size_table_of pairs = do
-  get ← if_any (span_of 0 MAX_SIZE) pairs.get
-  put_full ← if_any (span_of 0 MAX_SIZE) pairs.put_full
-  put_partial ← if_any (span_of 0 MAX_SIZE) pairs.put_partial
-  arithmetic ← if_any (span_of 2 3) pairs.arithmetic
-  logical ← if_any (span_of 2 3) pairs.logical
-  intent ← if_any (span_of 0 MAX_SIZE) pairs.intent
+  get ← if_any span_of pairs.get
+  put_full ← if_any span_of pairs.put_full
+  put_partial ← if_any span_of pairs.put_partial
+  arithmetic ← if_any span_of pairs.arithmetic
+  logical ← if_any span_of pairs.logical
+  intent ← if_any span_of pairs.intent
   Ok (record {
     get = get;
     put_full = put_full;

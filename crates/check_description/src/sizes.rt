@@ -1,8 +1,8 @@
 //! The sizes that a port supports, for each operation.
-ghost use Rattle.std.specs.Prelude.{◌≡◌, ◌≤◌, IfOk, IfSome};
+ghost use Rattle.std.specs.Prelude.{◌≡◌, IfOk};
 ghost use Rattle.toml.specs.View.{table_view, view};
 ghost use Rattle.tl_text.specs.Reading.{if_any};
-ghost use Rattle.check_memory.specs.Sizes.{IsBetween, IsLawfulTable};
+ghost use Rattle.check_memory.specs.Sizes.{IsLawfulSpan, IsMessageSpan, IsLawfulTable};
 ghost use Rattle.check_keys.specs.Reading.{Gives};
 ghost use Rattle.check_description.specs.Sizes.{pair_at as pair_of_member, pairs_in, sizes_at as sizes_of_table, sizes_in as sizes_of_value, span_of as span_of_pair, size_table_of};
 
@@ -55,14 +55,14 @@ fn read_pairs(table: &Table) -> Result<Pairs, SystemFault>
     })
 }
 
-/// The sizes from the first integer to the second, which lie between two sizes.
+/// The sizes from the first integer to the second, which are those of messages.
 #[tactic(auto, unfolding(crate::specs::Sizes::span_of))]
-fn span_of(pair: (i64, i64), low: u8, high: u8) -> Result<SizeSpan, SystemFault>
-    ensures value { Gives (λ span. span) result (span_of_pair low high pair) }
-    ensures between { IfOk result (IsBetween low high) }
+fn span_of(pair: (i64, i64)) -> Result<SizeSpan, SystemFault>
+    ensures value { Gives (λ span. span) result (span_of_pair pair) }
+    ensures lawful { IfOk result IsLawfulSpan }
 {
-    let least = in_range(pair.0, Key::Sizes, u64::from(low), u64::from(high))?;
-    let greatest = in_range(pair.1, Key::Sizes, least, u64::from(high))?;
+    let least = in_range(pair.0, Key::Sizes, 0, u64::from(MAX_SIZE))?;
+    let greatest = in_range(pair.1, Key::Sizes, least, u64::from(MAX_SIZE))?;
     Ok(SizeSpan {
         least: least as u8,
         greatest: greatest as u8,
@@ -70,28 +70,28 @@ fn span_of(pair: (i64, i64), low: u8, high: u8) -> Result<SizeSpan, SystemFault>
 }
 
 /// The sizes of an operation, if it has any.
-fn span_if_any(pair: Option<(i64, i64)>, low: u8, high: u8) -> Result<Option<SizeSpan>, SystemFault>
-    ensures value { Gives (λ span. span) result (if_any (span_of_pair low high) pair) }
-    ensures between { IfOk result (λ span. IfSome span (IsBetween low high)) }
+fn span_if_any(pair: Option<(i64, i64)>) -> Result<Option<SizeSpan>, SystemFault>
+    ensures value { Gives (λ span. span) result (if_any span_of_pair pair) }
+    ensures lawful { IfOk result IsMessageSpan }
 {
     match pair {
-        Some(pair) => Ok(Some(span_of(pair, low, high)?)),
+        Some(pair) => Ok(Some(span_of(pair)?)),
         None => Ok(None),
     }
 }
 
-/// The sizes of each operation: those of messages, and of atomics those of four bytes and of eight.
+/// The sizes of each operation.
 #[tactic(auto, unfolding(crate::specs::Sizes::size_table_of))]
 fn table_of_pairs(pairs: Pairs) -> Result<SizeTable, SystemFault>
     ensures value { Gives (λ table. table) result (size_table_of pairs) }
     ensures lawful { IfOk result IsLawfulTable }
 {
-    let get = span_if_any(pairs.get, 0, MAX_SIZE)?;
-    let put_full = span_if_any(pairs.put_full, 0, MAX_SIZE)?;
-    let put_partial = span_if_any(pairs.put_partial, 0, MAX_SIZE)?;
-    let arithmetic = span_if_any(pairs.arithmetic, 2, 3)?;
-    let logical = span_if_any(pairs.logical, 2, 3)?;
-    let intent = span_if_any(pairs.intent, 0, MAX_SIZE)?;
+    let get = span_if_any(pairs.get)?;
+    let put_full = span_if_any(pairs.put_full)?;
+    let put_partial = span_if_any(pairs.put_partial)?;
+    let arithmetic = span_if_any(pairs.arithmetic)?;
+    let logical = span_if_any(pairs.logical)?;
+    let intent = span_if_any(pairs.intent)?;
     Ok(SizeTable {
         get,
         put_full,
