@@ -96,7 +96,7 @@ def image_of(rng):
 
 def sizes_of(rng, wild):
     """A table of sizes: of some groups, with pairs that are lawful or also others."""
-    pairs = ["[2, 2]", "[2, 3]", "[3, 3]"] + ["[0, 8]", "[3, 2]", "[-1, 3]", "[0, 9]", "[0]", "1", "[0, '1']"] * wild
+    pairs = ["[2, 2]", "[2, 3]", "[3, 3]", "[0, 8]", "[4, 8]"] + ["[3, 2]", "[-1, 3]", "[0, 9]", "[0]", "1", "[0, '1']"] * wild
     return "{ " + ", ".join(f"{group} = {rng.choice(pairs)}" for group in [*GROUPS, "acquire"] if rng.random() < 0.5) + " }"
 
 

@@ -18,8 +18,7 @@ def sizes_of(rng):
     table = {}
     for group in GROUPS:
         if rng.random() < 0.8:
-            sizes = (2, 3) if group in ("arithmetic", "logical") else range(9)
-            table[group] = sorted([rng.choice(sizes), rng.choice(sizes)])
+            table[group] = sorted([rng.randrange(9), rng.randrange(9)])
     return table
 
 
@@ -102,8 +101,9 @@ def address_of(rng, ports, size):
 def ask_of(rng, ports, hot=()):
     """A random request, mostly at one of the hot addresses if there are some."""
     name = rng.choice([*OPERATIONS, "get", "get", "get", "putfull", "putfull", "putpart", "putpart"])
-    atomic = [2, 2, 3] if OPERATIONS[name][0] in (2, 3) and rng.random() < 0.9 else [0, 1, 2, 2, 2, 3, 3, 3, 4, 5]
-    size = rng.choice(atomic) if rng.random() < 0.97 else rng.randrange(6, 9)
+    # a slave without a table of sizes serves atomics of two sizes alone
+    sizes = [2, 2, 3] if OPERATIONS[name][0] in (2, 3) and rng.random() < 0.6 else [0, 1, 2, 2, 2, 3, 3, 3, 4, 5]
+    size = rng.choice(sizes) if rng.random() < 0.97 else rng.randrange(6, 9)
     hole = 0.3 if name == "putpart" else 0
     data = [None if rng.random() < hole else rng.choice([0, 255, rng.randrange(256)]) for _ in range(1 << size)] if carries_data(name) else []
     address = rng.choice(hot) >> size << size if hot and rng.random() < 0.8 else address_of(rng, ports, size)
