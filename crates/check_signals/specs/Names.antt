@@ -1,6 +1,7 @@
 -- The names of signals that a system file gives, or the first fault on the way to them. This project's own; the names of
 -- a link's signals are the TileLink specification's.
-use Rattle.std.specs.Prelude.{◌≡◌, ◌≢◌, ℕ, ◌++◌, Bool, true, false, List, [], ◌∷◌, map, codes, Option, None, Some, option_map, MatchResult, Result, Ok, Err, if◌then◌else◌, ok_or}
+use Rattle.std.specs.Prelude.{◌≡◌, ◌≢◌, ℕ, ◌++◌, ◌||◌, Bool, true, false, List, [], ◌∷◌, map, codes, Option, None, Some, is_some, option_map, MatchResult, Result, Ok, Err, if◌then◌else◌, ok_or}
+use Rattle.std.specs.List.{list_any}
 use Rattle.std.specs.Str.{bytes_eq, is_utf8}
 use Rattle.std.specs.Prelude.{Vec}
 use Rattle.std.specs.Global.{Global}
@@ -14,7 +15,7 @@ use Rattle.check_signals.specs.Key.{signal_key_name}
 use Rattle.check_signals.specs.declared.fault.SignalKey.{SignalKey}
 use Rattle.check_signals.specs.declared.fault.SignalKey.TheVariants.{Port, Master, Clock, Reset, ResetActive, Signals, Wires}
 use Rattle.check_signals.specs.declared.fault.KeyFault.{KeyFault}
-use Rattle.check_signals.specs.declared.fault.KeyFault.TheVariants.{NotToml, Missing, WrongType, OutOfRange, Memory}
+use Rattle.check_signals.specs.declared.fault.KeyFault.TheVariants.{NotToml, Missing, WrongType, OutOfRange, NoSignals, Memory}
 use Rattle.check_signals.specs.declared.keys.SignalNames as code_names
 use Rattle.check_signals.specs.declared.keys.TheConstants.{SIGNALS}
 
@@ -92,17 +93,25 @@ pub record SignalNames : Type 0 where
   pub ports : List (Option (List (List ℕ)))
   pub masters : List (Option (List (List ℕ)))
 
-abbrev pub clock_in : Members → Result (List ℕ) KeyFault
-clock_in members = optional_text Clock members >>= (λ clock. ok_or clock (Missing Clock))
+-- some link of a kind has signals
+abbrev pub have_signals : List (Option (List (List ℕ))) → Bool
+have_signals links = list_any (λ link. is_some link) links
 
+-- the name of the clock, which is asked for if some link has signals
+abbrev pub clock_by : Bool → Option (List ℕ) → Result (List ℕ) KeyFault
+clock_by false name = Err NoSignals
+clock_by true name = ok_or name (Missing Clock)
+
+-- first table by table what is wrong in itself, and then what the whole file lacks
 unfoldable pub all_names : Members → Result SignalNames KeyFault
 all_names members = do
-  clock ← clock_in members
+  clock ← optional_text Clock members
   reset ← optional_text Reset members
   is_low ← is_low_in members
   ports ← links_in Port members
   masters ← links_in Master members
-  Ok (record { clock = clock; reset = reset; is_low = is_low; ports = ports; masters = masters })
+  named ← clock_by (have_signals ports || have_signals masters) clock
+  Ok (record { clock = named; reset = reset; is_low = is_low; ports = ports; masters = masters })
 
 unfoldable pub names_of_file : List ℕ → Result SignalNames KeyFault
 names_of_file bytes =

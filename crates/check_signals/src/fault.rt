@@ -55,6 +55,9 @@ pub enum KeyFault {
     WrongType(SignalKey),
     #[error("system: {0} out of range")]
     OutOfRange(SignalKey),
+    /// No link has signals, so there is nothing to look for.
+    #[error("system: no signals")]
+    NoSignals,
     #[error("memory refused")]
     Memory,
 }

@@ -5,7 +5,7 @@ ghost use Rattle.toml.specs.View.{table_view, view};
 ghost use Rattle.tl_text.specs.Reading.{each};
 ghost use Rattle.check_samples.specs.Signal.{signal_name as name_of_signal};
 ghost use Rattle.check_signals.specs.Key.{signal_key_name};
-ghost use Rattle.check_signals.specs.Names.{GivesNames, all_names as all_names_of, is_low_in, link_by, link_in, link_of, link_view, links_in, name_in, names_in, names_of_file, names_view, optional_text, some_names_in, signal_text_of as text_in, wire_in, wires_in};
+ghost use Rattle.check_signals.specs.Names.{GivesNames, all_names as all_names_of, clock_by, have_signals, is_low_in, link_by, link_in, link_of, link_view, links_in, name_in, names_in, names_of_file, names_view, optional_text, some_names_in, signal_text_of as text_in, wire_in, wires_in};
 
 use crate::fault::{KeyFault, SignalKey};
 use check_samples::Signal;
@@ -244,15 +244,37 @@ fn links_of(
     Ok(links)
 }
 
+/// Whether some link of a kind has signals.
+fn have_signals(links: &[Option<LinkNames>]) -> bool
+    ensures { result ≡ have_signals (map link_view links.now) }
+{
+    for link in links {
+        if link.is_some() {
+            return true;
+        }
+    }
+    false
+}
+
+/// The name of the clock, which is asked for if some link has signals.
+fn clock_by(has_signals: bool, name: Option<&[u8]>) -> Result<&[u8], KeyFault>
+    ensures { GivesNames (λ text. text.now) result (clock_by has_signals (option_map (λ name. name.now) name.entry)) }
+{
+    if !has_signals {
+        return Err(KeyFault::NoSignals);
+    }
+    match name {
+        Some(name) => Ok(name),
+        None => Err(KeyFault::Missing(SignalKey::Clock)),
+    }
+}
+
 /// The names that a system's table gives.
 #[tactic(auto, unfolding(crate::specs::Names::all_names))]
 fn names_of_table(alloc: Global, table: &Table) -> Result<SignalNames, KeyFault>
     ensures { GivesNames names_view result (all_names_of (table_view table.now)) }
 {
-    let Some(clock) = text_if_any(table, SignalKey::Clock)? else {
-        return Err(KeyFault::Missing(SignalKey::Clock));
-    };
-    let clock = Vec::from_slice(alloc, clock)?;
+    let clock = text_if_any(table, SignalKey::Clock)?;
     let reset = match text_if_any(table, SignalKey::Reset)? {
         Some(reset) => Some(Vec::from_slice(alloc, reset)?),
         None => None,
@@ -260,8 +282,9 @@ fn names_of_table(alloc: Global, table: &Table) -> Result<SignalNames, KeyFault>
     let is_low = read_is_low(table)?;
     let ports = links_at(alloc, table, SignalKey::Port)?;
     let masters = links_at(alloc, table, SignalKey::Master)?;
+    let named = clock_by(have_signals(&ports) || have_signals(&masters), clock)?;
     Ok(SignalNames {
-        clock,
+        clock: Vec::from_slice(alloc, named)?,
         reset,
         is_low,
         ports,

@@ -1,5 +1,5 @@
 -- A system has as many links as its file gives names for, none or all of a link.
-use Rattle.std.proofs.Common.{◌≡◌, ◌∙◌, ℕ, ◌<◌, ◌≤◌, ◌^◌, nat_lt, Bool, true, false, cond, List, [], ◌∷◌, length, Option, Some, None, Result, Ok, Err, ok_or, arith, refl, sym, ap}
+use Rattle.std.proofs.Common.{◌≡◌, ◌∙◌, ℕ, ◌<◌, ◌≤◌, ◌^◌, nat_lt, Bool, true, false, ◌||◌, cond, List, [], ◌∷◌, length, Option, Some, None, Result, Ok, Err, ok_or, arith, refl, sym, ap}
 use Rattle.std.proofs.lemmas.Bool.{ltb-false}
 use Rattle.std.specs.List.{list_any}
 use Rattle.std.specs.Str.{is_utf8}
@@ -7,7 +7,7 @@ use Rattle.toml.specs.Data.{Data, Items, Members, as_array, get_member}
 use Rattle.toml.specs.Parse.{parse_document}
 use Rattle.tl_script.specs.Value.{list_of}
 use Rattle.tl_map.specs.declared.limits.TheConstants.{MAX_JUDGED_MASTERS, MAX_JUDGED_PORTS}
-use Rattle.check_signals.specs.Names.{SignalNames, all_names, clock_in, is_low_in, link_of, links_by, links_in, names_of_file, optional_text}
+use Rattle.check_signals.specs.Names.{SignalNames, all_names, clock_by, have_signals, is_low_in, link_of, links_by, links_in, names_of_file, optional_text}
 use Rattle.check_signals.specs.declared.fault.SignalKey.{SignalKey}
 use Rattle.check_signals.specs.declared.fault.SignalKey.TheVariants as key
 use Rattle.check_signals.specs.declared.fault.KeyFault.{KeyFault}
@@ -75,33 +75,40 @@ record Links (members : Members) (names : SignalNames) : Type 0 where
 links-are : (members : Members) (names : SignalNames) → all_names members ≡ Ok names → Links members names
 unfolding all_names
 links-are members names is =
-    go (clock_in members) (optional_text key.Reset members) (is_low_in members) (links_in key.Port members)
+    go (optional_text key.Clock members) (optional_text key.Reset members) (is_low_in members) (links_in key.Port members)
     (links_in key.Master members) refl refl is
   where
-    go : (c : Result (List ℕ) KeyFault) (r : Result (Option (List ℕ)) KeyFault) (l : Result Bool KeyFault)
+    go : (c r : Result (Option (List ℕ)) KeyFault) (l : Result Bool KeyFault)
         (p m : Result (List (Option (List (List ℕ)))) KeyFault)
         → links_in key.Port members ≡ p → links_in key.Master members ≡ m
         → ◌>>=◌ c (λ clock. ◌>>=◌ r (λ reset. ◌>>=◌ l (λ is_low. ◌>>=◌ p
-        (λ of_ports. ◌>>=◌ m (λ of_masters. Ok (record {
-          clock = clock;
+        (λ of_ports. ◌>>=◌ m (λ of_masters. ◌>>=◌ (clock_by (have_signals of_ports || have_signals of_masters) clock)
+        (λ named. Ok (record {
+          clock = named;
           reset = reset;
           is_low = is_low;
           ports = of_ports;
           masters = of_masters;
-        })))))) ≡ Ok names
+        }))))))) ≡ Ok names
         → Links members names
     go (Err e) r l p m x y w = absurd (cc)
     go (Ok c) (Err e) l p m x y w = absurd (cc)
     go (Ok c) (Ok r) (Err e) p m x y w = absurd (cc)
     go (Ok c) (Ok r) (Ok l) (Err e) m x y w = absurd (cc)
     go (Ok c) (Ok r) (Ok l) (Ok p) (Err e) x y w = absurd (cc)
-    go (Ok c) (Ok r) (Ok l) (Ok p) (Ok m) x y w =
-        let made : SignalNames = record { clock = c; reset = r; is_low = l; ports = p; masters = m } in
-        let same : made ≡ names = cc in
-        record {
-          ports = x ∙ ap (λ (n : SignalNames). Ok n.ports) same;
-          masters = y ∙ ap (λ (n : SignalNames). Ok n.masters) same;
-        }
+    go (Ok c) (Ok r) (Ok l) (Ok p) (Ok m) x y w = last (clock_by (have_signals p || have_signals m) c) w
+      where
+        last : (n : Result (List ℕ) KeyFault)
+            → ◌>>=◌ n (λ named. Ok (record { clock = named; reset = r; is_low = l; ports = p; masters = m })) ≡ Ok names
+            → Links members names
+        last (Err e) z = absurd (cc)
+        last (Ok named) z =
+            let made : SignalNames = record { clock = named; reset = r; is_low = l; ports = p; masters = m } in
+            let same : made ≡ names = cc in
+            record {
+              ports = x ∙ ap (λ (n : SignalNames). Ok n.ports) same;
+              masters = y ∙ ap (λ (n : SignalNames). Ok n.masters) same;
+            }
 
 -- the parts of each kind
 record Divided (members : Members) (parts : Parts) : Type 0 where

@@ -27,9 +27,12 @@ const MIXED_DUMP: &[u8] =
 const MIXED_CAPTURE: &[u8] =
     b"time,link,channel,opcode,param,size,source,address,mask,data,denied,corrupt\n5,m0,A,1,0,0,0,0,0010,0000000000000000000000000000000a,,\n5,p0,A,1,0,0,0,0,1,xxxxxxxx,,\n";
 
-/// The first system with no clock.
-const NO_CLOCK: &[u8] =
+/// The first system with no signals, and with no clock.
+const NO_SIGNALS: &[u8] =
     b"slots = 1\nport = [{ kind = 'ram', base = 0, length = 16 }]\nmaster = [{ sources = 1, ops = [] }]\n";
+
+const NO_CLOCK: &[u8] =
+    b"slots = 1\nport = [{ kind = 'ram', base = 0, length = 16 }]\nmaster = [{ sources = 1, ops = [], signals = 'm_' }]\n";
 
 /// Two masters of one name.
 const TWO_CALLED: &[u8] =
@@ -118,12 +121,13 @@ fn rows_have_the_widths_of_their_links(rt: HostRuntime) {
 }
 
 /// Systems and dumps, and the line of their fault.
-static REFUSED: [(&[u8], &[u8], &'static str); 10] = [
+static REFUSED: [(&[u8], &[u8], &'static str); 11] = [
     (b"slots", b"", "system: not TOML"),
     (b"slots = 1", b"", "system: missing master"),
     (b"bus = 3", b"", "system: bus out of range"),
     (TWO_CALLED, b"", "system: two are called core"),
     (OVERLAP, b"", "system: ports 0 and 1 overlap"),
+    (NO_SIGNALS, b"", "system: no signals"),
     (NO_CLOCK, b"", "system: missing clock"),
     (SYSTEM, b"", "tlvcd: line 1: cut in its header"),
     (SYSTEM, b"\n$upscope $end ", "tlvcd: line 2: not a dump"),
