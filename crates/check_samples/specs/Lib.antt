@@ -4,6 +4,7 @@ pub mod Slot
 pub mod Values
 pub mod Row
 pub mod Rows
+pub mod Edges
 pub mod Sampling
 pub mod Left
 pub mod Faults

@@ -1,5 +1,6 @@
 -- The rows of a time: those of the beats that cross at a rising edge of the clock. This project's own.
 use Rattle.std.specs.Prelude.{◌≡◌, ℕ, ◌&&◌, Bool, false, not, List, [], ◌∷◌, ◌++◌, codes, Option, None, Some, Result, Ok, Err, if◌then◌else◌}
+use Rattle.std.specs.List.{list_any}
 use Rattle.std.specs.Str.{bytes_eq}
 use Rattle.tl_text.specs.Reading.{◌>>=◌}
 use Rattle.check_samples.specs.Digits.{bits_of}
@@ -9,7 +10,7 @@ use Rattle.check_samples.specs.declared.channel.BeatTaps.TheVariants.{A, D}
 use Rattle.check_samples.specs.declared.channel.Channel.{Channel}
 use Rattle.check_samples.specs.declared.channel.UnknownBit.{UnknownBit}
 use Rattle.check_samples.specs.declared.sampler.Probes as code_probes
-use Rattle.check_samples.specs.declared.sampler.Reset.{Reset}
+use Rattle.check_samples.specs.declared.reset.Reset.{Reset}
 use Rattle.check_samples.specs.declared.sampler.SampleFault.{SampleFault}
 use Rattle.check_samples.specs.declared.sampler.SampleFault.TheVariants.{Unknown, Memory}
 use Rattle.check_samples.specs.declared.signal.Signal.{Signal}
@@ -24,6 +25,10 @@ is_zero bits = bytes_eq bits (codes "0")
 -- valid and ready are both 1
 abbrev pub crosses : List (List ℕ) → Channel → Bool
 crosses values channel = is_one (bits_of values channel.valid) && is_one (bits_of values channel.ready)
+
+-- they are of some channel
+abbrev pub some_crosses : List (List ℕ) → List Channel → Bool
+some_crosses values channels = list_any (λ channel. crosses values channel) channels
 
 -- the row of a channel's beat, or the first of its signals, data aside, with an unknown bit
 abbrev pub row_by : BeatTaps → ℕ → List (List ℕ) → Channel → Result (List ℕ) Signal

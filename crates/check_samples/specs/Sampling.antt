@@ -1,18 +1,22 @@
 -- The rows of what happens in a dump. This project's own.
-use Rattle.std.specs.Prelude.{◌≡◌, ℕ, ◌==◌, ◌||◌, Bool, false, nat_lt, List, [], ◌∷◌, ◌++◌, length, Option, None, Some, Result, Ok, Err, if◌then◌else◌}
+use Rattle.std.specs.Prelude.{◌≡◌, ℕ, ◌==◌, Bool, false, nat_lt, List, [], ◌∷◌, ◌++◌, length, Option, None, Some, Result, Ok, Err, if◌then◌else◌}
 use Rattle.check_vcd.specs.Body.{Happens, At, Sets, Wrong}
 use Rattle.check_samples.specs.Digits.{set_extended}
+use Rattle.check_samples.specs.Edges.{with_edge}
+use Rattle.check_samples.specs.declared.edges.Edges.{Edges}
 use Rattle.check_samples.specs.declared.sampler.SampleFault.{SampleFault}
 use Rattle.check_samples.specs.declared.sampler.SampleFault.TheVariants.{Unknown, Memory}
-use Rattle.check_samples.specs.Rows.{Probes, Rows, and_then, has_edge, no_rows, rises, rows_of}
+use Rattle.check_samples.specs.Rows.{Probes, Rows, and_then, has_edge, is_active, no_rows, rises, rows_of, some_crosses}
 
--- what is looked at; the values before the present time and at it, and how many bits each has; and the present time
+-- what is looked at; the values before the present time and at it, and how many bits each has; the present time; and
+-- what there was at the edges of the times that are over
 pub record Sampling : Type 0 where
   pub probes : Probes
   pub before : List (List ℕ)
   pub now : List (List ℕ)
   pub widths : List ℕ
   pub time : Option ℕ
+  pub edges : Edges
 
 -- ---- what happens, one after the other
 
@@ -29,9 +33,25 @@ is_time (Some last) time = last == time
 abbrev pub is_at : Sampling → ℕ → Bool
 is_at s time = is_time s.time time
 
--- a time begins: what the values are, they were before it
+-- whether the clock rises at the present time, in a reset too
+abbrev pub rises_now : Sampling → Bool
+rises_now s = rises s.before s.now s.probes.clock
+
+-- what there was at the edges, with that of the present time if the clock rises at it
+abbrev pub edges_when : Option ℕ → Sampling → Edges
+edges_when None s = s.edges
+edges_when (Some time) s =
+    if rises_now s
+    then with_edge s.edges (is_active s.before s.probes.reset) (some_crosses s.before s.probes.channels)
+    else s.edges
+
+abbrev pub edges_now : Sampling → Edges
+edges_now s = edges_when s.time s
+
+-- a time begins, and the present one is over: what the values are, they were before it
 abbrev pub at_time : Sampling → ℕ → Sampling
-at_time s time = if is_at s time then s else record s { before = s.now; time = Some time }
+at_time s time =
+    if is_at s time then s else record s { before = s.now; time = Some time; edges = edges_now s }
 
 -- what is so after one thing that happens
 abbrev pub behind : Happens → Sampling → Sampling
@@ -58,18 +78,6 @@ rows_from (At time ∷ happens) s =
     else and_then (rows_now s) (rows_from happens (at_time s time))
 rows_from (Sets slot digits ∷ happens) s = rows_from happens (with_value s slot digits)
 rows_from (Wrong line mistake ∷ happens) s = no_rows
-
--- whether the clock rises at the present time, in a reset too
-abbrev pub rises_now : Sampling → Bool
-rises_now s = rises s.before s.now s.probes.clock
-
--- whether the clock rises at some time of what happens: that of each, with what has changed by its end
-unfoldable pub rises_in : List Happens → Sampling → Bool
-rises_in [] s = rises_now s
-rises_in (At time ∷ happens) s =
-    if is_at s time then rises_in happens s else rises_now s || rises_in happens (at_time s time)
-rises_in (Sets slot digits ∷ happens) s = rises_in happens (with_value s slot digits)
-rises_in (Wrong line mistake ∷ happens) s = false
 
 -- ---- what calls answer
 

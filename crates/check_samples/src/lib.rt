@@ -5,14 +5,16 @@
 //! signals had before the time of the edge, in the order of the channels. [`Sampler::push_rows`] makes the rows of the
 //! last time. Both are pinned to one definition over the whole list of what happens, `rows_from`
 //! (`specs/Sampling.antt`); what a row says is in `specs/Row.antt`. [`Rows`] hands a sampler all that happens in a dump,
-//! and its model is the text of the rows that are left to come, what they end with, and whether the clock rises at some time
-//! (`specs/Left.antt`).
+//! and its model is the text of the rows that are left to come, and what they end with (`specs/Left.antt`). A whole dump
+//! whose clock never rises ends with a fault, and so does one whose edges or beats all lie in reset (`specs/Edges.antt`).
 //!
 //! A value is kept in a slot of [`Values`], and a [`Tap`] says which of its digits are a signal. Read on in
 //! `docs/CAPTURE.md`, "Your own design".
 #![tactic(auto)]
 
 mod channel;
+mod edges;
+mod reset;
 mod row;
 mod rows;
 mod sampler;
@@ -22,8 +24,10 @@ mod tap;
 mod values;
 
 pub use channel::{AskTaps, BeatTaps, Channel, ReplyTaps, UnknownBit};
+pub use edges::{EdgeFault, Edges};
+pub use reset::Reset;
 pub use rows::{Progress, Rows, RowsFault};
-pub use sampler::{Probes, Reset, SampleFault, Sampler};
+pub use sampler::{Probes, SampleFault, Sampler};
 pub use signal::Signal;
 pub use tap::Tap;
 pub use values::Values;

@@ -1,10 +1,10 @@
 //! The rows of a dump, one thing that happens in it after the other.
-ghost use Rattle.std.specs.Prelude.{◌≡◌, ◌||◌, IfErr, IfOk, IfSome, Some, false};
+ghost use Rattle.std.specs.Prelude.{◌≡◌, IfErr, IfOk, IfSome};
 ghost use Rattle.check_vcd.specs.Words.{Both};
-ghost use Rattle.check_samples.specs.Left.{RowsGoOn, Stops, left_in, risen_behind};
-ghost use Rattle.check_samples.specs.Sampling.{rises_now};
+ghost use Rattle.check_samples.specs.Left.{IsOver, RowsGoOn, Stops, left_in};
 
 use crate::channel::UnknownBit;
+use crate::edges::EdgeFault;
 use crate::sampler::{SampleFault, Sampler};
 use check_vcd::{Dump, DumpFault, Event, Mistake};
 use std::io::Read;
@@ -17,6 +17,8 @@ pub enum RowsFault {
     Unknown(UnknownBit),
     /// The dump is wrong: on which line, and why.
     Dump(u64, Mistake),
+    /// All of it was read, and its edges are none to take beats at.
+    Edges(EdgeFault),
     Read,
     Memory,
 }
@@ -53,16 +55,15 @@ impl From<DumpFault> for RowsFault {
 pub enum Progress {
     /// More may be to come.
     More,
-    /// All are there; whether the clock rose at some time.
-    Over(bool),
+    /// All are there.
+    Over,
 }
 
-/// The rows of a dump that are left to come, and what they end with; and whether the clock rose at a time that is over.
+/// The rows of a dump that are left to come, and what they end with.
 #[derive(Drop)]
 pub struct Rows<R: Read + Drop> {
     dump: Dump<R>,
     sampler: Sampler,
-    has_risen: bool,
 }
 
 impl<R: Read + Drop> Model for Rows<R> {
@@ -71,42 +72,25 @@ impl<R: Read + Drop> Model for Rows<R> {
 
     ghost Value = { Option RowsLeft };
 
-    ghost view = { λ rows. left_in rows.dump rows.sampler rows.has_risen };
+    ghost view = { λ rows. left_in rows.dump rows.sampler };
 }
 
-/// Whether the clock rose up to the present time, if it is known whether it did before.
-fn risen_now(has_risen: bool, sampler: &Sampler) -> bool
-    ensures { result ≡ (has_risen || rises_now sampler.now) }
+/// What is answered at the end of a dump, if this is said of its edges.
+fn over(fault: Option<EdgeFault>) -> Result<Progress, RowsFault>
+    ensures { IsOver result fault }
 {
-    has_risen || sampler.rises()
-}
-
-/// Whether the clock rose at a time that is over after what happens next.
-fn risen_behind(has_risen: bool, sampler: &Sampler, event: Event) -> bool
-    ensures { result ≡ risen_behind has_risen sampler.now event }
-{
-    match event {
-        Event::Time(time) => {
-            if sampler.is_at(time) {
-                has_risen
-            } else {
-                risen_now(has_risen, sampler)
-            }
-        }
-        Event::Change(_) => has_risen,
+    match fault {
+        None => Ok(Progress::Over),
+        Some(fault) => Err(RowsFault::Edges(fault)),
     }
 }
 
 impl<R: Read + Drop> Rows<R> {
     /// Those of a dump after its header, by a sampler that has taken nothing.
     pub fn new(dump: Dump<R>, sampler: Sampler) -> Rows<R>
-        ensures { result ≡ left_in dump sampler false }
+        ensures { result ≡ left_in dump sampler }
     {
-        Rows {
-            dump,
-            sampler,
-            has_risen: false,
-        }
+        Rows { dump, sampler }
     }
 
     /// Reads on to what happens next, and appends the rows that are then due. After the end or a fault it is called no
@@ -117,14 +101,12 @@ impl<R: Read + Drop> Rows<R> {
     {
         match self.dump.read() {
             Ok(Some(event)) => {
-                let has_risen = risen_behind(self.has_risen, &self.sampler, event);
                 self.sampler.take(text, event, self.dump.value())?;
-                self.has_risen = has_risen;
                 Ok(Progress::More)
             }
             Ok(None) => {
                 self.sampler.push_rows(text)?;
-                Ok(Progress::Over(risen_now(self.has_risen, &self.sampler)))
+                over(self.sampler.edge_fault())
             }
             Err(fault) => Err(RowsFault::from(fault)),
         }

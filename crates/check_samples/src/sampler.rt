@@ -1,9 +1,12 @@
 //! The beats that cross, edge by edge.
 ghost use Rattle.std.specs.Prelude.{◌≡◌, ◌∷◌, List, None, IfOk, OnOk};
-ghost use Rattle.check_samples.specs.Rows.{Appended, Writes, crosses, is_one, has_edge, is_active, is_zero, rises, row_at, rows_at, rows_of, view_of};
+ghost use Rattle.check_samples.specs.Edges.{with_edge};
+ghost use Rattle.check_samples.specs.Rows.{Appended, Writes, crosses, is_one, has_edge, is_active, is_zero, rises, row_at, rows_at, rows_of, some_crosses, view_of};
 ghost use Rattle.check_samples.specs.Values.{all_before, all_now, all_widths};
 
 use crate::channel::{BeatTaps, Channel, UnknownBit};
+use crate::edges::{EdgeFault, Edges, edge_fault};
+use crate::reset::Reset;
 use crate::row::{ask_cells, push_ask, push_reply, reply_cells};
 use crate::signal::Signal;
 use crate::tap::Tap;
@@ -66,6 +69,18 @@ fn crosses(values: &Values, channel: &Channel) -> bool
     is_one(values.before(channel.valid)) && is_one(values.before(channel.ready))
 }
 
+/// Whether they are of some channel.
+fn some_crosses(values: &Values, channels: &[Channel]) -> bool
+    ensures { result ≡ some_crosses (all_before values.now) channels.now }
+{
+    for channel in channels {
+        if crosses(values, channel) {
+            return true;
+        }
+    }
+    false
+}
+
 /// Whether this is one bit that is 1.
 fn is_one(bits: &[u8]) -> bool
     ensures { result ≡ is_one bits.now }
@@ -117,13 +132,6 @@ fn push_rows(
     Ok(())
 }
 
-/// A reset: where it is, and the bit that makes it active.
-#[derive(Debug, Clone, Copy, PartialEq, Eq)]
-pub struct Reset {
-    pub tap: Tap,
-    pub is_low: bool,
-}
-
 /// What is looked at in a dump: the clock, the reset, and the channels in the order in which their beats cross.
 #[derive(Drop)]
 pub struct Probes {
@@ -157,12 +165,29 @@ fn has_edge(values: &Values, probes: &Probes) -> bool
     rises(values, probes.clock) && !is_active(values, probes.reset)
 }
 
-/// Makes rows of what happens in a dump: what is looked at, the values that are kept, and the present time.
+/// What there was at the edges, after one more at the present time. Once it is known that beats crossed they are not
+/// looked for again.
+fn with_edge(edges: Edges, values: &Values, probes: &Probes) -> Edges
+    ensures { result ≡ with_edge edges (is_active (all_before values.now) probes.now.reset)
+        (some_crosses (all_before values.now) probes.now.channels.items) }
+{
+    let in_reset = is_active(values, probes.reset);
+    Edges {
+        any: true,
+        outside: edges.outside || !in_reset,
+        crossed: edges.crossed || (!in_reset && some_crosses(values, &probes.channels)),
+        masked: edges.masked || (in_reset && some_crosses(values, &probes.channels)),
+    }
+}
+
+/// Makes rows of what happens in a dump: what is looked at, the values that are kept, the present time, and what there was
+/// at the edges of the times that are over.
 #[derive(Drop)]
 pub struct Sampler {
     probes: Probes,
     values: Values,
     time: Option<u64>,
+    edges: Edges,
 }
 
 impl Model for Sampler {
@@ -179,12 +204,14 @@ impl Model for Sampler {
       now = all_now s.values;
       widths = all_widths s.values;
       time = s.time;
+      edges = s.edges;
     } };
 }
 
 impl Sampler {
     ghost use Rattle.check_vcd.specs.Body.{Happens, happens_of};
-    ghost use Rattle.check_samples.specs.Sampling.{LeadsToRows, at_time, behind, is_at, rises_now, rows_from, rows_now, with_value};
+    ghost use Rattle.check_samples.specs.Edges.{edge_fault, no_edges};
+    ghost use Rattle.check_samples.specs.Sampling.{LeadsToRows, at_time, behind, edges_now, is_at, rows_from, rows_now, with_value};
 
     /// Before anything has happened: each value is unknown, save those that are given.
     pub fn new(probes: Probes, values: Values) -> Sampler
@@ -193,11 +220,13 @@ impl Sampler {
         ensures now { result.now ≡ all_now values }
         ensures widths { result.widths ≡ all_widths values }
         ensures time { result.time ≡ None }
+        ensures edges { result.edges ≡ no_edges }
     {
         Sampler {
             probes,
             values,
             time: None,
+            edges: Edges::none(),
         }
     }
 
@@ -224,15 +253,37 @@ impl Sampler {
         push_rows(text, time, &self.values, &self.probes.channels)
     }
 
-    /// A time begins; nothing is changed by the present one.
+    /// What there was at the edges, with that of the present time.
+    fn edges_now(&self) -> Edges
+        ensures { result ≡ edges_now self.now }
+    {
+        let Some(_) = self.time else {
+            return self.edges;
+        };
+        if !rises(&self.values, self.probes.clock) {
+            return self.edges;
+        }
+        with_edge(self.edges, &self.values, &self.probes)
+    }
+
+    /// Why the edges are none to take beats at, if the dump ends with the present time and they are not.
+    pub(crate) fn edge_fault(&self) -> Option<EdgeFault>
+        ensures { result ≡ edge_fault self.now.probes.reset (edges_now self.now) }
+    {
+        edge_fault(self.probes.reset, self.edges_now())
+    }
+
+    /// A time begins, and the present one is over.
     fn begin(&mut self, time: u64) -> Result<(), AllocError>
         ensures { OnOk result (self.new ≡ at_time self.old time) }
     {
         if self.time == Some(time) {
             return Ok(());
         }
+        let edges = self.edges_now();
         self.values.pass()?;
         self.time = Some(time);
+        self.edges = edges;
         Ok(())
     }
 
@@ -262,15 +313,8 @@ impl Sampler {
         Ok(())
     }
 
-    /// Whether the clock rises at the present time.
-    pub fn rises(&self) -> bool
-        ensures { result ≡ rises_now self.now }
-    {
-        rises(&self.values, self.probes.clock)
-    }
-
     /// Whether this is the present time.
-    pub(crate) fn is_at(&self, time: u64) -> bool
+    fn is_at(&self, time: u64) -> bool
         ensures { result ≡ is_at self.now time }
     {
         self.time == Some(time)

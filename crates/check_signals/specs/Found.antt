@@ -14,12 +14,13 @@ use Rattle.check_vcd.specs.Codes.{coded_in}
 use Rattle.check_vcd.specs.Dump.{with_slot}
 use Rattle.check_vcd.specs.Header.{Var}
 use Rattle.check_samples.specs.Digits.{extended, unknown}
+use Rattle.check_samples.specs.Edges.{no_edges}
 use Rattle.check_samples.specs.Rows.{Probes, view_of}
 use Rattle.check_samples.specs.Sampling.{Sampling}
 use Rattle.check_samples.specs.Values.{all_before, all_now, all_widths}
 use Rattle.check_samples.specs.declared.channel.BeatTaps.TheVariants.{A, D}
 use Rattle.check_samples.specs.declared.channel.Channel.{Channel}
-use Rattle.check_samples.specs.declared.sampler.Reset.{Reset}
+use Rattle.check_samples.specs.declared.reset.Reset.{Reset}
 use Rattle.check_samples.specs.declared.signal.Signal.{Signal}
 use Rattle.check_samples.specs.declared.tap.Tap.{Tap}
 use Rattle.check_signals.specs.Names.{SignalNames}
@@ -252,6 +253,7 @@ sampling_of found = record {
   now = map digits_in found.kept;
   widths = map width_in found.kept;
   time = None;
+  edges = no_edges;
 }
 
 -- identifiers have slots, each that of its place

@@ -5,7 +5,7 @@ use Rattle.std.proofs.lemmas.Bool.{both_ways, cases_lt, cond-false, cond-true, e
 use Rattle.std.proofs.lemmas.List.Elements.{Contains-append_cases, Contains-append_left, Contains-append_right}
 use Rattle.check_vcd.specs.Body.{Happens, At, Sets, Wrong}
 use Rattle.check_samples.specs.Rows.{Probes, Rows, and_then, has_edge, no_rows, rises, rows_of}
-use Rattle.check_samples.specs.Sampling.{Sampling, at_time, is_at, is_time, rows_from, rows_now, rows_when, with_value}
+use Rattle.check_samples.specs.Sampling.{Sampling, at_time, edges_now, is_at, is_time, rows_from, rows_now, rows_when, with_value}
 use Rattle.check_wave_laws.specs.Sampled.{AreInOrder, AreSampled, SampledBeat, ValueChange, IsSampledBeat, NeverFalls, Precedes, Wave, changes_after, cut_after, is_before, is_until, is_whole, sampled_rows, values_after, values_before, values_until, wave_of}
 use Rattle.check_wave_laws.proofs.Changes.{EachTime, IsFrom, IsLess, IsUpTo, before-past, before-until, changes-from, each-push, each-weaker, from-before, from-until, now-push, until-before, until-past, up-to-before, up-to-next, up-to-self, up-to-until, value-kept, values-none, whole-before}
 use Rattle.check_wave_laws.proofs.Edges.{beat-at, crossed-at, crossing, crossing-all, crossing-each, crossing-order, crossing-rows, Crosses, edge-at, no-beat, none-there, order-append, rows-append}
@@ -271,7 +271,7 @@ module _ (wave : Wave) (time : Option ℕ) (next : ℕ) (happens : List Happens)
         ∙ whole-before next happens early runs.rises.1 below;
   }
 
-  later-runs : Runs wave (Some next) happens (record s { before = s.now; time = Some next })
+  later-runs : Runs wave (Some next) happens (record s { before = s.now; time = Some next; edges = edges_now s })
   later-runs = record {
     past = runs.past;
     sampler = record {
@@ -338,12 +338,12 @@ same-rows s next happens same =
 
 later-rows : (s : Sampling) (next : ℕ) (happens : List Happens) → is_at s next ≡ false
     → rows_from (At next ∷ happens) s
-    ≡ and_then (rows_now s) (rows_from happens (record s { before = s.now; time = Some next }))
+    ≡ and_then (rows_now s) (rows_from happens (record s { before = s.now; time = Some next; edges = edges_now s }))
 unfolding rows_from
 later-rows s next happens other =
     cond-false (is_at s next) (rows_from happens s) (and_then (rows_now s) (rows_from happens (at_time s next))) other
     ∙ ap (λ (new : Sampling). and_then (rows_now s) (rows_from happens new))
-    (cond-false (is_at s next) s (record s { before = s.now; time = Some next }) other)
+    (cond-false (is_at s next) s (record s { before = s.now; time = Some next; edges = edges_now s }) other)
 
 -- the rows of the rest, wherever it begins
 abbrev Continues : Wave → List Happens → Type 0
@@ -356,10 +356,10 @@ later-beats : (wave : Wave) (time : Option ℕ) (next : ℕ) (happens : List Hap
 unfolding later-ends
 later-beats wave time next happens s runs less other more =
     subst (λ (r : Rows). HasBeats wave time None r) (sym (later-rows s next happens other))
-    (join wave time next (rows_now s) (rows_from happens (record s { before = s.now; time = Some next })) less
+    (join wave time next (rows_now s) (rows_from happens (record s { before = s.now; time = Some next; edges = edges_now s })) less
     (ended wave time (Some next) (later-ends wave time next happens s runs less) s runs.sampler
     (now-below time next less))
-    (more (Some next) (record s { before = s.now; time = Some next }) (later-runs wave time next happens s runs less)))
+    (more (Some next) (record s { before = s.now; time = Some next; edges = edges_now s }) (later-runs wave time next happens s runs less)))
 
 time-on : (wave : Wave) (time : Option ℕ) (next : ℕ) (happens : List Happens) (s : Sampling)
     → Runs wave time (At next ∷ happens) s → Continues wave happens

@@ -9,7 +9,7 @@ use Rattle.check_rows.specs.Buses.{bus_of_link}
 use Rattle.check_rows.specs.Row.{SeenRow}
 use Rattle.check_samples.specs.Digits.{bits_of, extended, fill_of, part_if_any, part_of, set_extended}
 use Rattle.check_samples.specs.Rows.{Probes, Rows, and_then, crosses, followed_by, has_edge, no_rows, row_alone, row_at, rows_at, rows_of}
-use Rattle.check_samples.specs.Sampling.{Sampling, at_time, is_at, rows_from, rows_now, rows_when, with_value}
+use Rattle.check_samples.specs.Sampling.{Sampling, at_time, edges_now, is_at, rows_from, rows_now, rows_when, with_value}
 use Rattle.check_samples.specs.declared.channel.BeatTaps.{BeatTaps}
 use Rattle.check_samples.specs.declared.channel.BeatTaps.TheVariants.{A, D}
 use Rattle.check_samples.specs.declared.channel.Channel.{Channel}
@@ -211,7 +211,7 @@ pub time-fits : (masters ports : List Bus) (s : Sampling) (time : ℕ) → Sampl
     → SamplingFits masters ports (at_time s time)
 time-fits masters ports s time fits below = go (is_at s time)
   where
-    go : (t : Bool) → SamplingFits masters ports (cond t s (record s { before = s.now; time = Some time }))
+    go : (t : Bool) → SamplingFits masters ports (cond t s (record s { before = s.now; time = Some time; edges = edges_now s }))
     go true = fits
     go false = record { before = fits.now; now = fits.now; time = below; channels = fits.channels }
 
@@ -230,7 +230,7 @@ value-same s slot digits = go (nat_lt slot (length s.now))
 time-same : (s : Sampling) (time : ℕ) → IsSame (at_time s time) s
 time-same s time = go (is_at s time)
   where
-    go : (t : Bool) → IsSame (cond t s (record s { before = s.now; time = Some time })) s
+    go : (t : Bool) → IsSame (cond t s (record s { before = s.now; time = Some time; edges = edges_now s })) s
     go true = record { probes = refl; widths = refl }
     go false = record { probes = refl; widths = refl }
 

@@ -18,9 +18,11 @@ use Rattle.check_keys.specs.declared.fault.SystemFault.TheVariants as system
 use Rattle.check_description.specs.Description.{Description}
 use Rattle.check_description.specs.declared.read.TheConstants.{MAX_SYSTEM}
 use Rattle.check_samples.specs.Digits.{unknown}
+use Rattle.check_samples.specs.Edges.{no_edges}
 use Rattle.check_samples.specs.Left.{RowsLeft, left_in, left_of}
 use Rattle.check_samples.specs.Rows.{Probes}
 use Rattle.check_samples.specs.Sampling.{Sampling}
+use Rattle.check_samples.specs.declared.edges.Edges.{Edges}
 use Rattle.check_signals.specs.Found.{Found, IsFound, IsResolved, code_in, digits_in, find_of, sampling_of, slot_one, slots_from, width_in}
 use Rattle.check_signals.specs.Names.{names_of_file}
 use Rattle.check_signals.specs.Source.{SearchFault, fault_view}
@@ -57,38 +59,39 @@ pub record IsFresh (s : Sampling) (found : Found) : Type 0 where
   pub now : s.now ≡ map digits_in found.kept
   pub widths : s.widths ≡ map width_in found.kept
   pub time : s.time ≡ None
+  pub edges : s.edges ≡ no_edges
 
 -- a sampler of these parts
-abbrev made : Probes → List (List ℕ) → List (List ℕ) → List ℕ → Option ℕ → Sampling
-made probes before now widths time =
-    record { probes = probes; before = before; now = now; widths = widths; time = time }
+abbrev made : Probes → List (List ℕ) → List (List ℕ) → List ℕ → Option ℕ → Edges → Sampling
+made probes before now widths time edges =
+    record { probes = probes; before = before; now = now; widths = widths; time = time; edges = edges }
 
-same-made : (p q : Probes) (b c n m : List (List ℕ)) (w v : List ℕ) (t u : Option ℕ) → p ≡ q → b ≡ c → n ≡ m → w ≡ v
-    → t ≡ u → made p b n w t ≡ made q c m v u
-same-made p q b c n m w v t u probes before now widths time =
-    ap (λ (x : Probes). made x b n w t) probes ∙ ap (λ (x : List (List ℕ)). made q x n w t) before
-    ∙ ap (λ (x : List (List ℕ)). made q c x w t) now ∙ ap (λ (x : List ℕ). made q c m x t) widths
-    ∙ ap (λ (x : Option ℕ). made q c m v x) time
+same-made : (p q : Probes) (b c n m : List (List ℕ)) (w v : List ℕ) (t u : Option ℕ) (e f : Edges) → p ≡ q → b ≡ c
+    → n ≡ m → w ≡ v → t ≡ u → e ≡ f → made p b n w t e ≡ made q c m v u f
+same-made p q b c n m w v t u e f probes before now widths time edges =
+    ap (λ (x : Probes). made x b n w t e) probes ∙ ap (λ (x : List (List ℕ)). made q x n w t e) before
+    ∙ ap (λ (x : List (List ℕ)). made q c x w t e) now ∙ ap (λ (x : List ℕ). made q c m x t e) widths
+    ∙ ap (λ (x : Option ℕ). made q c m v x e) time ∙ ap (λ (x : Edges). made q c m v u x) edges
 
 fresh-is : (s : Sampling) (found : Found) → IsFresh s found → s ≡ sampling_of found
 fresh-is s found fresh =
     same-made s.probes found.probes s.before (map (λ value. unknown (width_in value)) found.kept) s.now
-    (map digits_in found.kept) s.widths (map width_in found.kept) s.time None fresh.probes fresh.before fresh.now
-    fresh.widths fresh.time
+    (map digits_in found.kept) s.widths (map width_in found.kept) s.time None s.edges no_edges fresh.probes fresh.before
+    fresh.now fresh.widths fresh.time fresh.edges
 
 opened : (links : WaveLinks) (text : List ℕ) (vars : List Var) (words : Option (List Word)) (find : Find) (body : Body)
     (found : Found) (s : Sampling)
     → Both (Some (dump_words text)) words (λ from to. opening from blank ≡ Opened vars to)
     → body ≡ start → find ≡ find_of vars found → s ≡ sampling_of found → found_among vars links ≡ Ok found
-    → IsOpened links (option_map (λ h. left_of h s false) (option_map (λ w. happenings find w body) words)) text
+    → IsOpened links (option_map (λ h. left_of h s) (option_map (λ w. happenings find w body) words)) text
 unfolding rows_in
 opened links text vars None find body found s both is finds fresh has = absurd both
 opened links text vars (Some w) find body found s both is finds fresh has =
     ap (rows_after links) both
     ∙ ap (rows_found vars w) has
-    ∙ ap (λ (l : RowsLeft). Ok l) (sym (ap (λ (b : Body). left_of (happenings find w b) s false) is
-    ∙ ap (λ (f : Find). left_of (happenings f w start) s false) finds
-    ∙ ap (λ (t : Sampling). left_of (happenings (find_of vars found) w start) t false) fresh))
+    ∙ ap (λ (l : RowsLeft). Ok l) (sym (ap (λ (b : Body). left_of (happenings find w b) s) is
+    ∙ ap (λ (f : Find). left_of (happenings f w start) s) finds
+    ∙ ap (λ (t : Sampling). left_of (happenings (find_of vars found) w start) t) fresh))
 
 -- the identifiers that are kept are those that were found
 find-is : (vars : List Var) (first now : Find) (codes : List (Option (List ℕ))) (found : Found)
@@ -104,7 +107,7 @@ pub opened-rows : (links : WaveLinks) (text : Option (List ℕ)) (vars : List Va
     → Opens text vars first → dump.words ≡ first.words → dump.body ≡ first.body
     → ((code : List ℕ) → find_in dump.codes code ≡ slots_from codes 0 (find_in first.codes) code)
     → codes ≡ map code_in found.kept → IsFresh s found → found_among vars links ≡ Ok found
-    → IfSome text (IsOpened links (left_in dump s false))
+    → IfSome text (IsOpened links (left_in dump s))
 opened-rows links None vars first dump codes found s opens words body finds are fresh has = tt
 opened-rows links (Some text) vars first dump codes found s opens words body finds are fresh has =
     opened links text vars dump.words (find_in dump.codes) dump.body found s (rw words opens.words) (body ∙ opens.body)

@@ -11,20 +11,20 @@ use Rattle.check_samples.specs.declared.rows.Progress.TheVariants.{More, Over}
 use Rattle.check_samples.specs.declared.rows.RowsFault.{RowsFault}
 use Rattle.check_samples.specs.declared.rows.RowsFault.TheVariants as rows
 use Rattle.check_waves.specs.Fault.{of_rows}
-use Rattle.check_waves.specs.Out.{AppendsFront, Finishes, IsEnded, IsOut, IsPushed, Moves, Pushing, is_cut}
+use Rattle.check_waves.specs.Out.{AppendsFront, Finishes, IsOut, IsPushed, Moves, Pushing, is_cut}
 use Rattle.check_waves.specs.declared.fault.WaveFault.{WaveFault}
 use Rattle.check_waves.specs.declared.fault.WaveFault.TheVariants as wave
 
 -- rows after a text
 abbrev pub behind : List ℕ → RowsLeft → RowsLeft
-behind text left = record { text = text ++ left.text; end = left.end; rises = left.rises }
+behind text left = record { text = text ++ left.text; end = left.end }
 
 -- ---- rows are taken
 
 -- none was taken
 pub pushing-start : (a : Option RowsLeft) (text : List ℕ) (at : Option (List ℕ)) → Both a a (Pushing text text at at)
 pushing-start None text at = tt
-pushing-start (Some x) text at = record { front = []; is = refl; end = refl; rises = refl; written = Appends-nil at }
+pushing-start (Some x) text at = record { front = []; is = refl; end = refl; written = Appends-nil at }
 
 -- some more were, and a front of the text was written
 pub pushing-on : (a b c : Option RowsLeft) (text now next last : List ℕ) (old mid new : Option (List ℕ))
@@ -40,7 +40,6 @@ pushing-on (Some x) (Some y) (Some z) text now next last old mid new so_far goes
       (sym goes.0 ∙ ap (λ l. l ++ z.text) moves.is ∙ append_assoc moves.front last z.text)
       ∙ sym (append_assoc so_far.front moves.front (last ++ z.text));
   end = goes.1 ∙ so_far.end;
-  rises = goes.2 ∙ so_far.rises;
   written = Appends-trans old mid new so_far.front moves.front so_far.written moves.written;
 }
 
@@ -53,26 +52,16 @@ moved-all x y text now next old mid so_far is = record {
   written = so_far.written;
 }
 
-pub pushed-all : (a b c : Option RowsLeft) (text now next : List ℕ) (old mid : Option (List ℕ)) (answer : Result Unit WaveFault)
-    (risen : Bool) → Both a b (Pushing text now old mid) → Both b c (RowsGoOn (Over risen) now next) → IsEnded answer risen
-    → IfSome a (λ left. IsPushed answer left text next old mid)
-pushed-all None b c text now next old mid answer risen so_far goes ended = tt
-pushed-all (Some x) None c text now next old mid answer risen so_far goes ended = absurd so_far
-pushed-all (Some x) (Some y) None text now next old mid answer risen so_far goes ended = absurd goes
-pushed-all (Some x) (Some y) (Some z) text now next old mid (Ok done) risen so_far goes ended =
-    (moved-all x y text now next old mid so_far goes.0, sym so_far.end ∙ goes.1, sym so_far.rises ∙ goes.2 ∙ ended)
-pushed-all (Some x) (Some y) (Some z) text now next old mid (Err wave.NoEdge) risen so_far goes ended =
-    (moved-all x y text now next old mid so_far goes.0, sym so_far.end ∙ goes.1, sym so_far.rises ∙ goes.2 ∙ ended)
-pushed-all (Some x) (Some y) (Some z) text now next old mid (Err (wave.System f)) risen so_far goes ended = absurd ended
-pushed-all (Some x) (Some y) (Some z) text now next old mid (Err (wave.Keys f)) risen so_far goes ended = absurd ended
-pushed-all (Some x) (Some y) (Some z) text now next old mid (Err (wave.Signal f)) risen so_far goes ended = absurd ended
-pushed-all (Some x) (Some y) (Some z) text now next old mid (Err (wave.Dump l m)) risen so_far goes ended = absurd ended
-pushed-all (Some x) (Some y) (Some z) text now next old mid (Err (wave.Unknown u)) risen so_far goes ended = absurd ended
-pushed-all (Some x) (Some y) (Some z) text now next old mid (Err wave.Read) risen so_far goes ended = absurd ended
-pushed-all (Some x) (Some y) (Some z) text now next old mid (Err wave.Write) risen so_far goes ended = absurd ended
-pushed-all (Some x) (Some y) (Some z) text now next old mid (Err wave.Memory) risen so_far goes ended = absurd ended
+pub pushed-all : (a b c : Option RowsLeft) (text now next : List ℕ) (old mid : Option (List ℕ)) (done : Unit {0})
+    → Both a b (Pushing text now old mid) → Both b c (RowsGoOn Over now next)
+    → IfSome a (λ left. IsPushed (Ok done) left text next old mid)
+pushed-all None b c text now next old mid done so_far goes = tt
+pushed-all (Some x) None c text now next old mid done so_far goes = absurd so_far
+pushed-all (Some x) (Some y) None text now next old mid done so_far goes = absurd goes
+pushed-all (Some x) (Some y) (Some z) text now next old mid done so_far goes =
+    (moved-all x y text now next old mid so_far goes.0, sym so_far.end ∙ goes.1)
 
--- rows end before the dump does
+-- rows end before the dump does, or with it
 pub pushed-fault : (a b : Option RowsLeft) (text now next : List ℕ) (old mid : Option (List ℕ)) (fault : RowsFault)
     → Both a b (Pushing text now old mid) → IfSome b (Stops fault now next)
     → IfSome a (λ left. IsPushed (Err (of_rows fault)) left text next old mid)
@@ -81,6 +70,8 @@ pushed-fault (Some x) None text now next old mid fault so_far stops = absurd so_
 pushed-fault (Some x) (Some y) text now next old mid (rows.Unknown u) so_far stops =
     (moved-all x y text now next old mid so_far stops.0, sym so_far.end ∙ stops.1)
 pushed-fault (Some x) (Some y) text now next old mid (rows.Dump line mistake) so_far stops =
+    (moved-all x y text now next old mid so_far stops.0, sym so_far.end ∙ stops.1)
+pushed-fault (Some x) (Some y) text now next old mid (rows.Edges why) so_far stops =
     (moved-all x y text now next old mid so_far stops.0, sym so_far.end ∙ stops.1)
 pushed-fault (Some x) (Some y) text now next old mid rows.Read so_far stops = record {
   more = y.text;
@@ -171,7 +162,7 @@ pub out-by : (answer result : Result Unit WaveFault) (left : RowsLeft) (text res
 out-by (Ok done) result left text rest old mid new pushed fin =
     by-finish (Ok done) result mid new rest (λ r. IsOut r (behind text left) old new)
     (λ no same. absurd (cc))
-    (λ yes written. (all-out old mid new (text ++ left.text) rest pushed.0 written, pushed.1, pushed.2))
+    (λ yes written. (all-out old mid new (text ++ left.text) rest pushed.0 written, pushed.1))
     (λ yes part. part-all old mid new (text ++ left.text) rest pushed.0 part) fin
 out-by (Err (wave.Unknown u)) result left text rest old mid new pushed fin =
     by-finish (Err (wave.Unknown u)) result mid new rest
@@ -185,11 +176,11 @@ out-by (Err (wave.Dump line mistake)) result left text rest old mid new pushed f
     (λ no same. absurd (cc))
     (λ yes written. (all-out old mid new (text ++ left.text) rest pushed.0 written, pushed.1))
     (λ yes part. part-all old mid new (text ++ left.text) rest pushed.0 part) fin
-out-by (Err wave.NoEdge) result left text rest old mid new pushed fin =
-    by-finish (Err wave.NoEdge) result mid new rest
+out-by (Err (wave.Edges why)) result left text rest old mid new pushed fin =
+    by-finish (Err (wave.Edges why)) result mid new rest
     (λ r. IsOut r (behind text left) old new)
     (λ no same. absurd (cc))
-    (λ yes written. (all-out old mid new (text ++ left.text) rest pushed.0 written, pushed.1, pushed.2))
+    (λ yes written. (all-out old mid new (text ++ left.text) rest pushed.0 written, pushed.1))
     (λ yes part. part-all old mid new (text ++ left.text) rest pushed.0 part) fin
 out-by (Err wave.Read) result left text rest old mid new pushed fin =
     by-finish (Err wave.Read) result mid new rest

@@ -1,5 +1,5 @@
 -- What is written of a dump. This project's own.
-use Rattle.std.specs.Prelude.{◌≡◌, ◌⊎◌, ℕ, ◌+◌, false, List, [], Option, None, Some, Result, Ok, Err, ⊤}
+use Rattle.std.specs.Prelude.{◌≡◌, ◌⊎◌, ℕ, ◌+◌, List, [], Option, None, Some, Result, Ok, Err, ⊤}
 use Rattle.std.specs.Io.KnownBytes.{Appends}
 use Rattle.check_vcd.specs.Body.{happenings, start}
 use Rattle.check_vcd.specs.Header.{Cut, Opened, Opening, Refused, Var, blank, opening}
@@ -30,7 +30,7 @@ pub data NoRows : Type 0 where
 
 -- the rows of what happens after a header, if this is looked at
 abbrev pub rows_of : List Var → List Word → Found → RowsLeft
-rows_of vars words found = left_of (happenings (find_of vars found) words start) (sampling_of found) false
+rows_of vars words found = left_of (happenings (find_of vars found) words start) (sampling_of found)
 
 abbrev pub rows_found : List Var → List Word → Result Found SearchFault → Result RowsLeft NoRows
 rows_found vars words (Ok found) = Ok (rows_of vars words found)
@@ -102,7 +102,7 @@ IsUnopened links (wave.Keys fault) text = ⊥
 IsUnopened links (wave.Signal fault) text = rows_in links text ≡ Err (NotFound (fault_view fault))
 IsUnopened links (wave.Dump line mistake) text = IsNoHeader links text line mistake
 IsUnopened links (wave.Unknown unknown) text = ⊥
-IsUnopened links wave.NoEdge text = ⊥
+IsUnopened links (wave.Edges why) text = ⊥
 IsUnopened links wave.Read text = ⊤
 IsUnopened links wave.Write text = ⊥
 IsUnopened links wave.Memory text = ⊤
@@ -114,7 +114,7 @@ IsOfSystem old new (wave.Keys fault) = HasKeyFault old new fault
 IsOfSystem old new (wave.Signal fault) = ⊥
 IsOfSystem old new (wave.Dump line mistake) = ⊥
 IsOfSystem old new (wave.Unknown unknown) = ⊥
-IsOfSystem old new wave.NoEdge = ⊥
+IsOfSystem old new (wave.Edges why) = ⊥
 IsOfSystem old new wave.Read = ⊤
 IsOfSystem old new wave.Write = ⊥
 IsOfSystem old new wave.Memory = ⊤

@@ -13,7 +13,7 @@ use Rattle.check_vcd.specs.declared.fault.DumpFault.TheVariants as dump
 use Rattle.tl_streams.specs.declared.streams.ReadFault.{ReadFault}
 use Rattle.tl_streams.specs.declared.streams.ReadFault.TheVariants as read
 use Rattle.check_waves.specs.declared.fault.WaveFault.{WaveFault}
-use Rattle.check_waves.specs.declared.fault.WaveFault.TheVariants.{System, Keys, Signal, Dump, Unknown, NoEdge, Read, Write, Memory}
+use Rattle.check_waves.specs.declared.fault.WaveFault.TheVariants.{System, Keys, Signal, Dump, Unknown, Edges, Read, Write, Memory}
 
 -- want of memory is one fault, whichever layer met it
 abbrev pub of_system : SystemFault → WaveFault
@@ -36,6 +36,7 @@ of_signal fault = Signal fault
 abbrev pub of_rows : RowsFault → WaveFault
 of_rows (rows.Unknown unknown) = Unknown unknown
 of_rows (rows.Dump line mistake) = Dump line mistake
+of_rows (rows.Edges why) = Edges why
 of_rows rows.Read = Read
 of_rows rows.Memory = Memory
 
@@ -50,7 +51,7 @@ status_of (Keys fault) = 1
 status_of (Signal fault) = 1
 status_of (Dump line mistake) = 1
 status_of (Unknown unknown) = 1
-status_of NoEdge = 1
+status_of (Edges why) = 1
 status_of Read = 5
 status_of Write = 5
 status_of Memory = 4

@@ -3,7 +3,7 @@ use Rattle.std.specs.Prelude.{◌≡◌, ◌⊎◌, ℕ, Bool, true, false, List
 use Rattle.std.specs.Io.KnownBytes.{Appends}
 use Rattle.tl_streams.specs.Streams.{AppendsPart}
 use Rattle.check_rows.specs.Column.{header_line}
-use Rattle.check_samples.specs.Left.{BeforeBeat, BeforeLine, RowsLeft, Whole}
+use Rattle.check_samples.specs.Left.{BeforeBeat, BeforeLine, RowsLeft, Whole, WithoutEdges}
 use Rattle.check_waves.specs.declared.fault.WaveFault.{WaveFault}
 use Rattle.check_waves.specs.declared.fault.WaveFault.TheVariants as wave
 
@@ -16,15 +16,14 @@ pub record AppendsFront (old new : Option (List ℕ)) (bytes : List ℕ) : Type 
 
 -- a capture: the header, and the rows that are to come
 abbrev pub capture_of : RowsLeft → RowsLeft
-capture_of left = record { text = header_line ++ left.text; end = left.end; rises = left.rises }
+capture_of left = record { text = header_line ++ left.text; end = left.end }
 
--- what is written of rows that were to come, if this is answered: all of them, and they end so; or a front of them.
--- Where they end with the dump, its clock rises at some time, or else it is answered that it never does
+-- what is written of rows that were to come, if this is answered: all of them, and they end so; or a front of them
 abbrev pub IsOut : Result Unit WaveFault → RowsLeft → Option (List ℕ) → Option (List ℕ) → Type 0
-IsOut (Ok done) left old new = Appends old new left.text × (left.end ≡ Whole) × (left.rises ≡ true)
+IsOut (Ok done) left old new = Appends old new left.text × (left.end ≡ Whole)
 IsOut (Err (wave.Unknown unknown)) left old new = Appends old new left.text × (left.end ≡ BeforeBeat unknown)
 IsOut (Err (wave.Dump line mistake)) left old new = Appends old new left.text × (left.end ≡ BeforeLine line mistake)
-IsOut (Err wave.NoEdge) left old new = Appends old new left.text × (left.end ≡ Whole) × (left.rises ≡ false)
+IsOut (Err (wave.Edges why)) left old new = Appends old new left.text × (left.end ≡ WithoutEdges why)
 IsOut (Err wave.Read) left old new = AppendsFront old new left.text
 IsOut (Err wave.Write) left old new = AppendsFront old new left.text
 IsOut (Err wave.Memory) left old new = AppendsFront old new left.text
@@ -48,13 +47,13 @@ pub record MovesOn (old new : Option (List ℕ)) (text left : List ℕ) : Type 0
 -- the rows after a text were written, but for what is left of that, if this is answered
 abbrev pub IsPushed : Result Unit WaveFault → RowsLeft → List ℕ → List ℕ → Option (List ℕ) → Option (List ℕ) → Type 0
 IsPushed (Ok done) left text rest old new =
-    Moves old new (text ++ left.text) rest × (left.end ≡ Whole) × (left.rises ≡ true)
+    Moves old new (text ++ left.text) rest × (left.end ≡ Whole)
 IsPushed (Err (wave.Unknown unknown)) left text rest old new =
     Moves old new (text ++ left.text) rest × (left.end ≡ BeforeBeat unknown)
 IsPushed (Err (wave.Dump line mistake)) left text rest old new =
     Moves old new (text ++ left.text) rest × (left.end ≡ BeforeLine line mistake)
-IsPushed (Err wave.NoEdge) left text rest old new =
-    Moves old new (text ++ left.text) rest × (left.end ≡ Whole) × (left.rises ≡ false)
+IsPushed (Err (wave.Edges why)) left text rest old new =
+    Moves old new (text ++ left.text) rest × (left.end ≡ WithoutEdges why)
 IsPushed (Err wave.Read) left text rest old new = MovesOn old new (text ++ left.text) rest
 IsPushed (Err wave.Write) left text rest old new = AppendsFront old new (text ++ left.text)
 IsPushed (Err wave.Memory) left text rest old new = AppendsFront old new (text ++ left.text)
@@ -62,25 +61,11 @@ IsPushed (Err (wave.System fault)) left text rest old new = ⊥
 IsPushed (Err (wave.Keys fault)) left text rest old new = ⊥
 IsPushed (Err (wave.Signal fault)) left text rest old new = ⊥
 
--- all of a dump was read, and its clock rose, or it did not
-abbrev pub IsEnded : Result Unit WaveFault → Bool → Type 0
-IsEnded (Ok done) risen = risen ≡ true
-IsEnded (Err wave.NoEdge) risen = risen ≡ false
-IsEnded (Err (wave.System fault)) risen = ⊥
-IsEnded (Err (wave.Keys fault)) risen = ⊥
-IsEnded (Err (wave.Signal fault)) risen = ⊥
-IsEnded (Err (wave.Dump line mistake)) risen = ⊥
-IsEnded (Err (wave.Unknown unknown)) risen = ⊥
-IsEnded (Err wave.Read) risen = ⊥
-IsEnded (Err wave.Write) risen = ⊥
-IsEnded (Err wave.Memory) risen = ⊥
-
 -- the rows after a text, after some were taken: those are written but for this text, and these are left
 pub record Pushing (text now : List ℕ) (old new : Option (List ℕ)) (from to : RowsLeft) : Type 0 where
   pub front : List ℕ
   pub is : text ++ from.text ≡ front ++ (now ++ to.text)
   pub end : to.end ≡ from.end
-  pub rises : to.rises ≡ from.rises
   pub written : Appends old new front
 
 -- the answer was given in the midst of a row: memory was refused, or a write failed
@@ -91,7 +76,7 @@ is_cut (Err (wave.Keys fault)) = false
 is_cut (Err (wave.Signal fault)) = false
 is_cut (Err (wave.Dump line mistake)) = false
 is_cut (Err (wave.Unknown unknown)) = false
-is_cut (Err wave.NoEdge) = false
+is_cut (Err (wave.Edges why)) = false
 is_cut (Err wave.Read) = false
 is_cut (Err wave.Write) = true
 is_cut (Err wave.Memory) = true

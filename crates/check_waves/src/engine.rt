@@ -1,5 +1,5 @@
 //! The engine: from the bytes of a system and of a dump to the rows of a capture.
-ghost use Rattle.std.specs.Prelude.{◌≡◌, ℕ, false, List, Option, map, option_map, IfOk, IfErr, IfSome, OnOk, OnErr};
+ghost use Rattle.std.specs.Prelude.{◌≡◌, ℕ, List, Option, map, option_map, IfOk, IfErr, IfSome, OnOk, OnErr};
 ghost use Rattle.check_vcd.specs.Codes.{find_in};
 ghost use Rattle.check_vcd.specs.Dump.{Opens};
 ghost use Rattle.check_vcd.specs.Header.{var_view};
@@ -7,7 +7,7 @@ ghost use Rattle.check_samples.specs.Left.{left_in};
 ghost use Rattle.check_signals.specs.Found.{slot_one, slots_from};
 ghost use Rattle.check_waves.specs.Capture.{GivesLinks, IsCapture, IsOpened, IsUnopened};
 ghost use Rattle.check_waves.specs.Links.{links_view};
-ghost use Rattle.check_waves.specs.Out.{AppendsFront, Finishes, IsEnded, IsOut, IsPushed, Moves, capture_of, is_cut};
+ghost use Rattle.check_waves.specs.Out.{AppendsFront, Finishes, IsOut, IsPushed, Moves, capture_of, is_cut};
 
 use crate::fault::WaveFault;
 use crate::system::{WaveLinks, read_links};
@@ -70,7 +70,7 @@ fn sampler_of<D: Read + Drop>(
 ) -> Result<Sampler, WaveFault>
     ensures ok { (text : Option (List ℕ)) → Opens text (map var_view vars.now) dump.old
         → IfOk result (λ sampler. IfSome text
-        (IsOpened (links_view links.now) (left_in dump.new sampler false))) }
+        (IsOpened (links_view links.now) (left_in dump.new sampler))) }
     ensures fault { (text : Option (List ℕ)) → Opens text (map var_view vars.now) dump.old
         → IfErr result (λ fault. IfSome text (IsUnopened (links_view links.now) fault)) }
 {
@@ -118,17 +118,6 @@ fn write_long<W: Write>(
     }
 }
 
-/// What is answered at the end of a dump: its clock has to rise.
-fn ended(has_risen: bool) -> Result<(), WaveFault>
-    ensures { IsEnded result has_risen }
-{
-    if has_risen {
-        Ok(())
-    } else {
-        Err(WaveFault::NoEdge)
-    }
-}
-
 /// Appends the rows that are left to a text, and writes that whenever it is long.
 fn push_rows<D: Read + Drop, W: Write>(
     rows: &mut Rows<D>,
@@ -142,7 +131,7 @@ fn push_rows<D: Read + Drop, W: Write>(
     for _ in 0..u64::MAX {
         match rows.read(text) {
             Ok(Progress::More) => {}
-            Ok(Progress::Over(has_risen)) => return ended(has_risen),
+            Ok(Progress::Over) => return Ok(()),
             Err(fault) => return Err(WaveFault::from(fault)),
         }
         if let Err(fault) = write_long(writer, text) {

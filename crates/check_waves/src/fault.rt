@@ -4,7 +4,7 @@ ghost use Rattle.check_waves.specs.Fault.{of_dump, of_keys, of_read, of_rows, of
 ghost use Rattle.check_waves.specs.declared.fault.WaveFault.TheVariants.{Write, Memory};
 
 use check_keys::SystemFault;
-use check_samples::{RowsFault, UnknownBit};
+use check_samples::{EdgeFault, RowsFault, UnknownBit};
 use check_signals::{KeyFault, SignalFault};
 use check_vcd::{DumpFault, Mistake};
 use check_watch::Link;
@@ -25,8 +25,8 @@ pub enum WaveFault {
     Dump(u64, Mistake),
     /// A beat has an unknown bit.
     Unknown(UnknownBit),
-    /// The clock never rises.
-    NoEdge,
+    /// The edges of the dump are none to take beats at.
+    Edges(EdgeFault),
     /// A file could not be opened or read.
     Read,
     /// Nothing is said of how much went out.
@@ -69,6 +69,30 @@ fn write_beat<W: fmt::Write>(f: &mut fmt::Formatter<W>, unknown: &UnknownBit) ->
     }
 }
 
+/// What may be wrong if a reset is active too long: a high one may be low.
+fn hint_of(is_low: bool) -> &'static str {
+    if is_low {
+        ""
+    } else {
+        " (reset_active = \"low\"?)"
+    }
+}
+
+/// Why the edges of a dump are none to take beats at.
+fn write_edges<W: fmt::Write>(f: &mut fmt::Formatter<W>, why: EdgeFault) -> fmt::Result {
+    match why {
+        EdgeFault::NeverRises => f.write_str("tlvcd: the clock never rises"),
+        EdgeFault::ResetAtEdges(is_low) => {
+            let hint = hint_of(is_low);
+            write!(f, "tlvcd: the reset is active at every edge{hint}")
+        }
+        EdgeFault::ResetAtBeats(is_low) => {
+            let hint = hint_of(is_low);
+            write!(f, "tlvcd: the reset is active at every beat{hint}")
+        }
+    }
+}
+
 impl fmt::Display for WaveFault {
     fn fmt<W: fmt::Write>(&self, f: &mut fmt::Formatter<W>) -> fmt::Result {
         match self {
@@ -77,7 +101,7 @@ impl fmt::Display for WaveFault {
             WaveFault::Signal(fault) => write!(f, "tlvcd: {fault}"),
             WaveFault::Dump(line, mistake) => write!(f, "tlvcd: line {line}: {mistake}"),
             WaveFault::Unknown(unknown) => write_beat(f, unknown),
-            WaveFault::NoEdge => f.write_str("tlvcd: the clock never rises"),
+            WaveFault::Edges(why) => write_edges(f, *why),
             WaveFault::Read => f.write_str("read failed"),
             WaveFault::Write => f.write_str("write failed"),
             WaveFault::Memory => f.write_str("memory refused"),
@@ -137,6 +161,7 @@ impl From<RowsFault> for WaveFault {
         match fault {
             RowsFault::Unknown(unknown) => WaveFault::Unknown(unknown),
             RowsFault::Dump(line, mistake) => WaveFault::Dump(line, mistake),
+            RowsFault::Edges(why) => WaveFault::Edges(why),
             RowsFault::Read => WaveFault::Read,
             RowsFault::Memory => WaveFault::Memory,
         }

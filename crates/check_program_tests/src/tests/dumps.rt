@@ -3,7 +3,7 @@
 use crate::tests::ends::{End, Outcome, Run, fault, without_trouble};
 use crate::tests::streams::{Drips, Trickle, Trouble};
 use check_keys::SystemFault;
-use check_samples::{Signal, UnknownBit};
+use check_samples::{EdgeFault, Signal, UnknownBit};
 use check_signals::{KeyFault, SignalKey};
 use check_vcd::Mistake;
 use check_watch::Link;
@@ -240,6 +240,27 @@ fn has_line(rt: &impl Abort, alloc: Global, fault: WaveFault, line: &str, status
     assert!(rt; found == status);
 }
 
+/// Edges at which no beats can be taken, and their lines.
+static OF_EDGES: [(EdgeFault, &'static str); 5] = [
+    (EdgeFault::NeverRises, "tlvcd: the clock never rises"),
+    (
+        EdgeFault::ResetAtEdges(true),
+        "tlvcd: the reset is active at every edge",
+    ),
+    (
+        EdgeFault::ResetAtEdges(false),
+        "tlvcd: the reset is active at every edge (reset_active = \"low\"?)",
+    ),
+    (
+        EdgeFault::ResetAtBeats(true),
+        "tlvcd: the reset is active at every beat",
+    ),
+    (
+        EdgeFault::ResetAtBeats(false),
+        "tlvcd: the reset is active at every beat (reset_active = \"low\"?)",
+    ),
+];
+
 #[test]
 fn faults_have_their_lines_and_statuses(rt: HostRuntime) {
     let alloc = rt.alloc();
@@ -278,13 +299,9 @@ fn faults_have_their_lines_and_statuses(rt: HostRuntime) {
         "tlvcd: time 9, p3 D: d_size is unknown",
         1,
     );
-    has_line(
-        &rt,
-        alloc,
-        WaveFault::NoEdge,
-        "tlvcd: the clock never rises",
-        1,
-    );
+    for (why, line) in &OF_EDGES {
+        has_line(&rt, alloc, WaveFault::Edges(*why), line, 1);
+    }
     has_line(&rt, alloc, WaveFault::Memory, "memory refused", 4);
     has_line(&rt, alloc, WaveFault::Read, "read failed", 5);
     has_line(&rt, alloc, WaveFault::Write, "write failed", 5);

@@ -58,7 +58,7 @@ fn rest_of(
     for _ in 0..u32::MAX {
         match rows.read(&mut text) {
             Ok(Progress::More) => {}
-            Ok(Progress::Over(_)) => return Ok(text),
+            Ok(Progress::Over) | Err(RowsFault::Edges(_)) => return Ok(text),
             Err(fault) => return Err(fault),
         }
     }

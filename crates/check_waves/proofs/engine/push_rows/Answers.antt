@@ -24,9 +24,8 @@ pub returns-in-Ok-Over-clause-pushed : goal.returns-in-Ok-Over-clause-pushed
 returns-in-Ok-Over-clause-pushed g c =
     let contents = g.W.Write.contents in
     pushed-all c.args.rows.now c.loop.rows c.read.new.self c.args.text.now.items c.loop.text.items c.read.new.text.items
-    (contents c.args.writer.now.writer.now) (contents c.loop.writer.writer.now) c.ended.result c.in-Ok-Over.has_risen
-    c.loop.invariant.pushing
-    (rw c.in-Ok-Over.field-0-is at c.in-Ok-Over.ensures.ok) c.ended.ensures
+    (contents c.args.writer.now.writer.now) (contents c.loop.writer.writer.now) tt c.loop.invariant.pushing
+    (rw c.in-Ok-Over.field-0-is at c.in-Ok-Over.ensures.ok)
 
 pub returns-in-Err-clause-pushed : goal.returns-in-Err-clause-pushed
 returns-in-Err-clause-pushed g c =

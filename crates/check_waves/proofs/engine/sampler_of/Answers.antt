@@ -36,5 +36,6 @@ returns-clause-ok g c text opens =
       now = s.now ∙ is.now;
       widths = s.widths ∙ is.widths;
       time = s.time;
+      edges = s.edges;
     })
     f.1

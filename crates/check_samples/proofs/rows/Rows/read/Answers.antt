@@ -3,16 +3,16 @@ use Rattle.std.specs.Option.{IfSome}
 use Rattle.check_vcd.specs.Dump.{happens_in}
 use Rattle.check_samples.specs.Faults.{of_sample}
 use Rattle.check_samples.specs.Left.{Stops}
-use Rattle.check_samples.proofs.LeftLemmas.{ends, fails-by, goes-on, stops-ending, stops-reading}
+use Rattle.check_samples.proofs.LeftLemmas.{ends, fails-by, goes-on, stops-ending, stops-over, stops-reading}
 use Rattle.check_samples.proofs.rows.Rows.read.Goals as goal
 
 pub returns-in_ok-take-in-Ok-Some-clause-ok : goal.returns-in_ok-take-in-Ok-Some-clause-ok
 returns-in_ok-take-in-Ok-Some-clause-ok g c =
     let inside = c.self.inside in
     let dump = c.read.new.self in
-    rw (← c.self.view_is, c.risen_behind-has_risen.ensures)
+    rw (← c.self.view_is)
     (goes-on (happens_in inside.dump) (happens_in dump) inside.sampler c.take.new.self c.args.text.now.items
-    c.take.new.text.items tt inside.has_risen c.in-Ok-Some.event dump.body.value
+    c.take.new.text.items tt c.in-Ok-Some.event dump.body.value
     (rw c.in-Ok-Some.field-0-is at c.in-Ok-Some.ensures.ok) (rw c.value.ensures at c.in_ok-take-in-Ok-Some.ensures.rows)
     (rw c.value.ensures at c.in_ok-take-in-Ok-Some.ensures.state))
 
@@ -25,18 +25,27 @@ returns-in_err-push_rows-in-Ok-None-clause-fault g c =
     fails-by c.from_residual-in_err-push_rows-in-Ok-None.result (of_sample fault)
     (λ f. IfSome c.args.self.now (Stops f old new)) c.from_residual-in_err-push_rows-in-Ok-None.ensures.1
     (rw (← c.self.view_is) (stops-ending (happens_in inside.dump) (happens_in c.read.new.self) inside.sampler old new fault
-    inside.has_risen (rw c.in-Ok-None.field-0-is at c.in-Ok-None.ensures.ok) c.in_err-push_rows-in-Ok-None.ensures))
+    (rw c.in-Ok-None.field-0-is at c.in-Ok-None.ensures.ok) c.in_err-push_rows-in-Ok-None.ensures))
 
 pub returns-in_ok-push_rows-in-Ok-None-clause-ok : goal.returns-in_ok-push_rows-in-Ok-None-clause-ok
 returns-in_ok-push_rows-in-Ok-None-clause-ok g c =
     let inside = c.self.inside in
-    rw (← c.self.view_is, c.risen_now.ensures) (ends (happens_in inside.dump) (happens_in c.read.new.self) inside.sampler c.args.text.now.items
-    c.push_rows.new.text.items tt inside.has_risen (rw c.in-Ok-None.field-0-is at c.in-Ok-None.ensures.ok)
-    c.in_ok-push_rows-in-Ok-None.ensures)
+    rw (← c.self.view_is) (ends (happens_in inside.dump) (happens_in c.read.new.self) inside.sampler
+    c.args.text.now.items c.push_rows.new.text.items tt c.over.result
+    (rw c.in-Ok-None.field-0-is at c.in-Ok-None.ensures.ok) c.in_ok-push_rows-in-Ok-None.ensures
+    (rw c.edge_fault.ensures at c.over.ensures))
+
+pub returns-in_ok-push_rows-in-Ok-None-clause-fault : goal.returns-in_ok-push_rows-in-Ok-None-clause-fault
+returns-in_ok-push_rows-in-Ok-None-clause-fault g c =
+    let inside = c.self.inside in
+    rw (← c.self.view_is) (stops-over (happens_in inside.dump) (happens_in c.read.new.self) inside.sampler
+    c.args.text.now.items c.push_rows.new.text.items tt c.over.result
+    (rw c.in-Ok-None.field-0-is at c.in-Ok-None.ensures.ok) c.in_ok-push_rows-in-Ok-None.ensures
+    (rw c.edge_fault.ensures at c.over.ensures))
 
 pub returns-in-Err-clause-fault : goal.returns-in-Err-clause-fault
 returns-in-Err-clause-fault g c =
     let inside = c.self.inside in
     let fault = c.in-Err.fault in
     rw (← c.self.view_is, c.from.ensures) (stops-reading (happens_in inside.dump) inside.sampler c.args.text.now.items fault
-    inside.has_risen (λ line mistake is. c.in-Err.ensures.wrong line mistake (cc)))
+    (λ line mistake is. c.in-Err.ensures.wrong line mistake (cc)))
