@@ -10,10 +10,12 @@ use Rattle.check_samples.specs.declared.channel.BeatTaps.TheVariants.{A, D}
 use Rattle.check_samples.specs.declared.channel.Channel.{Channel}
 use Rattle.check_samples.specs.declared.channel.UnknownBit.{UnknownBit}
 use Rattle.check_samples.specs.declared.sampler.Probes as code_probes
+use Rattle.check_samples.specs.declared.edges.Needs.{Needs}
 use Rattle.check_samples.specs.declared.reset.Reset.{Reset}
 use Rattle.check_samples.specs.declared.sampler.SampleFault.{SampleFault}
 use Rattle.check_samples.specs.declared.sampler.SampleFault.TheVariants.{Unknown, Memory}
 use Rattle.check_samples.specs.declared.signal.Signal.{Signal}
+use Rattle.check_samples.specs.declared.signal.Signal.TheVariants as signal
 use Rattle.check_samples.specs.declared.tap.Tap.{Tap}
 
 abbrev pub is_one : List ℕ → Bool
@@ -25,6 +27,10 @@ is_zero bits = bytes_eq bits (codes "0")
 -- valid and ready are both 1
 abbrev pub crosses : List (List ℕ) → Channel → Bool
 crosses values channel = is_one (bits_of values channel.valid) && is_one (bits_of values channel.ready)
+
+-- a bit is neither 0 nor 1
+abbrev pub is_unsure : List ℕ → Bool
+is_unsure bits = not (is_zero bits) && not (is_one bits)
 
 -- they are of some channel
 abbrev pub some_crosses : List (List ℕ) → List Channel → Bool
@@ -61,17 +67,42 @@ and_then rows others = followed_by rows.fault rows.text others
 -- the row of a channel, if there is one
 abbrev pub row_alone : ℕ → Channel → Result (List ℕ) Signal → Rows
 row_alone time channel (Ok row) = record { text = row; fault = None }
-row_alone time channel (Err signal) =
-    record { text = []; fault = Some (record { time = time; link = channel.link; signal = signal }) }
+row_alone time channel (Err which) =
+    record { text = []; fault = Some (record { time = time; link = channel.link; signal = which }) }
 
-abbrev pub rows_at : ℕ → List (List ℕ) → Channel → Rows
-rows_at time values channel =
-    if crosses values channel then row_alone time channel (row_at time values channel) else no_rows
+-- the signals of a channel's handshake
+abbrev pub valid_of : BeatTaps → Signal
+valid_of (A taps) = signal.AValid
+valid_of (D taps) = signal.DValid
+
+abbrev pub ready_of : BeatTaps → Signal
+ready_of (A taps) = signal.AReady
+ready_of (D taps) = signal.DReady
+
+-- the one that has to be known and is not, if there is one: valid; or ready, while valid is 1
+abbrev pub unknown_hand : Needs → List (List ℕ) → Channel → Option Signal
+unknown_hand needs values channel =
+    if needs.valid && is_unsure (bits_of values channel.valid) then Some (valid_of channel.beat)
+    else if needs.ready && (is_one (bits_of values channel.valid) && is_unsure (bits_of values channel.ready))
+    then Some (ready_of channel.beat)
+    else None
+
+-- such a signal ends the rows, as a beat that is none does
+abbrev pub hand_alone : ℕ → Channel → Option Signal → Rows
+hand_alone time channel None = no_rows
+hand_alone time channel (Some which) =
+    record { text = []; fault = Some (record { time = time; link = channel.link; signal = which }) }
+
+abbrev pub rows_at : Needs → ℕ → List (List ℕ) → Channel → Rows
+rows_at needs time values channel =
+    if crosses values channel then row_alone time channel (row_at time values channel)
+    else hand_alone time channel (unknown_hand needs values channel)
 
 -- the rows of the channels, in their order
-abbrev pub rows_of : ℕ → List (List ℕ) → List Channel → Rows
-rows_of time values [] = no_rows
-rows_of time values (channel ∷ channels) = and_then (rows_at time values channel) (rows_of time values channels)
+abbrev pub rows_of : Needs → ℕ → List (List ℕ) → List Channel → Rows
+rows_of needs time values [] = no_rows
+rows_of needs time values (channel ∷ channels) =
+    and_then (rows_at needs time values channel) (rows_of needs time values channels)
 
 -- ---- the edges
 
@@ -100,9 +131,9 @@ has_edge before now probes = rises before now probes.clock && not (is_active bef
 -- the row was appended, or there is none and nothing was
 abbrev pub Appended : List ℕ → List ℕ → Result (List ℕ) Signal → Option Signal → Type 0
 Appended old new (Ok row) None = new ≡ old ++ row
-Appended old new (Ok row) (Some signal) = ⊥
+Appended old new (Ok row) (Some which) = ⊥
 Appended old new (Err first) None = ⊥
-Appended old new (Err first) (Some signal) = (new ≡ old) × (first ≡ signal)
+Appended old new (Err first) (Some which) = (new ≡ old) × (first ≡ which)
 
 -- the rows were appended, up to the beat that is none; unless memory ran out
 abbrev pub Writes : Result Unit SampleFault → List ℕ → List ℕ → Rows → Type 0

@@ -2,7 +2,7 @@
 use Rattle.std.specs.Prelude.{◌≡◌, ℕ, ◌==◌, Bool, false, nat_lt, List, [], ◌∷◌, ◌++◌, length, Option, None, Some, Result, Ok, Err, if◌then◌else◌}
 use Rattle.check_vcd.specs.Body.{Happens, At, Sets, Wrong}
 use Rattle.check_samples.specs.Digits.{set_extended}
-use Rattle.check_samples.specs.Edges.{with_edge}
+use Rattle.check_samples.specs.Edges.{needs_of, with_edge}
 use Rattle.check_samples.specs.declared.edges.Edges.{Edges}
 use Rattle.check_samples.specs.declared.sampler.SampleFault.{SampleFault}
 use Rattle.check_samples.specs.declared.sampler.SampleFault.TheVariants.{Unknown, Memory}
@@ -59,11 +59,14 @@ behind (At time) s = at_time s time
 behind (Sets slot digits) s = with_value s slot digits
 behind (Wrong line mistake) s = s
 
--- the rows of the present time, if the clock rises at it: with the values that were before it
+-- the rows of the present time, if the clock rises at it: with the values that were before it. What has to be known then
+-- follows from the edges before
 abbrev pub rows_when : Option ℕ → Sampling → Rows
 rows_when None s = no_rows
 rows_when (Some time) s =
-    if has_edge s.before s.now s.probes then rows_of time s.before s.probes.channels else no_rows
+    if has_edge s.before s.now s.probes
+    then rows_of (needs_of s.probes.reset s.edges) time s.before s.probes.channels
+    else no_rows
 
 abbrev pub rows_now : Sampling → Rows
 rows_now s = rows_when s.time s

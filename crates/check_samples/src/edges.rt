@@ -1,17 +1,25 @@
 //! The edges of the clock at the times that are over, and what they say of a dump at its end.
 ghost use Rattle.std.specs.Prelude.{◌≡◌};
-ghost use Rattle.check_samples.specs.Edges.{edge_fault, is_low_of, no_edges};
+ghost use Rattle.check_samples.specs.Edges.{edge_fault, is_low_of, needs_of, no_edges};
 
 use crate::reset::Reset;
 
-/// What there was at the edges of the clock: any edge; one outside of reset; a beat that crossed there; and valid and
-/// ready of a channel that were 1 at an edge in reset.
+/// What there was at the edges of the clock: any edge; one outside of reset; one in reset; a beat that crossed outside; and
+/// valid and ready of a channel that were 1 in reset.
 #[derive(Debug, Clone, Copy, PartialEq, Eq)]
 pub struct Edges {
     pub any: bool,
     pub outside: bool,
+    pub in_reset: bool,
     pub crossed: bool,
     pub masked: bool,
+}
+
+/// What has to be known at an edge outside of reset: each valid; and each ready whose valid is 1.
+#[derive(Debug, Clone, Copy, PartialEq, Eq)]
+pub struct Needs {
+    pub valid: bool,
+    pub ready: bool,
 }
 
 /// Why the edges of a whole dump are none to take beats at. A reset that is active at 0 is low.
@@ -33,9 +41,20 @@ impl Edges {
         Edges {
             any: false,
             outside: false,
+            in_reset: false,
             crossed: false,
             masked: false,
         }
+    }
+}
+
+/// What has to be known at an edge, after what there was at earlier ones.
+pub(crate) fn needs_of(reset: Option<Reset>, edges: Edges) -> Needs
+    ensures { result ≡ needs_of reset edges }
+{
+    Needs {
+        valid: edges.in_reset,
+        ready: reset.is_none() || edges.in_reset,
     }
 }
 

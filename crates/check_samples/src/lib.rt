@@ -24,7 +24,7 @@ mod tap;
 mod values;
 
 pub use channel::{AskTaps, BeatTaps, Channel, ReplyTaps, UnknownBit};
-pub use edges::{EdgeFault, Edges};
+pub use edges::{EdgeFault, Edges, Needs};
 pub use reset::Reset;
 pub use rows::{Progress, Rows, RowsFault};
 pub use sampler::{Probes, SampleFault, Sampler};

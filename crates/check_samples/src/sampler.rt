@@ -1,11 +1,12 @@
 //! The beats that cross, edge by edge.
 ghost use Rattle.std.specs.Prelude.{◌≡◌, ◌∷◌, List, None, IfOk, OnOk};
 ghost use Rattle.check_samples.specs.Edges.{with_edge};
-ghost use Rattle.check_samples.specs.Rows.{Appended, Writes, crosses, is_one, has_edge, is_active, is_zero, rises, row_at, rows_at, rows_of, some_crosses, view_of};
+ghost use Rattle.check_samples.specs.Rows.{Appended, Writes, crosses, is_one, has_edge, is_active, is_unsure, is_zero, ready_of, rises, row_at, rows_at, rows_of, some_crosses, unknown_hand, valid_of, view_of};
 ghost use Rattle.check_samples.specs.Values.{all_before, all_now, all_widths};
+ghost use Rattle.check_samples.specs.declared.sampler.SampleFault.TheVariants.{Unknown};
 
 use crate::channel::{BeatTaps, Channel, UnknownBit};
-use crate::edges::{EdgeFault, Edges, edge_fault};
+use crate::edges::{EdgeFault, Edges, Needs, edge_fault, needs_of};
 use crate::reset::Reset;
 use crate::row::{ask_cells, push_ask, push_reply, reply_cells};
 use crate::signal::Signal;
@@ -95,39 +96,84 @@ fn is_zero(bits: &[u8]) -> bool
     bits == b"0".as_slice()
 }
 
-/// Appends the row of a channel, if a beat crosses.
+/// Whether this is one bit that is neither 0 nor 1.
+fn is_unsure(bits: &[u8]) -> bool
+    ensures { result ≡ is_unsure bits.now }
+{
+    !is_zero(bits) && !is_one(bits)
+}
+
+/// The signal of a channel's handshake that has to be known and is not, if there is one.
+fn unknown_hand(needs: Needs, values: &Values, channel: &Channel) -> Option<Signal>
+    ensures { result ≡ unknown_hand needs (all_before values.now) channel.now }
+{
+    let valid = values.before(channel.valid);
+    let (of_valid, of_ready) = hands_of(&channel.beat);
+    if needs.valid && is_unsure(valid) {
+        Some(of_valid)
+    } else if needs.ready && is_one(valid) && is_unsure(values.before(channel.ready)) {
+        Some(of_ready)
+    } else {
+        None
+    }
+}
+
+/// The signals of a channel's handshake: valid and ready.
+fn hands_of(beat: &BeatTaps) -> (Signal, Signal)
+    ensures valid { result.0 ≡ valid_of beat.now }
+    ensures ready { result.1 ≡ ready_of beat.now }
+{
+    match beat {
+        BeatTaps::A(_) => (Signal::AValid, Signal::AReady),
+        BeatTaps::D(_) => (Signal::DValid, Signal::DReady),
+    }
+}
+
+/// That a signal of a channel is unknown at this time.
+fn unknown_at(time: u64, channel: &Channel, signal: Signal) -> SampleFault
+    ensures { result ≡ Unknown (record { time = time; link = channel.now.link; signal = signal }) }
+{
+    SampleFault::Unknown(UnknownBit {
+        time,
+        link: channel.link,
+        signal,
+    })
+}
+
+/// Appends the row of a channel, if a beat crosses; if none does, its handshake has to be known.
 fn push_if_crosses(
     text: &mut Vec<u8>,
+    needs: Needs,
     time: u64,
     values: &Values,
     channel: &Channel,
 ) -> Result<(), SampleFault>
-    ensures { Writes result text.old.items text.new.items (rows_at time (all_before values.now) channel.now) }
+    ensures { Writes result text.old.items text.new.items (rows_at needs time (all_before values.now) channel.now) }
 {
-    if !crosses(values, channel) {
-        return Ok(());
+    if crosses(values, channel) {
+        return match push_row(text, time, values, channel)? {
+            None => Ok(()),
+            Some(signal) => Err(unknown_at(time, channel, signal)),
+        };
     }
-    match push_row(text, time, values, channel)? {
+    match unknown_hand(needs, values, channel) {
         None => Ok(()),
-        Some(signal) => Err(SampleFault::Unknown(UnknownBit {
-            time,
-            link: channel.link,
-            signal,
-        })),
+        Some(signal) => Err(unknown_at(time, channel, signal)),
     }
 }
 
 /// Appends the rows of an edge, up to the first beat that is none.
 fn push_rows(
     text: &mut Vec<u8>,
+    needs: Needs,
     time: u64,
     values: &Values,
     channels: &[Channel],
 ) -> Result<(), SampleFault>
-    ensures { Writes result text.old.items text.new.items (rows_of time (all_before values.now) channels.now) }
+    ensures { Writes result text.old.items text.new.items (rows_of needs time (all_before values.now) channels.now) }
 {
     for channel in channels {
-        push_if_crosses(text, time, values, channel)?;
+        push_if_crosses(text, needs, time, values, channel)?;
     }
     Ok(())
 }
@@ -175,6 +221,7 @@ fn with_edge(edges: Edges, values: &Values, probes: &Probes) -> Edges
     Edges {
         any: true,
         outside: edges.outside || !in_reset,
+        in_reset: edges.in_reset || in_reset,
         crossed: edges.crossed || (!in_reset && some_crosses(values, &probes.channels)),
         masked: edges.masked || (in_reset && some_crosses(values, &probes.channels)),
     }
@@ -250,7 +297,8 @@ impl Sampler {
         if !has_edge(&self.values, &self.probes) {
             return Ok(());
         }
-        push_rows(text, time, &self.values, &self.probes.channels)
+        let needs = needs_of(self.probes.reset, self.edges);
+        push_rows(text, needs, time, &self.values, &self.probes.channels)
     }
 
     /// What there was at the edges, with that of the present time.

@@ -1,6 +1,6 @@
 -- The names of signals that a system file gives, or the first fault on the way to them. This project's own; the names of
 -- a link's signals are the TileLink specification's.
-use Rattle.std.specs.Prelude.{◌≡◌, ◌≢◌, ℕ, ◌++◌, ◌||◌, Bool, true, false, List, [], ◌∷◌, map, codes, Option, None, Some, is_some, option_map, MatchResult, Result, Ok, Err, if◌then◌else◌, ok_or}
+use Rattle.std.specs.Prelude.{◌≡◌, ◌≢◌, ℕ, ◌++◌, ◌||◌, Bool, true, false, List, [], map, codes, Option, None, Some, is_some, option_map, MatchResult, Result, Ok, Err, if◌then◌else◌, ok_or}
 use Rattle.std.specs.List.{list_any}
 use Rattle.std.specs.Str.{bytes_eq, is_utf8}
 use Rattle.std.specs.Prelude.{Vec}

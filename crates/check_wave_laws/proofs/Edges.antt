@@ -1,14 +1,16 @@
 -- The beats of one edge, and their rows.
-use Rattle.std.proofs.Common.{◌≡◌, ◌∙◌, ℕ, zero, suc, ◌+◌, ◌<◌, ◌⊎◌, inl, inr, Bool, true, false, cond, not, List, [], ◌∷◌, ◌++◌, length, get_or, slice_get, codes, Contains, Option, None, Some, ap, arith, append_assoc, refl, subst, sym}
-use Rattle.std.proofs.lemmas.Bool.{and_from, and_parts, not-true, not_from_false}
+use Rattle.std.proofs.Common.{◌≡◌, ◌∙◌, ℕ, zero, suc, ◌+◌, ◌<◌, ◌⊎◌, inl, inr, Bool, true, false, ◌&&◌, ◌||◌, cond, not, List, [], ◌∷◌, ◌++◌, length, get_or, slice_get, codes, Contains, Option, None, Some, is_some, ap, arith, append_assoc, refl, subst, sym}
+use Rattle.std.proofs.lemmas.Bool.{and_from, and_parts, both_ways, not-true, not_from_false}
 use Rattle.std.proofs.lemmas.List.Elements.{Contains-append_cases}
 use Rattle.std.proofs.lemmas.Option.{same_Some}
 use Rattle.std.proofs.lemmas.Slice.Eq.{bytes_eq-Decides}
 use Rattle.check_samples.specs.Digits.{bits_of}
-use Rattle.check_samples.specs.Rows.{Rows, and_then, crosses, followed_by, has_edge, is_active, is_one, is_zero, no_rows, rises, row_alone, row_at, rows_of}
+use Rattle.check_samples.specs.Rows.{Rows, and_then, crosses, followed_by, hand_alone, has_edge, is_active, is_one, is_unsure, is_zero, no_rows, ready_of, rises, row_alone, row_at, rows_at, rows_of, unknown_hand, valid_of}
 use Rattle.check_samples.specs.declared.channel.Channel.{Channel}
 use Rattle.check_samples.specs.declared.channel.UnknownBit.{UnknownBit}
-use Rattle.check_wave_laws.specs.Sampled.{AreInOrder, SampledBeat, IsSampledBeat, Precedes, Wave, is_whole, sampled_row, sampled_rows, values_before, values_until}
+use Rattle.check_samples.specs.declared.edges.Needs.{Needs}
+use Rattle.check_samples.specs.declared.signal.Signal.{Signal}
+use Rattle.check_wave_laws.specs.Sampled.{AreInOrder, HasEdge, HidesReady, HidesValid, IsSampledBeat, Meets, Precedes, SampledBeat, WasReset, Wave, hidden_hand, is_whole, sampled_row, sampled_rows, shown_row, values_before, values_until}
 
 -- ---- rows, one after the other
 
@@ -68,6 +70,62 @@ order-append (beat ∷ beats) more first second across = (
 
 -- ---- one edge
 
+-- a beat crosses at a channel, or its handshake is not known
+abbrev pub tells : Needs → List (List ℕ) → Channel → Bool
+tells needs values channel = crosses values channel || is_some (unknown_hand needs values channel)
+
+-- at a channel that tells nothing there are no rows
+rows-silent : (needs : Needs) (time : ℕ) (values : List (List ℕ)) (channel : Channel)
+    → tells needs values channel ≡ false → rows_at needs time values channel ≡ no_rows
+rows-silent needs time values channel is = go (crosses values channel) (unknown_hand needs values channel) is
+  where
+    go : (c : Bool) (unknown : Option Signal) → (c || is_some unknown) ≡ false
+        → cond c (row_alone time channel (row_at time values channel)) (hand_alone time channel unknown) ≡ no_rows
+    go true unknown e = absurd (cc)
+    go false None e = refl
+    go false (Some which) e = absurd (cc)
+
+-- what is unknown is what is hidden
+hand-is : (needs : Needs) (values : List (List ℕ)) (channel : Channel) (which : Signal)
+    → unknown_hand needs values channel ≡ Some which → which ≡ hidden_hand values channel
+hand-is needs values channel which is =
+    go (needs.valid && is_unsure valid) (needs.ready && (is_one valid && is_unsure ready)) (is_one valid)
+    (λ both. not-true (is_one valid) (and_parts (not (is_zero valid)) (not (is_one valid))
+    (and_parts needs.valid (is_unsure valid) both).1).1)
+    (λ both. (and_parts (is_one valid) (is_unsure ready)
+    (and_parts needs.ready (is_one valid && is_unsure ready) both).1).0) is
+  where
+    valid : List ℕ
+    valid = bits_of values channel.valid
+
+    ready : List ℕ
+    ready = bits_of values channel.ready
+
+    go : (a b one : Bool) → (a ≡ true → one ≡ false) → (b ≡ true → one ≡ true)
+        → cond a (Some (valid_of channel.beat)) (cond b (Some (ready_of channel.beat)) None) ≡ Some which
+        → which ≡ cond one (ready_of channel.beat) (valid_of channel.beat)
+    go true b true off on e = absurd (both_ways true (off refl) refl)
+    go true b false off on e = let same : valid_of channel.beat ≡ which = cc in sym same
+    go false true true off on e = let same : ready_of channel.beat ≡ which = cc in sym same
+    go false true false off on e = absurd (both_ways false refl (on refl))
+    go false false one off on e = absurd (cc)
+
+-- at one that tells something they are what it shows
+rows-told : (needs : Needs) (time : ℕ) (values : List (List ℕ)) (channel : Channel)
+    → tells needs values channel ≡ true → rows_at needs time values channel ≡ shown_row time values channel
+rows-told needs time values channel is =
+    go (crosses values channel) (unknown_hand needs values channel) refl is
+  where
+    go : (c : Bool) (unknown : Option Signal) → unknown_hand needs values channel ≡ unknown
+        → (c || is_some unknown) ≡ true
+        → cond c (row_alone time channel (row_at time values channel)) (hand_alone time channel unknown)
+        ≡ cond c (row_alone time channel (row_at time values channel))
+        (hand_alone time channel (Some (hidden_hand values channel)))
+    go true unknown at e = refl
+    go false None at e = absurd (cc)
+    go false (Some which) at e =
+        ap (λ (w : Signal). hand_alone time channel (Some w)) (hand-is needs values channel which at)
+
 abbrev pub beat-of : ℕ → ℕ → Channel → SampledBeat
 beat-of time place channel = record { time = time; place = place; channel = channel }
 
@@ -75,24 +133,24 @@ beat-of time place channel = record { time = time; place = place; channel = chan
 abbrev pub first-if : Bool → SampledBeat → List SampledBeat → List SampledBeat
 first-if t beat beats = cond t (beat ∷ beats) beats
 
--- the beats that cross at a time, of channels of which the first has this place
-abbrev pub crossing : Wave → ℕ → ℕ → List Channel → List SampledBeat
-crossing wave time place [] = []
-crossing wave time place (channel ∷ channels) =
-    first-if (crosses (values_before wave time) channel) (beat-of time place channel)
-    (crossing wave time (place + 1) channels)
+-- those that tell at a time, of channels of which the first has this place
+abbrev pub crossing : Wave → Needs → ℕ → ℕ → List Channel → List SampledBeat
+crossing wave needs time place [] = []
+crossing wave needs time place (channel ∷ channels) =
+    first-if (tells needs (values_before wave time) channel) (beat-of time place channel)
+    (crossing wave needs time (place + 1) channels)
 
--- the beat is of one of these channels and crosses then
-pub record Crosses (wave : Wave) (time place : ℕ) (channels : List Channel) (beat : SampledBeat) : Type 0 where
+-- the beat is of one of these channels and tells then
+pub record Crosses (wave : Wave) (needs : Needs) (time place : ℕ) (channels : List Channel) (beat : SampledBeat) : Type 0 where
   pub index : ℕ
   pub now : beat.time ≡ time
   pub spot : beat.place ≡ place + index
   pub is : slice_get channels index ≡ Some beat.channel
-  pub crossed : crosses (values_before wave time) beat.channel ≡ true
+  pub crossed : tells needs (values_before wave time) beat.channel ≡ true
 
-module _ (wave : Wave) (time : ℕ) where
+module _ (wave : Wave) (needs : Needs) (time : ℕ) where
   crosses-on : (place : ℕ) (channel : Channel) (channels : List Channel) (beat : SampledBeat)
-      → Crosses wave time (place + 1) channels beat → Crosses wave time place (channel ∷ channels) beat
+      → Crosses wave needs time (place + 1) channels beat → Crosses wave needs time place (channel ∷ channels) beat
   crosses-on place channel channels beat one = record {
     index = suc one.index;
     now = one.now;
@@ -102,28 +160,28 @@ module _ (wave : Wave) (time : ℕ) where
   }
 
   crossing-one : (place : ℕ) (channel : Channel) (channels : List Channel) (beat : SampledBeat)
-      → ((other : SampledBeat) → Contains (crossing wave time (place + 1) channels) other
-      → Crosses wave time (place + 1) channels other)
-      → (t : Bool) → crosses (values_before wave time) channel ≡ t
-      → Contains (first-if t (beat-of time place channel) (crossing wave time (place + 1) channels)) beat
-      → Crosses wave time place (channel ∷ channels) beat
+      → ((other : SampledBeat) → Contains (crossing wave needs time (place + 1) channels) other
+      → Crosses wave needs time (place + 1) channels other)
+      → (t : Bool) → tells needs (values_before wave time) channel ≡ t
+      → Contains (first-if t (beat-of time place channel) (crossing wave needs time (place + 1) channels)) beat
+      → Crosses wave needs time place (channel ∷ channels) beat
   crossing-one place channel channels beat more true is has =
-      go (here-or-there (beat-of time place channel) beat (crossing wave time (place + 1) channels) has)
+      go (here-or-there (beat-of time place channel) beat (crossing wave needs time (place + 1) channels) has)
     where
-      go : (beat-of time place channel ≡ beat) ⊎ Contains (crossing wave time (place + 1) channels) beat
-          → Crosses wave time place (channel ∷ channels) beat
+      go : (beat-of time place channel ≡ beat) ⊎ Contains (crossing wave needs time (place + 1) channels) beat
+          → Crosses wave needs time place (channel ∷ channels) beat
       go (inl same) =
-          subst (λ (b : SampledBeat). Crosses wave time place (channel ∷ channels) b) same
+          subst (λ (b : SampledBeat). Crosses wave needs time place (channel ∷ channels) b) same
           (record { index = 0; now = refl; spot = omega arith; is = refl; crossed = is })
       go (inr far) = crosses-on place channel channels beat (more beat far)
   crossing-one place channel channels beat more false is has = crosses-on place channel channels beat (more beat has)
 
   pub crossing-each : (place : ℕ) (channels : List Channel) (beat : SampledBeat)
-      → Contains (crossing wave time place channels) beat → Crosses wave time place channels beat
+      → Contains (crossing wave needs time place channels) beat → Crosses wave needs time place channels beat
   crossing-each place [] beat has = absurd (none-there beat has)
   crossing-each place (channel ∷ channels) beat has =
       crossing-one place channel channels beat (crossing-each (place + 1) channels)
-      (crosses (values_before wave time) channel) refl has
+      (tells needs (values_before wave time) channel) refl has
 
   same-beat : (place : ℕ) (channel : Channel) (beat : SampledBeat) → beat.time ≡ time → beat.place ≡ place
       → channel ≡ beat.channel → beat-of time place channel ≡ beat
@@ -143,48 +201,54 @@ module _ (wave : Wave) (time : ℕ) where
 
   pub crossing-all : (place : ℕ) (channels : List Channel) (beat : SampledBeat) (index : ℕ) → beat.time ≡ time
       → beat.place ≡ place + index → slice_get channels index ≡ Some beat.channel
-      → crosses (values_before wave time) beat.channel ≡ true → Contains (crossing wave time place channels) beat
+      → tells needs (values_before wave time) beat.channel ≡ true → Contains (crossing wave needs time place channels) beat
   crossing-all place [] beat index now at is crossed = absurd (cc)
   crossing-all place (channel ∷ channels) beat zero now at is crossed =
       let same : channel ≡ beat.channel = same_Some channel beat.channel is in
-      first-has (crosses (values_before wave time) channel) (beat-of time place channel) beat
-      (crossing wave time (place + 1) channels)
-      (ap (λ (c : Channel). crosses (values_before wave time) c) same ∙ crossed)
+      first-has (tells needs (values_before wave time) channel) (beat-of time place channel) beat
+      (crossing wave needs time (place + 1) channels)
+      (ap (λ (c : Channel). tells needs (values_before wave time) c) same ∙ crossed)
       (same-beat place channel beat now (omega (arith, at)) same)
   crossing-all place (channel ∷ channels) beat (suc index) now at is crossed =
-      rest-has (crosses (values_before wave time) channel) (beat-of time place channel) beat
-      (crossing wave time (place + 1) channels)
+      rest-has (tells needs (values_before wave time) channel) (beat-of time place channel) beat
+      (crossing wave needs time (place + 1) channels)
       (crossing-all (place + 1) channels beat index now (omega (arith, at)) is crossed)
 
   later-place : (place : ℕ) (channel : Channel) (channels : List Channel) (later : SampledBeat)
-      → Contains (crossing wave time (place + 1) channels) later → Precedes (beat-of time place channel) later
+      → Contains (crossing wave needs time (place + 1) channels) later → Precedes (beat-of time place channel) later
   later-place place channel channels later has =
       let one = crossing-each (place + 1) channels later has in inr (sym one.now, omega (arith, one.spot))
 
-  pub crossing-order : (place : ℕ) (channels : List Channel) → AreInOrder (crossing wave time place channels)
+  pub crossing-order : (place : ℕ) (channels : List Channel) → AreInOrder (crossing wave needs time place channels)
   crossing-order place [] = tt
   crossing-order place (channel ∷ channels) =
-      go (crosses (values_before wave time) channel) (crossing-order (place + 1) channels)
+      go (tells needs (values_before wave time) channel) (crossing-order (place + 1) channels)
     where
-      go : (t : Bool) → AreInOrder (crossing wave time (place + 1) channels)
-          → AreInOrder (first-if t (beat-of time place channel) (crossing wave time (place + 1) channels))
+      go : (t : Bool) → AreInOrder (crossing wave needs time (place + 1) channels)
+          → AreInOrder (first-if t (beat-of time place channel) (crossing wave needs time (place + 1) channels))
       go true rest = (later-place place channel channels, rest)
       go false rest = rest
 
   pub crossing-rows : (place : ℕ) (channels : List Channel)
-      → rows_of time (values_before wave time) channels ≡ sampled_rows wave (crossing wave time place channels)
+      → rows_of needs time (values_before wave time) channels
+      ≡ sampled_rows wave (crossing wave needs time place channels)
   crossing-rows place [] = refl
   crossing-rows place (channel ∷ channels) =
-      go (crosses (values_before wave time) channel) (crossing-rows (place + 1) channels)
+      go (tells needs (values_before wave time) channel) refl (crossing-rows (place + 1) channels)
     where
-      go : (t : Bool) → rows_of time (values_before wave time) channels
-          ≡ sampled_rows wave (crossing wave time (place + 1) channels)
-          → and_then (cond t (row_alone time channel (row_at time (values_before wave time) channel)) no_rows)
-          (rows_of time (values_before wave time) channels)
-          ≡ sampled_rows wave (first-if t (beat-of time place channel) (crossing wave time (place + 1) channels))
-      go true rest =
-          ap (λ (r : Rows). and_then (row_alone time channel (row_at time (values_before wave time) channel)) r) rest
-      go false rest = rest
+      go : (t : Bool) → tells needs (values_before wave time) channel ≡ t
+          → rows_of needs time (values_before wave time) channels
+          ≡ sampled_rows wave (crossing wave needs time (place + 1) channels)
+          → and_then (rows_at needs time (values_before wave time) channel)
+          (rows_of needs time (values_before wave time) channels)
+          ≡ sampled_rows wave (first-if t (beat-of time place channel) (crossing wave needs time (place + 1) channels))
+      go true is rest =
+          ap (λ (r : Rows). and_then r (rows_of needs time (values_before wave time) channels))
+          (rows-told needs time (values_before wave time) channel is)
+          ∙ ap (λ (r : Rows). and_then (shown_row time (values_before wave time) channel) r) rest
+      go false is rest =
+          ap (λ (r : Rows). and_then r (rows_of needs time (values_before wave time) channels))
+          (rows-silent needs time (values_before wave time) channel is) ∙ rest
 
 -- ---- beats and edges
 
@@ -196,7 +260,15 @@ not-both bits is0 is1 =
     let same : ◌≡◌ {A = ℕ} 48 49 = ap (λ (bs : List ℕ). get_or bs 0 0) (sym low ∙ high) in
     omega (arith, same)
 
--- without a change of its values a time has no beat
+-- without a change of its values a time has no edge
+pub no-edge : (wave : Wave) (values : List (List ℕ)) (so : List (List ℕ) → Bool) (below : Option ℕ)
+    (one : HasEdge wave so below) → values_before wave one.time ≡ values → values_until wave one.time ≡ values → ⊥
+no-edge wave values so below one before until =
+    not-both (bits_of values wave.probes.clock)
+    (subst (λ (vs : List (List ℕ)). is_zero (bits_of vs wave.probes.clock) ≡ true) before one.low)
+    (subst (λ (vs : List (List ℕ)). is_one (bits_of vs wave.probes.clock) ≡ true) until one.high)
+
+-- nor has it a beat
 pub no-beat : (wave : Wave) (values : List (List ℕ)) (beat : SampledBeat) → values_before wave beat.time ≡ values
     → values_until wave beat.time ≡ values → IsSampledBeat wave beat → ⊥
 no-beat wave values beat before until is =
@@ -214,31 +286,109 @@ edge-at wave time beat now is =
     (is_one (bits_of (values_until wave beat.time) wave.probes.clock)) is.low is.high)
     (not_from_false (is_active (values_before wave beat.time) wave.probes.reset) is.running))
 
-pub crossed-at : (wave : Wave) (time : ℕ) (beat : SampledBeat) → beat.time ≡ time → IsSampledBeat wave beat
-    → crosses (values_before wave time) beat.channel ≡ true
-crossed-at wave time beat now is =
-    subst (λ (n : ℕ). crosses (values_before wave n) beat.channel ≡ true) now
-    (and_from (is_one (bits_of (values_before wave beat.time) beat.channel.valid))
-    (is_one (bits_of (values_before wave beat.time) beat.channel.ready)) is.valid is.ready)
+-- what has to be known at a time
+pub record NeedsAre (wave : Wave) (time : ℕ) (needs : Needs) : Type 0 where
+  pub valid : needs.valid ≡ true → WasReset wave time
+  pub has_valid : WasReset wave time → needs.valid ≡ true
+  pub ready : needs.ready ≡ true → (wave.probes.reset ≡ None) ⊎ WasReset wave time
+  pub has_ready : (wave.probes.reset ≡ None) ⊎ WasReset wave time → needs.ready ≡ true
 
-pub beat-at : (wave : Wave) (time : ℕ) (beat : SampledBeat) → beat.time ≡ time
-    → has_edge (values_before wave time) (values_until wave time) wave.probes ≡ true
+pub or-right : (a b : Bool) → b ≡ true → (a || b) ≡ true
+or-right true b is = refl
+or-right false b is = is
+
+module _ (wave : Wave) (needs : Needs) where
+  -- a channel that shows something tells it
+  told-by : (beat : SampledBeat) → NeedsAre wave beat.time needs
+      → Meets wave beat ⊎ (HidesValid wave beat ⊎ HidesReady wave beat)
+      → tells needs (values_before wave beat.time) beat.channel ≡ true
+  told-by beat are (inl meets) =
+      ap (λ (c : Bool). c || is_some (unknown_hand needs (values_before wave beat.time) beat.channel))
+      (and_from (is_one (bits_of (values_before wave beat.time) beat.channel.valid))
+      (is_one (bits_of (values_before wave beat.time) beat.channel.ready)) meets.valid meets.ready)
+  told-by beat are (inr (inl hides)) =
+      let values = values_before wave beat.time in
+      or-right (crosses values beat.channel) (is_some (unknown_hand needs values beat.channel))
+      (ap (λ (a : Bool). is_some (cond a (Some (valid_of beat.channel.beat))
+      (cond (needs.ready && (is_one (bits_of values beat.channel.valid) && is_unsure (bits_of values beat.channel.ready)))
+      (Some (ready_of beat.channel.beat)) None)))
+      (and_from needs.valid (is_unsure (bits_of values beat.channel.valid)) (are.has_valid hides.reset) hides.valid))
+  told-by beat are (inr (inr hides)) =
+      let values = values_before wave beat.time in
+      or-right (crosses values beat.channel) (is_some (unknown_hand needs values beat.channel))
+      (go (needs.valid && is_unsure (bits_of values beat.channel.valid))
+      (needs.ready && (is_one (bits_of values beat.channel.valid) && is_unsure (bits_of values beat.channel.ready)))
+      (and_from needs.ready (is_one (bits_of values beat.channel.valid) && is_unsure (bits_of values beat.channel.ready))
+      (are.has_ready hides.reset)
+      (and_from (is_one (bits_of values beat.channel.valid)) (is_unsure (bits_of values beat.channel.ready)) hides.valid
+      hides.ready)))
+    where
+      go : (a b : Bool) → b ≡ true
+          → is_some (cond a (Some (valid_of beat.channel.beat)) (cond b (Some (ready_of beat.channel.beat)) None)) ≡ true
+      go true b is = refl
+      go false true is = refl
+      go false false is = absurd (cc)
+
+  -- and one that tells something shows it
+  shown-by : (beat : SampledBeat) → NeedsAre wave beat.time needs
+      → tells needs (values_before wave beat.time) beat.channel ≡ true
+      → Meets wave beat ⊎ (HidesValid wave beat ⊎ HidesReady wave beat)
+  shown-by beat are is = go (crosses values beat.channel) refl is
+    where
+      values : List (List ℕ)
+      values = values_before wave beat.time
+
+      valid : List ℕ
+      valid = bits_of values beat.channel.valid
+
+      ready : List ℕ
+      ready = bits_of values beat.channel.ready
+
+      hides : (a b : Bool) → (needs.valid && is_unsure valid) ≡ a
+          → (needs.ready && (is_one valid && is_unsure ready)) ≡ b
+          → is_some (cond a (Some (valid_of beat.channel.beat)) (cond b (Some (ready_of beat.channel.beat)) None)) ≡ true
+          → HidesValid wave beat ⊎ HidesReady wave beat
+      hides true b one two e =
+          let parts = and_parts needs.valid (is_unsure valid) one in
+          inl (record { reset = are.valid parts.0; valid = parts.1 })
+      hides false true one two e =
+          let parts = and_parts needs.ready (is_one valid && is_unsure ready) two in
+          let both = and_parts (is_one valid) (is_unsure ready) parts.1 in
+          inr (record { reset = are.ready parts.0; valid = both.0; ready = both.1 })
+      hides false false one two e = absurd (cc)
+
+      go : (c : Bool) → crosses values beat.channel ≡ c
+          → (c || is_some (unknown_hand needs values beat.channel)) ≡ true
+          → Meets wave beat ⊎ (HidesValid wave beat ⊎ HidesReady wave beat)
+      go true crossed e =
+          let both = and_parts (is_one valid) (is_one ready) crossed in
+          inl (record { valid = both.0; ready = both.1 })
+      go false crossed e =
+          inr (hides (needs.valid && is_unsure valid) (needs.ready && (is_one valid && is_unsure ready)) refl refl e)
+
+pub crossed-at : (wave : Wave) (needs : Needs) (time : ℕ) (beat : SampledBeat) → NeedsAre wave time needs → beat.time ≡ time
+    → IsSampledBeat wave beat → tells needs (values_before wave time) beat.channel ≡ true
+crossed-at wave needs time beat are now is =
+    subst (λ (n : ℕ). tells needs (values_before wave n) beat.channel ≡ true) now
+    (told-by wave needs beat (subst (λ (n : ℕ). NeedsAre wave n needs) (sym now) are) is.shows)
+
+pub beat-at : (wave : Wave) (needs : Needs) (time : ℕ) (beat : SampledBeat) → NeedsAre wave time needs
+    → beat.time ≡ time → has_edge (values_before wave time) (values_until wave time) wave.probes ≡ true
     → slice_get wave.probes.channels beat.place ≡ Some beat.channel
-    → crosses (values_before wave time) beat.channel ≡ true → is_whole wave.cut time ≡ true → IsSampledBeat wave beat
-beat-at wave time beat now edge looked crossed whole =
+    → tells needs (values_before wave time) beat.channel ≡ true → is_whole wave.cut time ≡ true
+    → IsSampledBeat wave beat
+beat-at wave needs time beat are now edge looked told whole =
     let outside = and_parts (rises (values_before wave time) (values_until wave time) wave.probes.clock)
     (not (is_active (values_before wave time) wave.probes.reset)) edge in
     let clock = and_parts (is_zero (bits_of (values_before wave time) wave.probes.clock))
     (is_one (bits_of (values_until wave time) wave.probes.clock)) outside.0 in
-    let both = and_parts (is_one (bits_of (values_before wave time) beat.channel.valid))
-    (is_one (bits_of (values_before wave time) beat.channel.ready)) crossed in
     record {
       looked = looked;
       low = subst (λ (n : ℕ). is_zero (bits_of (values_before wave n) wave.probes.clock) ≡ true) (sym now) clock.0;
       high = subst (λ (n : ℕ). is_one (bits_of (values_until wave n) wave.probes.clock) ≡ true) (sym now) clock.1;
       running = subst (λ (n : ℕ). is_active (values_before wave n) wave.probes.reset ≡ false) (sym now)
           (not-true (is_active (values_before wave time) wave.probes.reset) outside.1);
-      valid = subst (λ (n : ℕ). is_one (bits_of (values_before wave n) beat.channel.valid) ≡ true) (sym now) both.0;
-      ready = subst (λ (n : ℕ). is_one (bits_of (values_before wave n) beat.channel.ready) ≡ true) (sym now) both.1;
+      shows = shown-by wave needs beat (subst (λ (n : ℕ). NeedsAre wave n needs) (sym now) are)
+          (subst (λ (n : ℕ). tells needs (values_before wave n) beat.channel ≡ true) (sym now) told);
       whole = subst (λ (n : ℕ). is_whole wave.cut n ≡ true) (sym now) whole;
     }

@@ -1,14 +1,20 @@
 -- The rows of what happens in a dump are those of its beats.
-use Rattle.std.proofs.Common.{◌≡◌, ◌∙◌, ℕ, ◌<◌, ◌≤◌, ◌⊎◌, inl, inr, ◌==◌, Bool, true, false, cond, not, nat_le, List, [], ◌∷◌, ◌++◌, slice_get, Contains, Option, None, Some, ap, arith, append_assoc, refl, subst, sym}
-use Rattle.std.specs.Prelude.{⊤}
-use Rattle.std.proofs.lemmas.Bool.{both_ways, cases_lt, cond-false, cond-true, eq-eqb, le-leb, leb-true, ne_eqb, not-true}
+use Rattle.std.proofs.Common.{◌≡◌, ◌∙◌, ℕ, ◌<◌, ◌≤◌, ◌⊎◌, inl, inr, ◌==◌, ◌||◌, Bool, true, false, cond, not, nat_le, List, [], ◌∷◌, ◌++◌, slice_get, Contains, Option, None, Some, is_none, ap, arith, append_assoc, refl, subst, sym}
+use Rattle.std.specs.Prelude.{⊤, ◌↔◌}
+use Rattle.std.proofs.lemmas.Bool.{and_from, and_parts, both_ways, cases_lt, cond-false, cond-true, eq-eqb, le-leb, leb-true, ne_eqb, not-true}
 use Rattle.std.proofs.lemmas.List.Elements.{Contains-append_cases, Contains-append_left, Contains-append_right}
 use Rattle.check_vcd.specs.Body.{Happens, At, Sets, Wrong}
-use Rattle.check_samples.specs.Rows.{Probes, Rows, and_then, has_edge, no_rows, rises, rows_of}
-use Rattle.check_samples.specs.Sampling.{Sampling, at_time, edges_now, is_at, is_time, rows_from, rows_now, rows_when, with_value}
-use Rattle.check_wave_laws.specs.Sampled.{AreInOrder, AreSampled, SampledBeat, ValueChange, IsSampledBeat, NeverFalls, Precedes, Wave, changes_after, cut_after, is_before, is_until, is_whole, sampled_rows, values_after, values_before, values_until, wave_of}
+use Rattle.check_samples.specs.Digits.{bits_of}
+use Rattle.check_samples.specs.Edges.{edge_fault, needs_of, no_edges, with_edge}
+use Rattle.check_samples.specs.Left.{end_in, end_of_edges}
+use Rattle.check_samples.specs.Rows.{Probes, Rows, and_then, has_edge, is_active, is_one, is_zero, no_rows, rises, rows_of, some_crosses}
+use Rattle.check_samples.specs.Sampling.{Sampling, at_time, edges_now, edges_when, is_at, is_time, rows_from, rows_now, rows_when, with_value}
+use Rattle.check_samples.specs.declared.edges.Edges.{Edges}
+use Rattle.check_samples.specs.declared.edges.Needs.{Needs}
+use Rattle.check_samples.specs.declared.reset.Reset.{Reset}
+use Rattle.check_wave_laws.specs.Sampled.{AreInOrder, AreSampled, EdgesAre, EndsSampled, HasEdge, StandsBelow, IsSampledBeat, NeverFalls, Precedes, SampledBeat, ValueChange, WasReset, Wave, active_in, always, changes_after, crossed_in, cut_after, is_before, is_until, is_whole, masked_in, outside_in, sampled_rows, values_after, values_before, values_until, wave_of}
 use Rattle.check_wave_laws.proofs.Changes.{EachTime, IsFrom, IsLess, IsUpTo, before-past, before-until, changes-from, each-push, each-weaker, from-before, from-until, now-push, until-before, until-past, up-to-before, up-to-next, up-to-self, up-to-until, value-kept, values-none, whole-before}
-use Rattle.check_wave_laws.proofs.Edges.{beat-at, crossed-at, crossing, crossing-all, crossing-each, crossing-order, crossing-rows, Crosses, edge-at, no-beat, none-there, order-append, rows-append}
+use Rattle.check_wave_laws.proofs.Edges.{NeedsAre, beat-at, crossed-at, crossing, crossing-all, crossing-each, crossing-order, crossing-rows, Crosses, edge-at, no-beat, no-edge, none-there, or-right, order-append, rows-append}
 
 -- ---- the beats of some times
 
@@ -16,15 +22,11 @@ abbrev IsSince : Option ℕ → ℕ → Type 0
 IsSince None time = ⊤
 IsSince (Some from) time = from ≤ time
 
-abbrev IsBelow : Option ℕ → ℕ → Type 0
-IsBelow None time = ⊤
-IsBelow (Some below) time = time < below
-
 -- a beat at one of the times from one on, below another
 record IsWithin (wave : Wave) (from below : Option ℕ) (beat : SampledBeat) : Type 0 where
   is : IsSampledBeat wave beat
   since : IsSince from beat.time
-  before : IsBelow below beat.time
+  before : StandsBelow below beat.time
 
 -- the rows are those of these beats
 record HasBeats (wave : Wave) (from below : Option ℕ) (rows : Rows) : Type 0 where
@@ -95,11 +97,11 @@ record Ends (wave : Wave) (time next : Option ℕ) : Type 0 where
   later : List ValueChange
   changes : wave.changes ≡ past ++ later
   until : EachTime (IsUpTo time) past
-  gap : (early : ℕ) → IsBelow next early → EachTime (λ at. is_until early at ≡ false) later
-  whole : (early : ℕ) → IsBelow next early → is_whole wave.cut early ≡ true
+  gap : (early : ℕ) → StandsBelow next early → EachTime (λ at. is_until early at ≡ false) later
+  whole : (early : ℕ) → StandsBelow next early → is_whole wave.cut early ≡ true
 
 module _ (wave : Wave) (time next : Option ℕ) (ends : Ends wave time next) where
-  before-is : (at : ℕ) → IsLess time at → IsBelow next at → values_before wave at ≡ values_after wave ends.past
+  before-is : (at : ℕ) → IsLess time at → StandsBelow next at → values_before wave at ≡ values_after wave ends.past
   before-is at less below =
       before-past wave ends.past ends.later at ends.changes
       (each-weaker (IsUpTo time) (λ other. is_before at other ≡ true) ends.past
@@ -107,48 +109,187 @@ module _ (wave : Wave) (time next : Option ℕ) (ends : Ends wave time next) whe
       (each-weaker (λ other. is_until at other ≡ false) (λ other. is_before at other ≡ false) ends.later
       (λ other no. until-before at other no) (ends.gap at below))
 
-  until-is : (at : ℕ) → EachTime (λ other. is_until at other ≡ true) ends.past → IsBelow next at
+  until-is : (at : ℕ) → EachTime (λ other. is_until at other ≡ true) ends.past → StandsBelow next at
       → values_until wave at ≡ values_after wave ends.past
   until-is at up below = until-past wave ends.past ends.later at ends.changes up (ends.gap at below)
 
-  -- between the present time and the next one nothing crosses
-  quiet : (beat : SampledBeat) → IsLess time beat.time → IsBelow next beat.time → IsSampledBeat wave beat → ⊥
+  -- between the present time and the next one there is no edge
+  quiet-edge : (so : List (List ℕ) → Bool) (below : Option ℕ) (one : HasEdge wave so below) → IsLess time one.time
+      → StandsBelow next one.time → ⊥
+  quiet-edge so below one less bound =
+      no-edge wave (values_after wave ends.past) so below one (before-is one.time less bound)
+      (until-is one.time (each-weaker (IsUpTo time) (λ other. is_until one.time other ≡ true) ends.past
+      (λ other up. before-until one.time other (up-to-before time one.time other less up)) ends.until) bound)
+
+  -- and nothing crosses
+  quiet : (beat : SampledBeat) → IsLess time beat.time → StandsBelow next beat.time → IsSampledBeat wave beat → ⊥
   quiet beat less below is =
       no-beat wave (values_after wave ends.past) beat (before-is beat.time less below)
       (until-is beat.time (each-weaker (IsUpTo time) (λ other. is_until beat.time other ≡ true) ends.past
       (λ other up. before-until beat.time other (up-to-before time beat.time other less up)) ends.until) below) is
 
+-- ---- the edges of the present time
+
+below-less : (next : Option ℕ) (early time : ℕ) → early < time → StandsBelow next time → StandsBelow next early
+below-less None early time less below = tt
+below-less (Some next) early time less below = omega (arith, less, below)
+
+-- the clock rises at a time
+abbrev rises-at : Wave → ℕ → Bool
+rises-at wave time = rises (values_before wave time) (values_until wave time) wave.probes.clock
+
+rising : (wave : Wave) (so : List (List ℕ) → Bool) (below : Option ℕ) (one : HasEdge wave so below)
+    → rises-at wave one.time ≡ true
+rising wave so below one =
+    and_from (is_zero (bits_of (values_before wave one.time) wave.probes.clock))
+    (is_one (bits_of (values_until wave one.time) wave.probes.clock)) one.low one.high
+
 module _ (wave : Wave) (time : ℕ) (next : Option ℕ) (ends : Ends wave (Some time) next)
-    (below : IsBelow next time) where
+    (below : StandsBelow next time) (so : List (List ℕ) → Bool) where
+  widen : HasEdge wave so (Some time) → HasEdge wave so next
+  widen one = record {
+    time = one.time;
+    before = below-less next one.time time one.before below;
+    low = one.low;
+    high = one.high;
+    was = one.was;
+  }
+
+  here-is : rises-at wave time ≡ true → so (values_before wave time) ≡ true → HasEdge wave so next
+  here-is up was =
+      let clock = and_parts (is_zero (bits_of (values_before wave time) wave.probes.clock))
+      (is_one (bits_of (values_until wave time) wave.probes.clock)) up in
+      record { time = time; before = below; low = clock.0; high = clock.1; was = was }
+
+  -- an edge below the next time is below the present one or at it
+  where-is : (P : Type 0) → (HasEdge wave so (Some time) → P)
+      → (rises-at wave time ≡ true → so (values_before wave time) ≡ true → P) → HasEdge wave so next → P
+  where-is P early now one = go (cases_lt one.time time) (cases_lt time one.time)
+    where
+      go : (one.time < time) ⊎ (time ≤ one.time) → (time < one.time) ⊎ (one.time ≤ time) → P
+      go (inl less) later =
+          early (record { time = one.time; before = less; low = one.low; high = one.high; was = one.was })
+      go (inr from) (inl later) = absurd (quiet-edge wave (Some time) next ends so next one later one.before)
+      go (inr from) (inr to) =
+          let same : one.time ≡ time = omega (arith, from, to) in
+          now (subst (λ (n : ℕ). rises-at wave n ≡ true) same (rising wave so next one))
+          (subst (λ (n : ℕ). so (values_before wave n) ≡ true) same one.was)
+
+  -- whether there was one, if the clock rises at the present time
+  flag-up : (flag : Bool) → rises-at wave time ≡ true → (flag ≡ true) ↔ HasEdge wave so (Some time)
+      → ((flag || so (values_before wave time)) ≡ true) ↔ HasEdge wave so next
+  flag-up flag up know = (λ e. to flag (so (values_before wave time)) refl refl e, λ one. back one)
+    where
+      to : (f w : Bool) → flag ≡ f → so (values_before wave time) ≡ w → (f || w) ≡ true → HasEdge wave so next
+      to true w is was e = widen (know.0 is)
+      to false true is was e = here-is up was
+      to false false is was e = absurd (cc)
+
+      back : HasEdge wave so next → (flag || so (values_before wave time)) ≡ true
+      back one =
+          where-is ((flag || so (values_before wave time)) ≡ true)
+          (λ early. ap (λ (f : Bool). f || so (values_before wave time)) (know.1 early))
+          (λ rise was. or-right flag (so (values_before wave time)) was) one
+
+  -- and if it does not
+  flag-same : (flag : Bool) → rises-at wave time ≡ false → (flag ≡ true) ↔ HasEdge wave so (Some time)
+      → (flag ≡ true) ↔ HasEdge wave so next
+  flag-same flag still know = (
+    λ e. widen (know.0 e),
+    λ one. where-is (flag ≡ true) know.1 (λ rise was. absurd (both_ways (rises-at wave time) still rise)) one,
+  )
+
+-- no edge is below the first time
+module _ (wave : Wave) (next : Option ℕ) (ends : Ends wave None next) where
+  flag-none : (so : List (List ℕ) → Bool) → (false ≡ true) ↔ HasEdge wave so next
+  flag-none so = (
+    λ e. absurd (both_ways false refl e),
+    λ one. absurd (quiet-edge wave None next ends so next one tt one.before),
+  )
+
+  edges-none : EdgesAre wave next no_edges
+  edges-none = record {
+    any = flag-none always;
+    outside = flag-none (outside_in wave);
+    in_reset = flag-none (active_in wave);
+    crossed = flag-none (crossed_in wave);
+    masked = flag-none (masked_in wave);
+  }
+
+module _ (wave : Wave) (time : ℕ) (next : Option ℕ) (ends : Ends wave (Some time) next)
+    (below : StandsBelow next time) (edges : Edges) (so_far : EdgesAre wave (Some time) edges) where
+  edges-more : (t : Bool) → rises-at wave time ≡ t
+      → EdgesAre wave next (cond t (with_edge edges (active_in wave (values_before wave time))
+      (some_crosses (values_before wave time) wave.probes.channels)) edges)
+  edges-more true up = record {
+    any = (λ e. here-is wave time next ends below always up refl, λ one. refl);
+    outside = flag-up wave time next ends below (outside_in wave) edges.outside up so_far.outside;
+    in_reset = flag-up wave time next ends below (active_in wave) edges.in_reset up so_far.in_reset;
+    crossed = flag-up wave time next ends below (crossed_in wave) edges.crossed up so_far.crossed;
+    masked = flag-up wave time next ends below (masked_in wave) edges.masked up so_far.masked;
+  }
+  edges-more false still = record {
+    any = flag-same wave time next ends below always edges.any still so_far.any;
+    outside = flag-same wave time next ends below (outside_in wave) edges.outside still so_far.outside;
+    in_reset = flag-same wave time next ends below (active_in wave) edges.in_reset still so_far.in_reset;
+    crossed = flag-same wave time next ends below (crossed_in wave) edges.crossed still so_far.crossed;
+    masked = flag-same wave time next ends below (masked_in wave) edges.masked still so_far.masked;
+  }
+
+-- what has to be known at a time follows from the edges below it
+needs-are : (wave : Wave) (time : ℕ) (edges : Edges) → EdgesAre wave (Some time) edges
+    → NeedsAre wave time (needs_of wave.probes.reset edges)
+needs-are wave time edges are = record {
+  valid = are.in_reset.0;
+  has_valid = are.in_reset.1;
+  ready = λ e. to wave.probes.reset refl e;
+  has_ready = λ why. back wave.probes.reset refl why;
+}
+  where
+    to : (reset : Option Reset) → wave.probes.reset ≡ reset → (is_none reset || edges.in_reset) ≡ true
+        → (wave.probes.reset ≡ None) ⊎ WasReset wave time
+    to None is e = inl is
+    to (Some reset) is e = inr (are.in_reset.0 e)
+
+    back : (reset : Option Reset) → wave.probes.reset ≡ reset → (wave.probes.reset ≡ None) ⊎ WasReset wave time
+        → (is_none reset || edges.in_reset) ≡ true
+    back None is why = refl
+    back (Some reset) is (inl none) = absurd (cc)
+    back (Some reset) is (inr was) = are.in_reset.1 was
+
+-- ---- the beats of the present time
+
+module _ (wave : Wave) (time : ℕ) (next : Option ℕ) (ends : Ends wave (Some time) next)
+    (below : StandsBelow next time) (needs : Needs) (are : NeedsAre wave time needs) where
   edge-beats : has_edge (values_before wave time) (values_until wave time) wave.probes ≡ true
-      → HasBeats wave (Some time) next (rows_of time (values_before wave time) wave.probes.channels)
+      → HasBeats wave (Some time) next (rows_of needs time (values_before wave time) wave.probes.channels)
   edge-beats edge = record {
-    beats = crossing wave time 0 wave.probes.channels;
-    each = λ beat has. each-one beat (crossing-each wave time 0 wave.probes.channels beat has);
+    beats = crossing wave needs time 0 wave.probes.channels;
+    each = λ beat has. each-one beat (crossing-each wave needs time 0 wave.probes.channels beat has);
     all = λ beat within. all-of beat within (cases_lt time beat.time);
-    order = crossing-order wave time 0 wave.probes.channels;
-    are = crossing-rows wave time 0 wave.probes.channels;
+    order = crossing-order wave needs time 0 wave.probes.channels;
+    are = crossing-rows wave needs time 0 wave.probes.channels;
   }
     where
-      each-one : (beat : SampledBeat) → Crosses wave time 0 wave.probes.channels beat
+      each-one : (beat : SampledBeat) → Crosses wave needs time 0 wave.probes.channels beat
           → IsWithin wave (Some time) next beat
       each-one beat one =
           let place : one.index ≡ beat.place = omega (arith, one.spot) in
           let looked : slice_get wave.probes.channels beat.place ≡ Some beat.channel =
           subst (λ (n : ℕ). slice_get wave.probes.channels n ≡ Some beat.channel) place one.is in
           record {
-            is = beat-at wave time beat one.now edge looked one.crossed (ends.whole time below);
+            is = beat-at wave needs time beat are one.now edge looked one.crossed (ends.whole time below);
             since = omega (arith, one.now);
-            before = subst (λ (n : ℕ). IsBelow next n) (sym one.now) below;
+            before = subst (λ (n : ℕ). StandsBelow next n) (sym one.now) below;
           }
 
       all-of : (beat : SampledBeat) → IsWithin wave (Some time) next beat → (time < beat.time) ⊎ (beat.time ≤ time)
-          → Contains (crossing wave time 0 wave.probes.channels) beat
+          → Contains (crossing wave needs time 0 wave.probes.channels) beat
       all-of beat within (inl later) = absurd (quiet wave (Some time) next ends beat later within.before within.is)
       all-of beat within (inr order) =
           let now : beat.time ≡ time = omega (arith, order, within.since) in
-          crossing-all wave time 0 wave.probes.channels beat beat.place now (omega arith) within.is.looked
-          (crossed-at wave time beat now within.is)
+          crossing-all wave needs time 0 wave.probes.channels beat beat.place now (omega arith) within.is.looked
+          (crossed-at wave needs time beat are now within.is)
 
   edgeless : has_edge (values_before wave time) (values_until wave time) wave.probes ≡ false
       → (beat : SampledBeat) → IsWithin wave (Some time) next beat → (time < beat.time) ⊎ (beat.time ≤ time) → ⊥
@@ -160,15 +301,20 @@ module _ (wave : Wave) (time : ℕ) (next : Option ℕ) (ends : Ends wave (Some 
 
   time-beats : HasBeats wave (Some time) next
       (cond (has_edge (values_before wave time) (values_until wave time) wave.probes)
-      (rows_of time (values_before wave time) wave.probes.channels) no_rows)
+      (rows_of needs time (values_before wave time) wave.probes.channels) no_rows)
   time-beats = go (has_edge (values_before wave time) (values_until wave time) wave.probes) refl
     where
       go : (t : Bool) → has_edge (values_before wave time) (values_until wave time) wave.probes ≡ t
           → HasBeats wave (Some time) next
-          (cond t (rows_of time (values_before wave time) wave.probes.channels) no_rows)
+          (cond t (rows_of needs time (values_before wave time) wave.probes.channels) no_rows)
       go true edge = edge-beats edge
       go false none =
           no-beats wave (Some time) next (λ beat within. edgeless none beat within (cases_lt time beat.time))
+
+-- the edges below the present time, if it is known
+abbrev pub EdgesSoFar : Wave → Option ℕ → Edges → Type 0
+EdgesSoFar wave None edges = edges ≡ no_edges
+EdgesSoFar wave (Some time) edges = EdgesAre wave (Some time) edges
 
 -- a sampler at the end of the present time
 record IsSampler (wave : Wave) (time : Option ℕ) (past : List ValueChange) (s : Sampling) : Type 0 where
@@ -177,33 +323,73 @@ record IsSampler (wave : Wave) (time : Option ℕ) (past : List ValueChange) (s 
   widths : s.widths ≡ wave.widths
   now : s.now ≡ values_after wave past
   before : BeforeIs wave time s.before
+  edges : EdgesSoFar wave time s.edges
 
 abbrev NowIsBelow : Option ℕ → Option ℕ → Type 0
 NowIsBelow None next = ⊤
-NowIsBelow (Some time) next = IsBelow next time
+NowIsBelow (Some time) next = StandsBelow next time
 
 rows-at : (wave : Wave) (time : ℕ) (past : List ValueChange) (s : Sampling) → IsSampler wave (Some time) past s
     → values_until wave time ≡ values_after wave past
     → rows_when (Some time) s
     ≡ cond (has_edge (values_before wave time) (values_until wave time) wave.probes)
-    (rows_of time (values_before wave time) wave.probes.channels) no_rows
+    (rows_of (needs_of wave.probes.reset s.edges) time (values_before wave time) wave.probes.channels) no_rows
 rows-at wave time past s is until =
-    ap (λ (p : Probes). cond (has_edge s.before s.now p) (rows_of time s.before p.channels) no_rows) is.probes
-    ∙ ap (λ (vs : List (List ℕ)). cond (has_edge vs s.now wave.probes) (rows_of time vs wave.probes.channels) no_rows)
-    is.before
+    ap (λ (p : Probes). cond (has_edge s.before s.now p) (rows_of (needs_of p.reset s.edges) time s.before p.channels) no_rows)
+    is.probes
+    ∙ ap (λ (vs : List (List ℕ)). cond (has_edge vs s.now wave.probes)
+    (rows_of (needs_of wave.probes.reset s.edges) time vs wave.probes.channels) no_rows) is.before
     ∙ ap (λ (vs : List (List ℕ)). cond (has_edge (values_before wave time) vs wave.probes)
-    (rows_of time (values_before wave time) wave.probes.channels) no_rows) (is.now ∙ sym until)
+    (rows_of (needs_of wave.probes.reset s.edges) time (values_before wave time) wave.probes.channels) no_rows)
+    (is.now ∙ sym until)
+
+-- the edges below the next time
+edges-at : (wave : Wave) (time : ℕ) (next : Option ℕ) (ends : Ends wave (Some time) next) (s : Sampling)
+    → IsSampler wave (Some time) ends.past s → StandsBelow next time → values_until wave time ≡ values_after wave ends.past
+    → EdgesAre wave next (edges_when (Some time) s)
+edges-at wave time next ends s is below until =
+    subst (λ (e : Edges). EdgesAre wave next e) (sym same)
+    (edges-more wave time next ends below s.edges is.edges (rises-at wave time) refl)
+  where
+    same : edges_when (Some time) s
+        ≡ cond (rises-at wave time) (with_edge s.edges (active_in wave (values_before wave time))
+        (some_crosses (values_before wave time) wave.probes.channels)) s.edges
+    same =
+        ap (λ (p : Probes). cond (rises s.before s.now p.clock)
+        (with_edge s.edges (is_active s.before p.reset) (some_crosses s.before p.channels)) s.edges) is.probes
+        ∙ ap (λ (vs : List (List ℕ)). cond (rises vs s.now wave.probes.clock)
+        (with_edge s.edges (is_active vs wave.probes.reset) (some_crosses vs wave.probes.channels)) s.edges) is.before
+        ∙ ap (λ (vs : List (List ℕ)). cond (rises (values_before wave time) vs wave.probes.clock)
+        (with_edge s.edges (active_in wave (values_before wave time))
+        (some_crosses (values_before wave time) wave.probes.channels)) s.edges) (is.now ∙ sym until)
+
+until-now : (wave : Wave) (time : ℕ) (next : Option ℕ) (ends : Ends wave (Some time) next) → StandsBelow next time
+    → values_until wave time ≡ values_after wave ends.past
+until-now wave time next ends below =
+    until-is wave (Some time) next ends time
+    (each-weaker (IsUpTo (Some time)) (λ at. is_until time at ≡ true) ends.past (λ at. up-to-until time at) ends.until) below
+
+edges-when : (wave : Wave) (time next : Option ℕ) (ends : Ends wave time next) (s : Sampling)
+    → IsSampler wave time ends.past s → NowIsBelow time next → EdgesAre wave next (edges_when time s)
+edges-when wave None next ends s is below =
+    subst (λ (e : Edges). EdgesAre wave next e) (sym is.edges) (edges-none wave next ends)
+edges-when wave (Some time) next ends s is below =
+    edges-at wave time next ends s is below (until-now wave time next ends below)
+
+edges-next : (wave : Wave) (time next : Option ℕ) (ends : Ends wave time next) (s : Sampling)
+    → IsSampler wave time ends.past s → NowIsBelow time next → EdgesAre wave next (edges_now s)
+edges-next wave time next ends s is below =
+    subst (λ (at : Option ℕ). EdgesAre wave next (edges_when at s)) (sym is.present)
+    (edges-when wave time next ends s is below)
 
 ended-at : (wave : Wave) (time next : Option ℕ) (ends : Ends wave time next) (s : Sampling)
     → IsSampler wave time ends.past s → NowIsBelow time next → HasBeats wave time next (rows_when time s)
 ended-at wave None next ends s is below =
     no-beats wave None next (λ beat within. quiet wave None next ends beat tt within.before within.is)
 ended-at wave (Some time) next ends s is below =
-    let up : EachTime (λ at. is_until time at ≡ true) ends.past =
-    each-weaker (IsUpTo (Some time)) (λ at. is_until time at ≡ true) ends.past (λ at. up-to-until time at) ends.until in
     subst (λ (r : Rows). HasBeats wave (Some time) next r)
-    (sym (rows-at wave time ends.past s is (until-is wave (Some time) next ends time up below)))
-    (time-beats wave time next ends below)
+    (sym (rows-at wave time ends.past s is (until-now wave time next ends below)))
+    (time-beats wave time next ends below (needs_of wave.probes.reset s.edges) (needs-are wave time s.edges is.edges))
 
 ended : (wave : Wave) (time next : Option ℕ) (ends : Ends wave time next) (s : Sampling)
     → IsSampler wave time ends.past s → NowIsBelow time next → HasBeats wave time next (rows_now s)
@@ -231,16 +417,19 @@ now-below None next less = tt
 now-below (Some time) next less = less
 
 -- nothing is left to happen
+last-ends : (wave : Wave) (time : Option ℕ) (s : Sampling) → Runs wave time [] s → Ends wave time None
+last-ends wave time s runs = record {
+  past = runs.past;
+  later = [];
+  changes = runs.changes;
+  until = runs.until;
+  gap = λ early below. tt;
+  whole = λ early below. ap (λ (cut : Option (Option ℕ)). is_whole cut early) runs.cut;
+}
+
 runs-out : (wave : Wave) (time : Option ℕ) (s : Sampling) → Runs wave time [] s → HasBeats wave time None (rows_now s)
-runs-out wave time s runs =
-    ended wave time None (record {
-      past = runs.past;
-      later = [];
-      changes = runs.changes;
-      until = runs.until;
-      gap = λ early below. tt;
-      whole = λ early below. ap (λ (cut : Option (Option ℕ)). is_whole cut early) runs.cut;
-    }) s runs.sampler (now-below-none time)
+unfolding last-ends
+runs-out wave time s runs = ended wave time None (last-ends wave time s runs) s runs.sampler (now-below-none time)
 
 -- a line is wrong
 runs-cut : (wave : Wave) (time : Option ℕ) → wave.cut ≡ Some time → HasBeats wave time None no_rows
@@ -271,6 +460,10 @@ module _ (wave : Wave) (time : Option ℕ) (next : ℕ) (happens : List Happens)
         ∙ whole-before next happens early runs.rises.1 below;
   }
 
+  later-edges : EdgesAre wave (Some next) (edges_now s)
+  unfolding later-ends
+  later-edges = edges-next wave time (Some next) later-ends s runs.sampler (now-below time next less)
+
   later-runs : Runs wave (Some next) happens (record s { before = s.now; time = Some next; edges = edges_now s })
   later-runs = record {
     past = runs.past;
@@ -284,6 +477,7 @@ module _ (wave : Wave) (time : Option ℕ) (next : ℕ) (happens : List Happens)
           (λ at up. up-to-before time next at less up) runs.until)
           (each-weaker (IsFrom next) (λ at. is_before next at ≡ false) (changes_after (Some next) happens)
           (λ at from. from-before next at from) (changes-from next happens runs.rises.1)));
+      edges = later-edges;
     };
     changes = runs.changes;
     cut = runs.cut;
@@ -323,6 +517,7 @@ value-runs wave time slot digits happens s runs =
         widths = kept.widths ∙ runs.sampler.widths;
         now = now-push wave runs.past s change runs.sampler.now runs.sampler.widths;
         before = value-before wave time s.before (with_value s slot digits).before kept.earlier runs.sampler.before;
+        edges = subst (λ (e : Edges). EdgesSoFar wave time e) (sym kept.edges) runs.sampler.edges;
       };
       changes = runs.changes ∙ sym (append_assoc runs.past (change ∷ []) (changes_after time happens));
       cut = runs.cut;
@@ -391,19 +586,33 @@ from-beats wave (Sets slot digits ∷ happens) time s runs =
     from-beats wave happens time (with_value s slot digits) (value-runs wave time slot digits happens s runs)
 from-beats wave (Wrong line mistake ∷ happens) time s runs = runs-cut wave time runs.cut
 
--- the rows of a whole dump, by a sampler that has taken nothing
-pub sampled : (happens : List Happens) (s : Sampling) → s.time ≡ None → NeverFalls None happens
-    → AreSampled (wave_of s.probes s.now s.widths happens) (rows_from happens s)
-sampled happens s none rises =
+-- before anything has happened
+first-runs : (happens : List Happens) (s : Sampling) → s.time ≡ None → s.edges ≡ no_edges → NeverFalls None happens
+    → Runs (wave_of s.probes s.now s.widths happens) None happens s
+first-runs happens s none edgeless rises =
     let wave = wave_of s.probes s.now s.widths happens in
-    let has = from-beats wave happens None s (record {
+    record {
       past = [];
-      sampler = record { present = none; probes = refl; widths = refl; now = values-none wave; before = tt };
+      sampler = record {
+        present = none;
+        probes = refl;
+        widths = refl;
+        now = values-none wave;
+        before = tt;
+        edges = edgeless;
+      };
       changes = refl;
       cut = refl;
       until = tt;
       rises = rises;
-    }) in
+    }
+
+-- the rows of a whole dump, by a sampler that has taken nothing
+pub sampled : (happens : List Happens) (s : Sampling) → s.time ≡ None → s.edges ≡ no_edges → NeverFalls None happens
+    → AreSampled (wave_of s.probes s.now s.widths happens) (rows_from happens s)
+sampled happens s none edgeless rises =
+    let wave = wave_of s.probes s.now s.widths happens in
+    let has = from-beats wave happens None s (first-runs happens s none edgeless rises) in
     record {
       beats = has.beats;
       each = λ beat. (
@@ -413,3 +622,61 @@ sampled happens s none rises =
       order = has.order;
       are = has.are;
     }
+
+-- ---- how a whole dump ends
+
+at-same : (s : Sampling) (next : ℕ) → is_at s next ≡ true → at_time s next ≡ s
+at-same s next same = cond-true (is_at s next) s (record s { before = s.now; time = Some next; edges = edges_now s }) same
+
+at-later : (s : Sampling) (next : ℕ) → is_at s next ≡ false
+    → at_time s next ≡ record s { before = s.now; time = Some next; edges = edges_now s }
+at-later s next other =
+    cond-false (is_at s next) s (record s { before = s.now; time = Some next; edges = edges_now s }) other
+
+abbrev Concludes : Wave → List Happens → Type 0
+Concludes wave happens = (time : Option ℕ) (s : Sampling) → Runs wave time happens s
+    → EndsSampled wave (end_in happens s)
+
+time-ends : (wave : Wave) (time : Option ℕ) (next : ℕ) (happens : List Happens) (s : Sampling)
+    → Runs wave time (At next ∷ happens) s → Concludes wave happens → EndsSampled wave (end_in happens (at_time s next))
+time-ends wave None next happens s runs more =
+    subst (λ (new : Sampling). EndsSampled wave (end_in happens new))
+    (sym (at-later s next (ap (λ (at : Option ℕ). is_time at next) runs.sampler.present)))
+    (more (Some next) (record s { before = s.now; time = Some next; edges = edges_now s })
+    (later-runs wave None next happens s runs tt))
+time-ends wave (Some time) next happens s runs more = go (cases_lt time next)
+  where
+    test : is_at s next ≡ (time == next)
+    test = ap (λ (now : Option ℕ). is_time now next) runs.sampler.present
+
+    go : (time < next) ⊎ (next ≤ time) → EndsSampled wave (end_in happens (at_time s next))
+    go (inl less) =
+        subst (λ (new : Sampling). EndsSampled wave (end_in happens new))
+        (sym (at-later s next (test ∙ ne_eqb time next (λ same. omega (arith, less, same)))))
+        (more (Some next) (record s { before = s.now; time = Some next; edges = edges_now s })
+        (later-runs wave (Some time) next happens s runs less))
+    go (inr order) =
+        let same : next ≡ time = omega (arith, order, leb-true time next runs.rises.0) in
+        subst (λ (new : Sampling). EndsSampled wave (end_in happens new))
+        (sym (at-same s next (test ∙ eq-eqb time next (sym same))))
+        (more (Some time) s (same-runs wave time next happens s runs same))
+
+from-ends : (wave : Wave) (happens : List Happens) → wave.cut ≡ None → Concludes wave happens
+unfolding end_in last-ends
+from-ends wave [] whole time s runs = record {
+  edges = edges_now s;
+  are = edges-next wave time None (last-ends wave time s runs) s runs.sampler (now-below-none time);
+  is = ap (λ (p : Probes). end_of_edges (edge_fault p.reset (edges_now s))) runs.sampler.probes;
+}
+from-ends wave (At next ∷ happens) whole time s runs =
+    time-ends wave time next happens s runs (from-ends wave happens whole)
+from-ends wave (Sets slot digits ∷ happens) whole time s runs =
+    from-ends wave happens whole time (with_value s slot digits) (value-runs wave time slot digits happens s runs)
+from-ends wave (Wrong line mistake ∷ happens) whole time s runs =
+    let both : ◌≡◌ {A = Option (Option ℕ)} None (Some time) = sym whole ∙ runs.cut in absurd (cc)
+
+pub ends-sampled : (happens : List Happens) (s : Sampling) → s.time ≡ None → s.edges ≡ no_edges
+    → NeverFalls None happens → cut_after None happens ≡ None
+    → EndsSampled (wave_of s.probes s.now s.widths happens) (end_in happens s)
+ends-sampled happens s none edgeless rises whole =
+    from-ends (wave_of s.probes s.now s.widths happens) happens whole None s (first-runs happens s none edgeless rises)

@@ -14,12 +14,14 @@ use Rattle.check_vcd.specs.declared.codes.Coded.{Coded}
 use Rattle.check_vcd.specs.declared.fault.Mistake.TheVariants.{BadValue, TimeFalls, TooWide}
 use Rattle.check_vcd.specs.declared.token.TokenKind.{TokenKind}
 use Rattle.check_vcd.specs.declared.token.TokenKind.TheVariants as kind
+use Rattle.check_samples.specs.Edges.{no_edges}
+use Rattle.check_samples.specs.Left.{end_in}
 use Rattle.check_samples.specs.Rows.{Rows}
 use Rattle.check_samples.specs.Sampling.{Sampling, rows_from}
 use Rattle.check_signals.specs.Found.{Found, digits_in, find_of, sampling_of, width_in}
-use Rattle.check_wave_laws.specs.Sampled.{AreInOrder, AreSampled, SampledBeat, NeverFalls, Precedes, Wave, is_until, sampled_rows, wave_of}
+use Rattle.check_wave_laws.specs.Sampled.{AreInOrder, AreSampled, EndsSampled, SampledBeat, NeverFalls, Precedes, Wave, cut_after, is_until, sampled_rows, wave_of}
 use Rattle.check_wave_laws.proofs.Edges.{here, here-or-there, none-there, there}
-use Rattle.check_wave_laws.proofs.Sampled.{sampled}
+use Rattle.check_wave_laws.proofs.Sampled.{ends-sampled, sampled}
 
 -- ---- times
 
@@ -118,16 +120,27 @@ module _ (find : Find) where
       followed-rises body.time (step_of find body word.size word.bytes) word.line (happenings find words)
       (word-rises body.place body word.size word.bytes) (λ next. never-falls words next)
 
-pub dump-sampled : (find : Find) (words : List Word) (s : Sampling) → s.time ≡ None
+pub dump-sampled : (find : Find) (words : List Word) (s : Sampling) → s.time ≡ None → s.edges ≡ no_edges
     → AreSampled (wave_of s.probes s.now s.widths (happenings find words start))
     (rows_from (happenings find words start) s)
-dump-sampled find words s none = sampled (happenings find words start) s none (never-falls find words start)
+dump-sampled find words s none edgeless =
+    sampled (happenings find words start) s none edgeless (never-falls find words start)
 
 pub system-sampled : (vars : List Var) (words : List Word) (found : Found)
     → AreSampled (wave_of found.probes (map digits_in found.kept) (map width_in found.kept)
     (happenings (find_of vars found) words start))
     (rows_from (happenings (find_of vars found) words start) (sampling_of found))
-system-sampled vars words found = dump-sampled (find_of vars found) words (sampling_of found) refl
+system-sampled vars words found = dump-sampled (find_of vars found) words (sampling_of found) refl refl
+
+-- how whole dumps end
+pub system-ends : (vars : List Var) (words : List Word) (found : Found)
+    → cut_after None (happenings (find_of vars found) words start) ≡ None
+    → EndsSampled (wave_of found.probes (map digits_in found.kept) (map width_in found.kept)
+    (happenings (find_of vars found) words start))
+    (end_in (happenings (find_of vars found) words start) (sampling_of found))
+system-ends vars words found whole =
+    ends-sampled (happenings (find_of vars found) words start) (sampling_of found) refl refl
+    (never-falls (find_of vars found) words start) whole
 
 -- ---- no other rows
 

@@ -8,12 +8,14 @@ use Rattle.check_beats.specs.declared.bus.Bus.{Bus}
 use Rattle.check_rows.specs.Buses.{bus_of_link}
 use Rattle.check_rows.specs.Row.{SeenRow}
 use Rattle.check_samples.specs.Digits.{bits_of, extended, fill_of, part_if_any, part_of, set_extended}
-use Rattle.check_samples.specs.Rows.{Probes, Rows, and_then, crosses, followed_by, has_edge, no_rows, row_alone, row_at, rows_at, rows_of}
+use Rattle.check_samples.specs.Edges.{needs_of}
+use Rattle.check_samples.specs.Rows.{Probes, Rows, and_then, crosses, followed_by, hand_alone, has_edge, no_rows, row_alone, row_at, rows_at, rows_of, unknown_hand}
 use Rattle.check_samples.specs.Sampling.{Sampling, at_time, edges_now, is_at, rows_from, rows_now, rows_when, with_value}
 use Rattle.check_samples.specs.declared.channel.BeatTaps.{BeatTaps}
 use Rattle.check_samples.specs.declared.channel.BeatTaps.TheVariants.{A, D}
 use Rattle.check_samples.specs.declared.channel.Channel.{Channel}
 use Rattle.check_samples.specs.declared.channel.UnknownBit.{UnknownBit}
+use Rattle.check_samples.specs.declared.edges.Needs.{Needs}
 use Rattle.check_samples.specs.declared.signal.Signal.{Signal}
 use Rattle.check_samples.specs.declared.tap.Tap.{Tap}
 use Rattle.check_wave_laws.specs.Seen.{BeatFits, row_of_channel}
@@ -132,7 +134,7 @@ module _ (masters ports : List Bus) (channels : List Channel) where
 module _ (masters ports : List Bus) (channels : List Channel) (widths : List ℕ) (few_masters : length masters < 2 ^ 64)
     (few_ports : length ports < 2 ^ 64)
     (fit : (which : Channel) → Contains channels which → ChannelFits masters ports widths which) (time : ℕ)
-    (in_time : time < 2 ^ 64) (values : List (List ℕ)) (has : map length values ≡ widths) where
+    (in_time : time < 2 ^ 64) (values : List (List ℕ)) (has : map length values ≡ widths) (needs : Needs) where
   readable-row : (which : Channel) (text : List ℕ) → Contains channels which → crosses values which ≡ true
       → row_at time values which ≡ Ok text → Readable masters ports channels text
   readable-row which text one crossed is = λ line.
@@ -157,7 +159,7 @@ module _ (masters ports : List Bus) (channels : List Channel) (widths : List ℕ
       }
 
   readable-at : (which : Channel) → Contains channels which
-      → Readable masters ports channels (rows_at time values which).text
+      → Readable masters ports channels (rows_at needs time values which).text
   readable-at which one = go (crosses values which) refl
     where
       alone : (r : Result (List ℕ) Signal) → row_at time values which ≡ r → crosses values which ≡ true
@@ -165,16 +167,21 @@ module _ (masters ports : List Bus) (channels : List Channel) (widths : List ℕ
       alone (Ok text) is crossed = readable-row which text one crossed is
       alone (Err signal) is crossed = readable-none masters ports channels
 
+      hand : (unknown : Option Signal) → Readable masters ports channels (hand_alone time which unknown).text
+      hand None = readable-none masters ports channels
+      hand (Some signal) = readable-none masters ports channels
+
       go : (t : Bool) → crosses values which ≡ t
-          → Readable masters ports channels (cond t (row_alone time which (row_at time values which)) no_rows).text
+          → Readable masters ports channels (cond t (row_alone time which (row_at time values which))
+          (hand_alone time which (unknown_hand needs values which))).text
       go true crossed = alone (row_at time values which) refl crossed
-      go false crossed = readable-none masters ports channels
+      go false crossed = hand (unknown_hand needs values which)
 
   pub readable-of : (some : List Channel) → ((which : Channel) → Contains some which → Contains channels which)
-      → Readable masters ports channels (rows_of time values some).text
+      → Readable masters ports channels (rows_of needs time values some).text
   readable-of [] within = readable-none masters ports channels
   readable-of (which ∷ some) within =
-      readable-and masters ports channels (rows_at time values which) (rows_of time values some)
+      readable-and masters ports channels (rows_at needs time values which) (rows_of needs time values some)
       (readable-at which (within which (0, omega arith, refl)))
       (readable-of some (λ other has_it. within other (suc has_it.0, omega (arith, has_it.1), has_it.2)))
 
@@ -240,10 +247,11 @@ module _ (masters ports : List Bus) (few_masters : length masters < 2 ^ 64) (few
   readable-now s fits = go s.time fits.time
     where
       edge : (time : ℕ) → time < 2 ^ 64 → (t : Bool)
-          → Readable masters ports s.probes.channels (cond t (rows_of time s.before s.probes.channels) no_rows).text
+          → Readable masters ports s.probes.channels
+          (cond t (rows_of (needs_of s.probes.reset s.edges) time s.before s.probes.channels) no_rows).text
       edge time below true =
           readable-of masters ports s.probes.channels s.widths few_masters few_ports fits.channels time below s.before
-          fits.before s.probes.channels (λ which one. one)
+          fits.before (needs_of s.probes.reset s.edges) s.probes.channels (λ which one. one)
       edge time below false = readable-none masters ports s.probes.channels
 
       go : (at : Option ℕ) → IfSome at (λ time. time < 2 ^ 64)

@@ -1,11 +1,15 @@
 -- What sampling means, said of the changes of a dump alone: which beats there are, and what their rows show. It is this
 -- project's own. A row has the values before the edge, since these are what a register takes at it.
-use Rattle.std.specs.Prelude.{◌≡◌, ◌⊎◌, ◌↔◌, ℕ, ◌<◌, ◌==◌, Bool, true, false, not, nat_le, nat_lt, ⊤, List, [], ◌∷◌, length, get_or, map, filter, slice_get, Option, None, Some, Contains}
+use Rattle.std.specs.Prelude.{◌≡◌, ◌⊎◌, ◌↔◌, ℕ, ◌<◌, ◌==◌, Bool, true, false, ◌&&◌, not, nat_le, nat_lt, ⊤, List, [], ◌∷◌, length, get_or, map, filter, slice_get, Option, None, Some, Contains, if◌then◌else◌}
 use Rattle.std.specs.List.{last_or, range_with_len}
 use Rattle.check_vcd.specs.Body.{Happens, At, Sets, Wrong}
 use Rattle.check_samples.specs.Digits.{bits_of, extended}
-use Rattle.check_samples.specs.Rows.{Probes, Rows, and_then, is_active, is_one, is_zero, no_rows, row_alone, row_at}
+use Rattle.check_samples.specs.Edges.{edge_fault}
+use Rattle.check_samples.specs.Left.{End, end_of_edges}
+use Rattle.check_samples.specs.Rows.{Probes, Rows, and_then, crosses, hand_alone, is_active, is_one, is_unsure, is_zero, no_rows, ready_of, row_alone, row_at, some_crosses, valid_of}
 use Rattle.check_samples.specs.declared.channel.Channel.{Channel}
+use Rattle.check_samples.specs.declared.edges.Edges.{Edges}
+use Rattle.check_samples.specs.declared.signal.Signal.{Signal}
 
 -- ---- the changes of a dump
 
@@ -98,26 +102,94 @@ abbrev pub is_whole : Option (Option ℕ) → ℕ → Bool
 is_whole None time = true
 is_whole (Some cut) time = not (is_until time cut)
 
+-- below this time, or any time if there is none
+abbrev pub StandsBelow : Option ℕ → ℕ → Type 0
+StandsBelow None time = ⊤
+StandsBelow (Some below) time = time < below
+
+-- an edge below a time: the clock was 0 before and is 1 at its end, and this was so of the values before it
+pub record HasEdge (wave : Wave) (so : List (List ℕ) → Bool) (below : Option ℕ) : Type 0 where
+  pub time : ℕ
+  pub before : StandsBelow below time
+  pub low : is_zero (bits_of (values_before wave time) wave.probes.clock) ≡ true
+  pub high : is_one (bits_of (values_until wave time) wave.probes.clock) ≡ true
+  pub was : so (values_before wave time) ≡ true
+
+-- what may be so of the values before an edge: anything; the reset is active, or not; valid and ready of some channel are 1
+-- outside of reset, or in it
+abbrev pub always : List (List ℕ) → Bool
+always values = true
+
+abbrev pub active_in : Wave → List (List ℕ) → Bool
+active_in wave values = is_active values wave.probes.reset
+
+abbrev pub outside_in : Wave → List (List ℕ) → Bool
+outside_in wave values = not (is_active values wave.probes.reset)
+
+abbrev pub crossed_in : Wave → List (List ℕ) → Bool
+crossed_in wave values = not (is_active values wave.probes.reset) && some_crosses values wave.probes.channels
+
+abbrev pub masked_in : Wave → List (List ℕ) → Bool
+masked_in wave values = is_active values wave.probes.reset && some_crosses values wave.probes.channels
+
+-- there were these edges below a time, or in all of a dump if there is none
+pub record EdgesAre (wave : Wave) (below : Option ℕ) (edges : Edges) : Type 0 where
+  pub any : (edges.any ≡ true) ↔ HasEdge wave always below
+  pub outside : (edges.outside ≡ true) ↔ HasEdge wave (outside_in wave) below
+  pub in_reset : (edges.in_reset ≡ true) ↔ HasEdge wave (active_in wave) below
+  pub crossed : (edges.crossed ≡ true) ↔ HasEdge wave (crossed_in wave) below
+  pub masked : (edges.masked ≡ true) ↔ HasEdge wave (masked_in wave) below
+
+-- the reset was active at an earlier edge
+abbrev pub WasReset : Wave → ℕ → Type 0
+WasReset wave time = HasEdge wave (active_in wave) (Some time)
+
 -- a channel at a time, with its place among those that are looked at
 pub record SampledBeat : Type 0 where
   pub time : ℕ
   pub place : ℕ
   pub channel : Channel
 
--- it is a beat: the clock was 0 before the time and is 1 at its end, the reset was not active before it, valid and ready
--- were 1 before it, and no line is wrong up to its end
+-- valid and ready were 1
+pub record Meets (wave : Wave) (beat : SampledBeat) : Type 0 where
+  pub valid : is_one (bits_of (values_before wave beat.time) beat.channel.valid) ≡ true
+  pub ready : is_one (bits_of (values_before wave beat.time) beat.channel.ready) ≡ true
+
+-- valid was unknown, although the reset was active at an earlier edge
+pub record HidesValid (wave : Wave) (beat : SampledBeat) : Type 0 where
+  pub reset : WasReset wave beat.time
+  pub valid : is_unsure (bits_of (values_before wave beat.time) beat.channel.valid) ≡ true
+
+-- valid was 1 and ready unknown, although there is no reset or it was active at an earlier edge
+pub record HidesReady (wave : Wave) (beat : SampledBeat) : Type 0 where
+  pub reset : (wave.probes.reset ≡ None) ⊎ WasReset wave beat.time
+  pub valid : is_one (bits_of (values_before wave beat.time) beat.channel.valid) ≡ true
+  pub ready : is_unsure (bits_of (values_before wave beat.time) beat.channel.ready) ≡ true
+
+-- it is a beat, or it is not known whether it is one: the clock was 0 before the time and is 1 at its end, the reset was
+-- not active before it, valid and ready were 1 before it or one of them is hidden, and no line is wrong up to its end
 pub record IsSampledBeat (wave : Wave) (beat : SampledBeat) : Type 0 where
   pub looked : slice_get wave.probes.channels beat.place ≡ Some beat.channel
   pub low : is_zero (bits_of (values_before wave beat.time) wave.probes.clock) ≡ true
   pub high : is_one (bits_of (values_until wave beat.time) wave.probes.clock) ≡ true
   pub running : is_active (values_before wave beat.time) wave.probes.reset ≡ false
-  pub valid : is_one (bits_of (values_before wave beat.time) beat.channel.valid) ≡ true
-  pub ready : is_one (bits_of (values_before wave beat.time) beat.channel.ready) ≡ true
+  pub shows : Meets wave beat ⊎ (HidesValid wave beat ⊎ HidesReady wave beat)
   pub whole : is_whole wave.cut beat.time ≡ true
 
--- its row, with the values before the time; there is none if one of them, data aside, has an unknown bit
+-- what is hidden of a channel at which no beat crosses: ready if valid is 1, and else valid
+abbrev pub hidden_hand : List (List ℕ) → Channel → Signal
+hidden_hand values channel =
+    if is_one (bits_of values channel.valid) then ready_of channel.beat else valid_of channel.beat
+
+-- the row of a beat that crosses, with the values before the time; there is none if one of them, data aside, has an
+-- unknown bit, or if valid or ready is hidden
+abbrev pub shown_row : ℕ → List (List ℕ) → Channel → Rows
+shown_row time values channel =
+    if crosses values channel then row_alone time channel (row_at time values channel)
+    else hand_alone time channel (Some (hidden_hand values channel))
+
 abbrev pub sampled_row : Wave → SampledBeat → Rows
-sampled_row wave beat = row_alone beat.time beat.channel (row_at beat.time (values_before wave beat.time) beat.channel)
+sampled_row wave beat = shown_row beat.time (values_before wave beat.time) beat.channel
 
 -- the rows of beats, one after the other, up to the first that has none
 abbrev pub sampled_rows : Wave → List SampledBeat → Rows
@@ -138,3 +210,9 @@ pub record AreSampled (wave : Wave) (rows : Rows) : Type 0 where
   pub each : (beat : SampledBeat) → Contains beats beat ↔ IsSampledBeat wave beat
   pub order : AreInOrder beats
   pub are : rows ≡ sampled_rows wave beats
+
+-- a whole dump ends as its edges say
+pub record EndsSampled (wave : Wave) (end : End) : Type 0 where
+  pub edges : Edges
+  pub are : EdgesAre wave None edges
+  pub is : end ≡ end_of_edges (edge_fault wave.probes.reset edges)

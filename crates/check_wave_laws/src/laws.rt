@@ -8,13 +8,15 @@ ghost use Rattle.check_rows.specs.Buses.{IsLinkOf, bus_of_link};
 ghost use Rattle.check_description.specs.Description.{Description, Makes};
 ghost use Rattle.check_description.specs.File.{Parts, parts_of};
 ghost use Rattle.check_start.specs.Start.{master_buses, port_buses};
+ghost use Rattle.check_samples.specs.Edges.{no_edges};
+ghost use Rattle.check_samples.specs.Left.{end_in};
 ghost use Rattle.check_samples.specs.Rows.{Rows, row_at};
 ghost use Rattle.check_samples.specs.Sampling.{Sampling, rows_from};
 ghost use Rattle.check_samples.specs.declared.channel.Channel.{Channel};
 ghost use Rattle.check_signals.specs.Found.{Found, digits_in, find_of, found_in, sampling_of, width_in};
 ghost use Rattle.check_signals.specs.Names.{SignalNames, names_of_file};
 ghost use Rattle.check_wave_laws.specs.Rows.{IsRow};
-ghost use Rattle.check_wave_laws.specs.Sampled.{AreSampled, NeverFalls, Wave, wave_of};
+ghost use Rattle.check_wave_laws.specs.Sampled.{AreSampled, EndsSampled, NeverFalls, Wave, cut_after, wave_of};
 ghost use Rattle.check_wave_laws.specs.Seen.{BeatFits, row_of_channel};
 ghost use Rattle.check_wave_laws.specs.Text.{FindFits, HasRows, SamplingFits};
 
@@ -59,15 +61,16 @@ pub fn names_are_of_links()
 /// The rows of what happens in a dump are those of its beats, each once, by time and within a time in the order of the
 /// channels. A channel has a beat at a time exactly if the clock was 0 before the time and is 1 at its end, the reset was
 /// not active before it, and valid and ready were 1 before it. What a signal was before a time is its last change at an
-/// earlier time, and so it stands in the row. Times may not fall.
+/// earlier time, and so it stands in the row. Rows end where a valid or a ready has to be known and is not. Times may not
+/// fall.
 pub fn rows_are_sampled()
-    ensures { (happens : List Happens) (s : Sampling) → s.time ≡ None → NeverFalls None happens
+    ensures { (happens : List Happens) (s : Sampling) → s.time ≡ None → s.edges ≡ no_edges → NeverFalls None happens
         → AreSampled (wave_of s.probes s.now s.widths happens) (rows_from happens s) }
 {}
 
 /// So are those of what happens in the words of a dump, where no time falls, whatever the words are.
 pub fn dumps_are_sampled()
-    ensures { (find : Find) (words : List Word) (s : Sampling) → s.time ≡ None
+    ensures { (find : Find) (words : List Word) (s : Sampling) → s.time ≡ None → s.edges ≡ no_edges
         → AreSampled (wave_of s.probes s.now s.widths (happenings find words start))
         (rows_from (happenings find words start) s) }
 {}
@@ -78,6 +81,16 @@ pub fn systems_are_sampled()
         → AreSampled (wave_of found.probes (map digits_in found.kept) (map width_in found.kept)
         (happenings (find_of vars found) words start))
         (rows_from (happenings (find_of vars found) words start) (sampling_of found)) }
+{}
+
+/// A dump with no wrong line ends as its edges say: the clock never rises exactly if there is no time before which it was 0
+/// and at whose end it is 1, and so it is with edges outside of reset and with beats in it.
+pub fn dumps_end_by_their_edges()
+    ensures { (vars : List Var) (words : List Word) (found : Found)
+        → cut_after None (happenings (find_of vars found) words start) ≡ None
+        → EndsSampled (wave_of found.probes (map digits_in found.kept) (map width_in found.kept)
+        (happenings (find_of vars found) words start))
+        (end_in (happenings (find_of vars found) words start) (sampling_of found)) }
 {}
 
 /// A dump has no other rows: two texts of rows that are those of its beats are one.

@@ -6,8 +6,8 @@ use Rattle.check_samples.proofs.sampler.push_rows.Given as goal
 
 abbrev pub invariant-loop-channel : goal.invariant-loop-channel
 invariant-loop-channel l =
-    let rest = rows_of l.time (all_before l.values) (drop l.channel-index l.channels) in
-    let all = rows_of l.time (all_before l.values) l.channels in
+    let rest = rows_of l.needs l.time (all_before l.values) (drop l.channel-index l.channels) in
+    let all = rows_of l.needs l.time (all_before l.values) l.channels in
     record {
       text : l.text.items ++ rest.text ≡ l.fn.text.items ++ all.text;
       fault : rest.fault ≡ all.fault;
