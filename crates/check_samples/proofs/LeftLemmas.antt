@@ -1,18 +1,19 @@
 -- What is left of a dump's rows after one thing that happens.
-use Rattle.std.proofs.Common.{◌≡◌, ◌∙◌, ℕ, List, [], ◌∷◌, ◌++◌, Option, Some, None, Result, Ok, Err, ap, append-nil, refl, sym, subst}
+use Rattle.std.proofs.Common.{◌≡◌, ◌∙◌, ℕ, List, [], ◌∷◌, ◌++◌, true, false, Option, Some, None, Result, Ok, Err, ap, append-nil, refl, sym, subst}
 use Rattle.std.specs.Option.{IfSome, option_map}
-use Rattle.check_vcd.specs.Body.{Happens, Wrong, happens_of}
+use Rattle.check_vcd.specs.Body.{Happens, Resumes, Wrong, happens_of}
 use Rattle.check_vcd.specs.Words.{Both}
 use Rattle.check_vcd.specs.declared.body.Event.{Event}
 use Rattle.check_vcd.specs.declared.body.Event.TheVariants as event
 use Rattle.check_vcd.specs.declared.fault.DumpFault.{DumpFault}
 use Rattle.check_vcd.specs.declared.fault.DumpFault.TheVariants as dump
 use Rattle.check_vcd.specs.declared.fault.Mistake.{Mistake}
+use Rattle.check_vcd.specs.declared.fault.Mistake.TheVariants.{Gap}
 use Rattle.check_samples.specs.Edges.{edge_fault}
 use Rattle.check_samples.specs.Faults.{of_dump, of_sample}
 use Rattle.check_samples.specs.Left.{IsOver, RowsGoOn, Stops, end_by, end_in, end_of_edges, left_of}
 use Rattle.check_samples.specs.Rows.{Writes}
-use Rattle.check_samples.specs.Sampling.{LeadsToRows, Sampling, behind, edges_now, rows_from, rows_now}
+use Rattle.check_samples.specs.Sampling.{IsJoined, Joins, LeadsToRows, Sampling, behind, edges_now, rows_from, rows_now}
 use Rattle.std.specs.Result.{IfErr, IfOk, IsErrAnd}
 use Rattle.check_samples.specs.declared.edges.EdgeFault.{EdgeFault}
 use Rattle.check_samples.specs.declared.rows.Progress.{Progress}
@@ -24,32 +25,67 @@ use Rattle.check_samples.specs.declared.sampler.SampleFault.TheVariants as sampl
 
 -- ---- one thing more happens
 
-ends-on : (old new : Sampling) (next : Event) (digits : List ℕ) (rest : List Happens)
-    → new ≡ behind (happens_of next digits) old → end_in rest new ≡ end_in (happens_of next digits ∷ rest) old
+ends-resumed : (s : Sampling) (line : ℕ) (rest : List Happens) → s.edges.crossed ≡ false
+    → end_in (Resumes line ∷ rest) s ≡ end_in rest s
 unfolding end_in
-ends-on old new (event.Time time) digits rest is = ap (λ (s : Sampling). end_in rest s) is
-ends-on old new (event.Change slot) digits rest is = ap (λ (s : Sampling). end_in rest s) is
+ends-resumed s line rest none = rw none refl
+
+ends-on : (old new : Sampling) (next : Event) (digits : List ℕ) (rest : List Happens)
+    → new ≡ behind (happens_of next digits) old → IsJoined next old
+    → end_in rest new ≡ end_in (happens_of next digits ∷ rest) old
+unfolding end_in
+ends-on old new (event.Time time) digits rest is joined = ap (λ (s : Sampling). end_in rest s) is
+ends-on old new (event.Change slot) digits rest is joined = ap (λ (s : Sampling). end_in rest s) is
+ends-on old new (event.Resume line) digits rest is joined =
+    ap (λ (s : Sampling). end_in rest s) is ∙ sym (ends-resumed old line rest joined)
 
 left-on : (rest : List Happens) (old new : Sampling) (t t' : List ℕ) (done : Unit {0}) (next : Event)
     (digits : List ℕ) → LeadsToRows (Ok done) t t' (rows_from (happens_of next digits ∷ rest) old) (rows_from rest new)
-    → new ≡ behind (happens_of next digits) old
+    → new ≡ behind (happens_of next digits) old → IsJoined next old
     → RowsGoOn More t t' (left_of (happens_of next digits ∷ rest) old) (left_of rest new)
-left-on rest old new t t' done next digits leads is = (
+left-on rest old new t t' done next digits leads is joined = (
   leads.0,
   ap (λ f. end_by f (end_in rest new)) leads.1
-      ∙ ap (λ e. end_by (rows_from (happens_of next digits ∷ rest) old).fault e) (ends-on old new next digits rest is),
+      ∙ ap (λ e. end_by (rows_from (happens_of next digits ∷ rest) old).fault e)
+      (ends-on old new next digits rest is joined),
 )
 
 pub goes-on : (a b : Option (List Happens)) (old new : Sampling) (t t' : List ℕ) (done : Unit {0})
     (next : Event) (digits : List ℕ) → Both a b (λ from to. from ≡ happens_of next digits ∷ to)
     → ((rest : List Happens) → LeadsToRows (Ok done) t t' (rows_from (happens_of next digits ∷ rest) old) (rows_from rest new))
-    → new ≡ behind (happens_of next digits) old
+    → new ≡ behind (happens_of next digits) old → IsJoined next old
     → Both (option_map (λ h. left_of h old) a) (option_map (λ h. left_of h new) b) (RowsGoOn More t t')
-goes-on None b old new t t' done next digits both leads is = tt
-goes-on (Some x) None old new t t' done next digits both leads is = absurd both
-goes-on (Some x) (Some y) old new t t' done next digits both leads is =
+goes-on None b old new t t' done next digits both leads is joined = tt
+goes-on (Some x) None old new t t' done next digits both leads is joined = absurd both
+goes-on (Some x) (Some y) old new t t' done next digits both leads is joined =
     subst (λ h. RowsGoOn More t t' (left_of h old) (left_of y new)) (sym both)
-    (left-on y old new t t' done next digits (leads y) is)
+    (left-on y old new t t' done next digits (leads y) is joined)
+
+-- a beat of the time that is over is none, or there is a gap
+gap-on : (s : Sampling) (t t' : List ℕ) (line : ℕ) (digits : List ℕ) (rest : List Happens) → t' ≡ t
+    → s.edges.crossed ≡ true → Stops (rows.Dump line Gap) t t' (left_of (Resumes line ∷ rest) s)
+unfolding rows_from end_in
+gap-on s t t' line digits rest same crossed = rw (crossed, same) (sym (append-nil t), refl)
+
+stop-on : (s new : Sampling) (t t' : List ℕ) (fault : SampleFault) (next : Event) (digits : List ℕ) (rest : List Happens)
+    → LeadsToRows (Err fault) t t' (rows_from (happens_of next digits ∷ rest) s) (rows_from rest new)
+    → Joins (Err fault) next s → Stops (of_sample fault) t t' (left_of (happens_of next digits ∷ rest) s)
+stop-on s new t t' (sample.Unknown u) next digits rest leads joins =
+    (leads.0, ap (λ f. end_by f (end_in (happens_of next digits ∷ rest) s)) leads.1)
+stop-on s new t t' (sample.Gap line) next digits rest leads joins =
+    subst (λ (e : Event). Stops (rows.Dump line Gap) t t' (left_of (happens_of e digits ∷ rest) s)) (sym joins.0)
+    (gap-on s t t' line digits rest leads joins.1)
+stop-on s new t t' sample.Memory next digits rest leads joins = tt
+
+pub stops-taking : (a b : Option (List Happens)) (s new : Sampling) (t t' : List ℕ) (fault : SampleFault) (next : Event)
+    (digits : List ℕ) → Both a b (λ from to. from ≡ happens_of next digits ∷ to)
+    → ((rest : List Happens) → LeadsToRows (Err fault) t t' (rows_from (happens_of next digits ∷ rest) s) (rows_from rest new))
+    → Joins (Err fault) next s → IfSome (option_map (λ h. left_of h s) a) (Stops (of_sample fault) t t')
+stops-taking None b s new t t' fault next digits both leads joins = tt
+stops-taking (Some x) None s new t t' fault next digits both leads joins = absurd both
+stops-taking (Some x) (Some y) s new t t' fault next digits both leads joins =
+    subst (λ h. Stops (of_sample fault) t t' (left_of h s)) (sym both)
+    (stop-on s new t t' fault next digits y (leads y) joins)
 
 -- ---- the end
 
@@ -108,6 +144,7 @@ stops-ending (Some x) None s t t' fault both writes = absurd both
 stops-ending (Some x) (Some y) s t t' (sample.Unknown u) both writes =
     subst (λ h. Stops (of_sample (sample.Unknown u)) t t' (left_of h s)) (sym both.0)
     (writes.0, ap (λ f. end_by f (end_in [] s)) writes.1)
+stops-ending (Some x) (Some y) s t t' (sample.Gap line) both writes = absurd writes
 stops-ending (Some x) (Some y) s t t' sample.Memory both writes = tt
 
 -- the next line is wrong, or a read failed

@@ -1,10 +1,10 @@
 -- What happens, and the rows that are left to come.
 use Rattle.std.proofs.Common.{◌≡◌, ℕ, true, false, List, ◌∷◌, ◌++◌, Some, Ok, Err, refl, ap, ◌∙◌, append_assoc}
-use Rattle.check_vcd.specs.Body.{Happens, At, Sets}
+use Rattle.check_vcd.specs.Body.{Happens, At, Sets, Resumes}
 use Rattle.check_samples.specs.Rows.{Writes, and_then}
 use Rattle.check_samples.specs.Sampling.{LeadsToRows, Sampling, at_time, is_at, rows_from, rows_now, with_value}
 use Rattle.check_samples.specs.declared.sampler.SampleFault.{SampleFault}
-use Rattle.check_samples.specs.declared.sampler.SampleFault.TheVariants.{Unknown, Memory}
+use Rattle.check_samples.specs.declared.sampler.SampleFault.TheVariants.{Unknown, Gap, Memory}
 
 -- a value changes
 pub takes-value : (text : List ℕ) (old new : Sampling) (slot : ℕ) (digits : List ℕ) (rest : List Happens)
@@ -54,4 +54,11 @@ takes-none start text old new time rest (Unknown fault) not writes =
     let both : rows_from (At time ∷ rest) old ≡ record { text = all.text; fault = Some fault } =
     rw writes.1 at whole in
     rw both (writes.0, refl)
+takes-none start text old new time rest (Gap line) not writes = absurd writes
 takes-none start text old new time rest Memory not writes = tt
+
+-- changes are told again, and no beat had crossed
+pub takes-resume : (text : List ℕ) (old : Sampling) (line : ℕ) (rest : List Happens) → old.edges.crossed ≡ false
+    → LeadsToRows (Ok tt) text text (rows_from (Resumes line ∷ rest) old) (rows_from rest old)
+unfolding rows_from
+takes-resume text old line rest none = rw none (refl, refl)

@@ -1,6 +1,7 @@
 -- Faults as those of rows. This project's own.
 use Rattle.check_vcd.specs.declared.fault.DumpFault.{DumpFault}
 use Rattle.check_vcd.specs.declared.fault.DumpFault.TheVariants as dump
+use Rattle.check_vcd.specs.declared.fault.Mistake.TheVariants.{Gap}
 use Rattle.check_samples.specs.declared.rows.RowsFault.{RowsFault}
 use Rattle.check_samples.specs.declared.rows.RowsFault.TheVariants as rows
 use Rattle.check_samples.specs.declared.sampler.SampleFault.{SampleFault}
@@ -8,6 +9,7 @@ use Rattle.check_samples.specs.declared.sampler.SampleFault.TheVariants as sampl
 
 abbrev pub of_sample : SampleFault → RowsFault
 of_sample (sample.Unknown unknown) = rows.Unknown unknown
+of_sample (sample.Gap line) = rows.Dump line Gap
 of_sample sample.Memory = rows.Memory
 
 abbrev pub of_dump : DumpFault → RowsFault

@@ -1,8 +1,9 @@
 -- The rows that are left to come of a dump, and what they end with. This project's own.
-use Rattle.std.specs.Prelude.{◌≡◌, ℕ, List, [], ◌∷◌, ◌++◌, Option, None, Some, option_map, Result, Ok, Err}
-use Rattle.check_vcd.specs.Body.{Happens, At, Sets, Wrong}
+use Rattle.std.specs.Prelude.{◌≡◌, ℕ, List, [], ◌∷◌, ◌++◌, Option, None, Some, option_map, Result, Ok, Err, if◌then◌else◌}
+use Rattle.check_vcd.specs.Body.{Happens, At, Sets, Resumes, Wrong}
 use Rattle.check_vcd.specs.Dump.{Dumping, happens_in}
 use Rattle.check_vcd.specs.declared.fault.Mistake.{Mistake}
+use Rattle.check_vcd.specs.declared.fault.Mistake.TheVariants.{Gap}
 use Rattle.check_samples.specs.Edges.{edge_fault}
 use Rattle.check_samples.specs.Rows.{Rows}
 use Rattle.check_samples.specs.Sampling.{Sampling, at_time, edges_now, rows_from, with_value}
@@ -31,6 +32,7 @@ unfoldable pub end_in : List Happens → Sampling → End
 end_in [] s = end_of_edges (edge_fault s.probes.reset (edges_now s))
 end_in (At time ∷ happens) s = end_in happens (at_time s time)
 end_in (Sets slot digits ∷ happens) s = end_in happens (with_value s slot digits)
+end_in (Resumes line ∷ happens) s = if s.edges.crossed then BeforeLine line Gap else end_in happens s
 end_in (Wrong line mistake ∷ happens) s = BeforeLine line mistake
 
 -- a beat that is no row ends them before that

@@ -1,5 +1,5 @@
 -- The row of a beat, as the format of captures has it. This project's own.
-use Rattle.std.specs.Prelude.{ℕ, ◌==◌, ◌%◌, false, List, [], ◌∷◌, ◌++◌, length, take, drop, Option, None, Some, Result, Ok, Err, if◌then◌else◌, ok_or}
+use Rattle.std.specs.Prelude.{ℕ, ◌==◌, ◌%◌, false, List, [], ◌∷◌, ◌++◌, length, take, drop, Option, None, Some, Result, Ok, if◌then◌else◌, ok_or}
 use Rattle.std.specs.Fmt.{decimal, digit_glyph, digits}
 use Rattle.tl_text.specs.Reading.{◌>>=◌}
 use Rattle.tl_text.specs.Number.{number_of}

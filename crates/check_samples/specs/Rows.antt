@@ -13,7 +13,7 @@ use Rattle.check_samples.specs.declared.sampler.Probes as code_probes
 use Rattle.check_samples.specs.declared.edges.Needs.{Needs}
 use Rattle.check_samples.specs.declared.reset.Reset.{Reset}
 use Rattle.check_samples.specs.declared.sampler.SampleFault.{SampleFault}
-use Rattle.check_samples.specs.declared.sampler.SampleFault.TheVariants.{Unknown, Memory}
+use Rattle.check_samples.specs.declared.sampler.SampleFault.TheVariants.{Unknown, Gap, Memory}
 use Rattle.check_samples.specs.declared.signal.Signal.{Signal}
 use Rattle.check_samples.specs.declared.signal.Signal.TheVariants as signal
 use Rattle.check_samples.specs.declared.tap.Tap.{Tap}
@@ -139,6 +139,7 @@ Appended old new (Err first) (Some which) = (new ≡ old) × (first ≡ which)
 abbrev pub Writes : Result Unit SampleFault → List ℕ → List ℕ → Rows → Type 0
 Writes (Ok done) old new rows = (new ≡ old ++ rows.text) × (rows.fault ≡ None)
 Writes (Err (Unknown fault)) old new rows = (new ≡ old ++ rows.text) × (rows.fault ≡ Some fault)
+Writes (Err (Gap line)) old new rows = ⊥
 Writes (Err Memory) old new rows = Unit {0}
 
 abbrev pub view_of : code_probes.Probes → Probes

@@ -31,6 +31,7 @@ impl From<SampleFault> for RowsFault {
     fn from(fault: SampleFault) -> RowsFault {
         match fault {
             SampleFault::Unknown(unknown) => RowsFault::Unknown(unknown),
+            SampleFault::Gap(line) => RowsFault::Dump(line, Mistake::Gap),
             SampleFault::Memory => RowsFault::Memory,
         }
     }

@@ -20,6 +20,8 @@ use std::marker::Model;
 #[derive(Debug, Clone, Copy, PartialEq, Eq)]
 pub enum SampleFault {
     Unknown(UnknownBit),
+    /// Before this line changes were not told, although beats had crossed.
+    Gap(u64),
     Memory,
 }
 
@@ -258,7 +260,7 @@ impl Model for Sampler {
 impl Sampler {
     ghost use Rattle.check_vcd.specs.Body.{Happens, happens_of};
     ghost use Rattle.check_samples.specs.Edges.{edge_fault, no_edges};
-    ghost use Rattle.check_samples.specs.Sampling.{LeadsToRows, at_time, behind, edges_now, is_at, rows_from, rows_now, with_value};
+    ghost use Rattle.check_samples.specs.Sampling.{Joins, LeadsToRows, at_time, behind, edges_now, is_at, rows_from, rows_now, with_value};
 
     /// Before anything has happened: each value is unknown, save those that are given.
     pub fn new(probes: Probes, values: Values) -> Sampler
@@ -336,7 +338,8 @@ impl Sampler {
     }
 
     /// Takes what happens next in a dump, with the digits of a value that changes. If a time begins, the rows of the one
-    /// before are appended, up to the first beat that is none.
+    /// before are appended, up to the first beat that is none. If changes are told again after they were not, no beat may
+    /// have crossed at an earlier time: else what is missing may be one.
     pub fn take(
         &mut self,
         text: &mut Vec<u8>,
@@ -346,9 +349,15 @@ impl Sampler {
         ensures rows { (rest : List Happens) → LeadsToRows result text.old.items text.new.items
             (rows_from (happens_of event digits.now ∷ rest) self.old) (rows_from rest self.new) }
         ensures state { OnOk result (self.new ≡ behind (happens_of event digits.now) self.old) }
+        ensures gap { Joins result event self.old }
     {
         match event {
             Event::Change(slot) => self.change(slot, digits)?,
+            Event::Resume(line) => {
+                if self.edges.crossed {
+                    return Err(SampleFault::Gap(line));
+                }
+            }
             Event::Time(time) => {
                 if !self.is_at(time) {
                     match self.push_rows(text) {

@@ -66,7 +66,7 @@ some-happen find None b h some = tt
 some-happen find (Some x) b h some = some
 
 happenings-word : (find : Find) (word : Word) (words : List Word) (b : Body) (does : body.Step)
-    → body.step_of find b word.size word.bytes ≡ does
+    → body.step_of find b word.line word.size word.bytes ≡ does
     → happenings find (word ∷ words) b ≡ followed does word.line (happenings find words)
 unfolding happenings
 happenings-word find word words b does is =
@@ -75,7 +75,7 @@ happenings-word find word words b does is =
 -- what happens, after one word more
 pub happens-on : (find : Find) (start old new : Option (List Word)) (word : Word) (first b : Body) (does : body.Step)
     → Both start old (λ from to. happenings find from first ≡ happenings find to b)
-    → Both old new (λ from to. from ≡ word ∷ to) → body.step_of find b word.size word.bytes ≡ does
+    → Both old new (λ from to. from ≡ word ∷ to) → body.step_of find b word.line word.size word.bytes ≡ does
     → Both start new (λ from to. happenings find from first ≡ followed does word.line (happenings find to))
 happens-on find start old new word first b does so_far reads is =
     both-trans start old new (λ from to. happenings find from first ≡ happenings find to b)
@@ -138,7 +138,7 @@ pub wrong-by : (find : Find) (start old new : Option (List Word)) (word : Word) 
     (next : code_body.Body) (line : ℕ) (mistake : Mistake)
     → Both start old (λ from to. happenings find from first ≡ happenings find to b)
     → Both old new (λ from to. from ≡ word ∷ to)
-    → body.Tells (Err fault) (body.step_of find b word.size word.bytes) next
+    → body.Tells (Err fault) (body.step_of find b word.line word.size word.bytes) next
     → on_line word.line fault ≡ dump.At line mistake
     → IfSome (option_map (λ words. happenings find words first) start)
     (λ happens. happens ≡ body.Wrong line mistake ∷ [])
@@ -179,7 +179,7 @@ pub happened-some : (old new : Dumping) (mid : Option (List Word)) (word : Word)
     → Both old.words mid
     (λ from to. happenings (find_in old.codes) from old.body ≡ happenings (find_in old.codes) to b)
     → Both mid new.words (λ from to. from ≡ word ∷ to)
-    → body.step_of (find_in old.codes) b word.size word.bytes ≡ body.told (Some event) new.body
+    → body.step_of (find_in old.codes) b word.line word.size word.bytes ≡ body.told (Some event) new.body
     → Happened old new (Some event)
 happened-some old new mid word b event codes so_far reads does =
     rw codes (both-happen (λ words. happenings (find_in old.codes) words old.body)

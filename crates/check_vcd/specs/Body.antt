@@ -1,6 +1,6 @@
 -- The body of a dump: what happens in it, word by word. IEEE 1364, "Value change dump files"; which words are wrong, and
 -- what they are called then, is this project's own.
-use Rattle.std.specs.Prelude.{◌≡◌, ℕ, ◌-◌, ◌||◌, ◌==◌, Bool, false, not, nat_lt, List, [], ◌∷◌, length, Option, None, Some, Result, Ok, Err, if◌then◌else◌}
+use Rattle.std.specs.Prelude.{◌≡◌, ℕ, ◌-◌, ◌||◌, ◌==◌, Bool, true, false, not, nat_lt, List, [], ◌∷◌, length, Option, None, Some, Result, Ok, Err, if◌then◌else◌}
 use Rattle.tl_text.specs.Number.{number_of}
 use Rattle.check_vcd.specs.Token.{are_bits, is_end, token_kind}
 use Rattle.check_vcd.specs.Words.{Word}
@@ -20,11 +20,12 @@ use Rattle.check_vcd.specs.declared.token.TokenKind.TheVariants as kind
 
 -- ---- what happens
 
--- a time begins; the value in a slot becomes these digits, the highest first; or this line is wrong, and nothing after
--- it counts
+-- a time begins; the value in a slot becomes these digits, the highest first; on this line changes are told again, after
+-- they were not; or this line is wrong, and nothing after it counts
 pub data Happens : Type 0 where
   At : ℕ → Happens
   Sets : ℕ → List ℕ → Happens
+  Resumes : ℕ → Happens
   Wrong : ℕ → Mistake → Happens
 
 -- what is known of an identifier, if it is declared
@@ -33,16 +34,18 @@ Find = List ℕ → Option Coded
 
 -- ---- one word
 
--- where a word stands: after what, after which value of how many digits, and after which time
+-- where a word stands: after what, after which value of how many digits, after which time, and whether changes are not
+-- told
 pub record Body : Type 0 where
   pub place : BodyPlace
   pub value : List ℕ
   pub size : ℕ
   pub time : Option ℕ
+  pub is_off : Bool
 
 -- before the first word
 abbrev pub start : Body
-start = record { place = Plain; value = []; size = 0; time = None }
+start = record { place = Plain; value = []; size = 0; time = None; is_off = false }
 
 -- what a word does: nothing but leading on, something that happens, or it is wrong
 pub data Step : Type 0 where
@@ -94,29 +97,35 @@ with_digits body digits size =
     if (length digits == 0) || not (are_bits digits) then Fails BadValue
     else Goes (record body { place = BehindVector; value = digits; size = size })
 
--- a word that begins something new, by its first byte and the others
-abbrev pub begun_by : TokenKind → Find → Body → ℕ → ℕ → List ℕ → Step
-begun_by kind.Scalar find body size first rest = changed find (with_bit body first) rest
-begun_by kind.Vector find body size first rest = with_digits body rest (size - 1)
-begun_by kind.Time find body size first rest = timed body rest
-begun_by kind.Other find body size first rest = Goes (record body { place = BehindOther })
-begun_by kind.Comment find body size first rest = Goes (record body { place = InComment })
-begun_by kind.Ignored find body size first rest = Goes body
-begun_by kind.Unknown find body size first rest = Fails NotADump
+-- changes are told from this line on
+abbrev pub resumed : Body → ℕ → Step
+resumed body line = if body.is_off then Gives (record body { is_off = false }) (Resumes line) else Goes body
 
-abbrev pub begun : Find → Body → ℕ → List ℕ → Step
-begun find body size [] = Fails NotADump
-begun find body size (first ∷ rest) = begun_by (token_kind first (first ∷ rest)) find body size first rest
+-- a word on this line that begins something new, by its first byte and the others
+abbrev pub begun_by : TokenKind → Find → Body → ℕ → ℕ → ℕ → List ℕ → Step
+begun_by kind.Scalar find body line size first rest = changed find (with_bit body first) rest
+begun_by kind.Vector find body line size first rest = with_digits body rest (size - 1)
+begun_by kind.Time find body line size first rest = timed body rest
+begun_by kind.Other find body line size first rest = Goes (record body { place = BehindOther })
+begun_by kind.Comment find body line size first rest = Goes (record body { place = InComment })
+begun_by kind.Ignored find body line size first rest = Goes body
+begun_by kind.Off find body line size first rest = Goes (record body { is_off = true })
+begun_by kind.On find body line size first rest = resumed body line
+begun_by kind.Unknown find body line size first rest = Fails NotADump
 
--- a word of so many bytes, by where it stands
-abbrev pub step_at : BodyPlace → Find → Body → ℕ → List ℕ → Step
-step_at Plain find body size word = begun find body size word
-step_at InComment find body size word = Goes (if is_end word then record body { place = Plain } else body)
-step_at BehindVector find body size word = changed find (record body { place = Plain }) word
-step_at BehindOther find body size word = passed find (record body { place = Plain }) word
+abbrev pub begun : Find → Body → ℕ → ℕ → List ℕ → Step
+begun find body line size [] = Fails NotADump
+begun find body line size (first ∷ rest) = begun_by (token_kind first (first ∷ rest)) find body line size first rest
 
-abbrev pub step_of : Find → Body → ℕ → List ℕ → Step
-step_of find body size word = step_at body.place find body size word
+-- a word on this line of so many bytes, by where it stands
+abbrev pub step_at : BodyPlace → Find → Body → ℕ → ℕ → List ℕ → Step
+step_at Plain find body line size word = begun find body line size word
+step_at InComment find body line size word = Goes (if is_end word then record body { place = Plain } else body)
+step_at BehindVector find body line size word = changed find (record body { place = Plain }) word
+step_at BehindOther find body line size word = passed find (record body { place = Plain }) word
+
+abbrev pub step_of : Find → Body → ℕ → ℕ → List ℕ → Step
+step_of find body line size word = step_at body.place find body line size word
 
 -- ---- all words
 
@@ -130,17 +139,24 @@ followed (Fails mistake) line others = Wrong line mistake ∷ []
 unfoldable pub happenings : Find → List Word → Body → List Happens
 happenings find [] body = []
 happenings find (word ∷ words) body =
-    followed (step_of find body word.size word.bytes) word.line (happenings find words)
+    followed (step_of find body word.line word.size word.bytes) word.line (happenings find words)
 
 -- ---- what calls answer
 
 abbrev pub body_of : code_body.Body → Body
-body_of body = record { place = body.place; value = body.value.items; size = body.size; time = body.time }
+body_of body = record {
+  place = body.place;
+  value = body.value.items;
+  size = body.size;
+  time = body.time;
+  is_off = body.is_off;
+}
 
 -- an event, with the value at hand
 abbrev pub happens_of : Event → List ℕ → Happens
 happens_of (event.Time time) value = At time
 happens_of (event.Change slot) value = Sets slot value
+happens_of (event.Resume line) value = Resumes line
 
 abbrev pub told : Option Event → Body → Step
 told None body = Goes body

@@ -3,7 +3,7 @@ use Rattle.std.specs.Prelude.{ℕ, ◌==◌, ◌||◌, Bool, List, codes, if◌t
 use Rattle.std.specs.List.{list_all}
 use Rattle.std.specs.Str.{bytes_eq}
 use Rattle.check_vcd.specs.declared.token.TokenKind.{TokenKind}
-use Rattle.check_vcd.specs.declared.token.TokenKind.TheVariants.{Ignored, Comment, Time, Scalar, Vector, Other, Unknown}
+use Rattle.check_vcd.specs.declared.token.TokenKind.TheVariants.{Ignored, Off, On, Comment, Time, Scalar, Vector, Other, Unknown}
 
 -- 0, 1, x or z
 abbrev pub is_bit : ℕ → Bool
@@ -26,7 +26,6 @@ is_end word = bytes_eq word (codes "$end")
 abbrev pub is_ignored : List ℕ → Bool
 is_ignored word =
     is_end word || bytes_eq word (codes "$dumpvars") || bytes_eq word (codes "$dumpall")
-    || bytes_eq word (codes "$dumpon") || bytes_eq word (codes "$dumpoff")
 
 -- what a word with this first byte begins
 abbrev pub token_kind : ℕ → List ℕ → TokenKind
@@ -37,4 +36,6 @@ token_kind first word =
     else if starts_other first then Other
     else if is_ignored word then Ignored
     else if bytes_eq word (codes "$comment") then Comment
+    else if bytes_eq word (codes "$dumpoff") then Off
+    else if bytes_eq word (codes "$dumpon") then On
     else Unknown

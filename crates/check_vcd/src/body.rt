@@ -1,6 +1,6 @@
 //! The body of a dump: what happens, word by word.
 ghost use Rattle.std.specs.Prelude.{◌≡◌};
-ghost use Rattle.check_vcd.specs.Body.{Tells, begun, body_of, changed, passed, start, step_of, timed, with_bit, with_digits};
+ghost use Rattle.check_vcd.specs.Body.{Tells, begun, body_of, changed, passed, resumed, start, step_of, timed, told, with_bit, with_digits};
 ghost use Rattle.check_vcd.specs.Codes.{find_in};
 
 use crate::codes::Codes;
@@ -31,10 +31,12 @@ pub enum Event {
     Time(u64),
     /// The value that is kept in this slot changes.
     Change(usize),
+    /// On this line changes are told again, after they were not.
+    Resume(u64),
 }
 
 /// A dump's body while it is read: the identifiers, where the next word stands, the value at hand with its count of
-/// digits, of which a front alone may be kept, and the last time.
+/// digits, of which a front alone may be kept, the last time, and whether changes are not told.
 #[derive(Drop)]
 pub(crate) struct Body {
     pub(crate) codes: Codes,
@@ -42,6 +44,7 @@ pub(crate) struct Body {
     pub(crate) value: Vec<u8>,
     size: u64,
     time: Option<u64>,
+    is_off: bool,
 }
 
 impl Body {
@@ -56,6 +59,7 @@ impl Body {
             value: Vec::new(alloc),
             size: 0,
             time: None,
+            is_off: false,
         }
     }
 
@@ -131,9 +135,22 @@ impl Body {
         Ok(None)
     }
 
+    /// Takes the word on this line after which changes are told.
+    fn resume(&mut self, line: u64) -> Option<Event>
+        ensures told { resumed (body_of self.old) line ≡ told result (body_of self.new) }
+        ensures codes { self.new.codes ≡ self.old.codes }
+    {
+        if self.is_off {
+            self.is_off = false;
+            Some(Event::Resume(line))
+        } else {
+            None
+        }
+    }
+
     /// Takes a word that begins something new.
-    fn begin(&mut self, word: &[u8], size: u64) -> Result<Option<Event>, WordFault>
-        ensures told { Tells result (begun (find_in self.old.codes) (body_of self.old) size word.now) self.new }
+    fn begin(&mut self, word: &[u8], size: u64, line: u64) -> Result<Option<Event>, WordFault>
+        ensures told { Tells result (begun (find_in self.old.codes) (body_of self.old) line size word.now) self.new }
         ensures codes { self.new.codes ≡ self.old.codes }
     {
         let [first, rest @ ..] = word else {
@@ -152,17 +169,27 @@ impl Body {
                 Ok(None)
             }
             TokenKind::Ignored => Ok(None),
+            TokenKind::Off => {
+                self.is_off = true;
+                Ok(None)
+            }
+            TokenKind::On => Ok(self.resume(line)),
             TokenKind::Unknown => Err(WordFault::Wrong(Mistake::NotADump)),
         }
     }
 
-    /// Takes a word of so many bytes, and answers what happens with it.
-    pub(crate) fn take(&mut self, word: &[u8], size: u64) -> Result<Option<Event>, WordFault>
-        ensures told { Tells result (step_of (find_in self.old.codes) (body_of self.old) size word.now) self.new }
+    /// Takes a word of so many bytes on this line, and answers what happens with it.
+    pub(crate) fn take(
+        &mut self,
+        word: &[u8],
+        size: u64,
+        line: u64,
+    ) -> Result<Option<Event>, WordFault>
+        ensures told { Tells result (step_of (find_in self.old.codes) (body_of self.old) line size word.now) self.new }
         ensures codes { self.new.codes ≡ self.old.codes }
     {
         match self.place {
-            BodyPlace::Plain => self.begin(word, size),
+            BodyPlace::Plain => self.begin(word, size, line),
             BodyPlace::InComment => {
                 if is_end(word) {
                     self.place = BodyPlace::Plain;

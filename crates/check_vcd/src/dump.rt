@@ -117,10 +117,11 @@ impl<R: Read + Drop> Dump<R> {
             if !self.words.read()? {
                 return Ok(None);
             }
-            match self.body.take(self.words.bytes(), self.words.size()) {
+            let line = self.words.line();
+            match self.body.take(self.words.bytes(), self.words.size(), line) {
                 Ok(None) => {}
                 Ok(Some(event)) => return Ok(Some(event)),
-                Err(fault) => return Err(fault.on(self.words.line())),
+                Err(fault) => return Err(fault.on(line)),
             }
         }
         Err(DumpFault::Read)

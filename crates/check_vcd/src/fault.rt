@@ -22,6 +22,8 @@ pub enum Mistake {
     TimeFalls,
     #[error("cut in its header")]
     CutInHeader,
+    #[error("the dump has a gap")]
+    Gap,
 }
 
 /// Why a dump was not read to its end.

@@ -5,8 +5,12 @@ ghost use Rattle.check_vcd.specs.Token.{are_bits, is_bit, is_end, is_ignored, to
 /// What a word of a dump's body begins.
 #[derive(Debug, Clone, Copy, PartialEq, Eq)]
 pub enum TokenKind {
-    /// A word that says nothing of values: `$dumpvars`, `$dumpon`, `$dumpoff`, `$dumpall` and the `$end` of one.
+    /// A word that says nothing of values: `$dumpvars`, `$dumpall` and the `$end` of a command.
     Ignored,
+    /// `$dumpoff`: changes are not told from here on.
+    Off,
+    /// `$dumpon`: they are told again.
+    On,
     Comment,
     Time,
     /// A value of one bit, with its identifier after it.
@@ -58,8 +62,6 @@ fn is_ignored(word: &[u8]) -> bool
     is_end(word)
         || word == b"$dumpvars".as_slice()
         || word == b"$dumpall".as_slice()
-        || word == b"$dumpon".as_slice()
-        || word == b"$dumpoff".as_slice()
 }
 
 /// What a word with this first byte begins.
@@ -78,6 +80,10 @@ pub fn token_kind(first: u8, word: &[u8]) -> TokenKind
         TokenKind::Ignored
     } else if word == b"$comment".as_slice() {
         TokenKind::Comment
+    } else if word == b"$dumpoff".as_slice() {
+        TokenKind::Off
+    } else if word == b"$dumpon".as_slice() {
+        TokenKind::On
     } else {
         TokenKind::Unknown
     }

@@ -1,15 +1,15 @@
 -- The values after some of the changes of a dump.
-use Rattle.std.proofs.Common.{◌≡◌, ◌∙◌, ℕ, ◌<◌, ◌≤◌, ◌⊎◌, inl, inr, ◌==◌, Bool, true, false, cond, not, nat_lt, List, [], ◌∷◌, ◌++◌, length, get_or, filter, Option, None, Some, ap, arith, append-nil, refl, subst, sym}
+use Rattle.std.proofs.Common.{◌≡◌, ◌∙◌, ℕ, zero, suc, ◌<◌, ◌≤◌, ◌⊎◌, inl, inr, ◌==◌, Bool, true, false, cond, not, nat_lt, List, [], ◌∷◌, ◌++◌, length, get_or, filter, Contains, Option, None, Some, ap, arith, append-nil, refl, subst, sym}
 use Rattle.std.specs.Prelude.{⊤}
 use Rattle.std.specs.List.{last_or}
 use Rattle.std.proofs.lemmas.Bool.{cases_eq, cond-false, cond-true, eq-eqb, le-leb, le-ltb, leb-false, leb-true, lt-leb, lt-ltb, ltb-false, ltb-true, ne_eqb}
 use Rattle.std.proofs.lemmas.List.{get_or-set_other, get_or-set_same, length-set, same_lists}
 use Rattle.std.proofs.lemmas.List.Elements.{filter-append}
 use Rattle.std.proofs.lemmas.List.FromFn.{fill_by_all, get_or-map-range_with_len, length-map-range_with_len}
-use Rattle.check_vcd.specs.Body.{Happens, At, Sets, Wrong}
+use Rattle.check_vcd.specs.Body.{Happens, At, Sets, Resumes, Wrong}
 use Rattle.check_samples.specs.Digits.{extended, set_extended}
 use Rattle.check_samples.specs.Sampling.{Sampling, with_value}
-use Rattle.check_wave_laws.specs.Sampled.{ValueChange, NeverFalls, Wave, changes_after, cut_after, is_before, is_until, is_whole, last_of, value_after, value_by, values_after, values_before, values_until}
+use Rattle.check_wave_laws.specs.Sampled.{ValueChange, NeverFalls, Wave, changes_after, cut_after, gaps_after, is_before, is_until, is_whole, last_of, value_after, value_by, values_after, values_before, values_until}
 
 -- ---- times
 
@@ -90,7 +90,28 @@ changes-from time (At next ∷ happens) rises =
     each-weaker (IsFrom next) (IsFrom time) (changes_after (Some next) happens)
     (λ at from. from-earlier time next at (leb-true time next rises.0) from) (changes-from next happens rises.1)
 changes-from time (Sets slot digits ∷ happens) rises = (omega arith, changes-from time happens rises)
+changes-from time (Resumes line ∷ happens) rises = changes-from time happens rises
 changes-from time (Wrong line mistake ∷ happens) rises = tt
+
+gap-here : (time : ℕ) (gap : Option ℕ) (gaps : List (Option ℕ)) → (Contains gaps gap → IsFrom time gap)
+    → Contains (Some time ∷ gaps) gap → IsFrom time gap
+gap-here time gap gaps more has = go has.0 has.1 has.2
+  where
+    go : (k : ℕ) → k < length (Some time ∷ gaps) → get_or (Some time ∷ gaps) k gap ≡ gap → IsFrom time gap
+    go zero inside is =
+        let self : IsFrom time (Some time) = omega arith in subst (λ (g : Option ℕ). IsFrom time g) is self
+    go (suc k) inside is = more (k, omega (arith, inside), is)
+
+-- where changes are told again from a time on they are so then or later
+pub gaps-from : (time : ℕ) (happens : List Happens) → NeverFalls (Some time) happens → (gap : Option ℕ)
+    → Contains (gaps_after (Some time) happens) gap → IsFrom time gap
+gaps-from time [] rises gap has = absurd (omega (arith, has.1))
+gaps-from time (At next ∷ happens) rises gap has =
+    from-earlier time next gap (leb-true time next rises.0) (gaps-from next happens rises.1 gap has)
+gaps-from time (Sets slot digits ∷ happens) rises gap has = gaps-from time happens rises gap has
+gaps-from time (Resumes line ∷ happens) rises gap has =
+    gap-here time gap (gaps_after (Some time) happens) (gaps-from time happens rises gap) has
+gaps-from time (Wrong line mistake ∷ happens) rises gap has = absurd (omega (arith, has.1))
 
 -- what is wrong from a time on is so then or later
 pub whole-before : (time : ℕ) (happens : List Happens) (early : ℕ) → NeverFalls (Some time) happens → early < time
@@ -99,6 +120,7 @@ whole-before time [] early rises less = refl
 whole-before time (At next ∷ happens) early rises less =
     whole-before next happens early rises.1 (omega (arith, less, leb-true time next rises.0))
 whole-before time (Sets slot digits ∷ happens) early rises less = whole-before time happens early rises less
+whole-before time (Resumes line ∷ happens) early rises less = whole-before time happens early rises less
 whole-before time (Wrong line mistake ∷ happens) early rises less =
     ap (λ (t : Bool). not t) (lt-leb time early less)
 

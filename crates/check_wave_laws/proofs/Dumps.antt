@@ -5,7 +5,7 @@ use Rattle.std.proofs.lemmas.Bool.{ltb-false, ltb-true}
 use Rattle.std.specs.Str.Parse.{digits_value}
 use Rattle.tl_text.specs.Number.{are_digits, number_of}
 use Rattle.check_beats.specs.declared.bus.Bus.{Bus}
-use Rattle.check_vcd.specs.Body.{At, Body, Fails, Find, Gives, Goes, Happens, Sets, Step, Wrong, begun_by, changed, changed_to, falls, followed, happenings, passed, passed_to, set, start, step_at, step_of, timed, timed_at, with_bit, with_digits}
+use Rattle.check_vcd.specs.Body.{At, Body, Fails, Find, Gives, Goes, Happens, Resumes, Sets, Step, Wrong, begun_by, changed, changed_to, falls, followed, happenings, passed, passed_to, resumed, set, start, step_at, step_of, timed, timed_at, with_bit, with_digits}
 use Rattle.check_vcd.specs.Header as header
 use Rattle.check_vcd.specs.Header.{Header, Opened, Var, words_behind, blank, opening}
 use Rattle.check_vcd.specs.Token.{are_bits, is_end, token_kind}
@@ -36,6 +36,7 @@ IsShort body = length body.value ≤ body.size
 abbrev HappenFits : List ℕ → Happens → Type 0
 HappenFits widths (At time) = time < 2 ^ 64
 HappenFits widths (Sets slot digits) = length digits ≤ get_or widths slot 0
+HappenFits widths (Resumes line) = ⊤
 HappenFits widths (Wrong line mistake) = ⊤
 
 abbrev StepFits : List ℕ → Step → Type 0
@@ -107,31 +108,40 @@ digits-fit widths body digits size short = go ((length digits == 0) || not (are_
     go false = short
 
 module _ (widths : List ℕ) (find : Find) (fit : FindFits widths find) where
-  begun-fits : (which : TokenKind) (body : Body) (size first : ℕ) (rest : List ℕ) → IsShort body
-      → length (first ∷ rest) ≤ size → StepFits widths (begun_by which find body size first rest)
-  begun-fits kind.Scalar body size first rest short whole =
-      changed-fits widths find fit (with_bit body first) rest (omega arith)
-  begun-fits kind.Vector body size first rest short whole =
-      digits-fit widths body rest (size - 1) (omega (arith, whole))
-  begun-fits kind.Time body size first rest short whole = timed-fits widths body rest short
-  begun-fits kind.Other body size first rest short whole = short
-  begun-fits kind.Comment body size first rest short whole = short
-  begun-fits kind.Ignored body size first rest short whole = short
-  begun-fits kind.Unknown body size first rest short whole = tt
+  resumed-fits : (body : Body) (line : ℕ) → IsShort body → StepFits widths (resumed body line)
+  resumed-fits body line short = go body.is_off
+    where
+      go : (t : Bool) → StepFits widths (cond t (Gives (record body { is_off = false }) (Resumes line)) (Goes body))
+      go true = (short, tt)
+      go false = short
 
-  word-fits : (place : BodyPlace) (body : Body) (size : ℕ) (word : List ℕ) → IsShort body → length word ≤ size
-      → StepFits widths (step_at place find body size word)
-  word-fits Plain body size [] short whole = tt
-  word-fits Plain body size (first ∷ rest) short whole =
-      begun-fits (token_kind first (first ∷ rest)) body size first rest short whole
-  word-fits InComment body size word short whole = go (is_end word)
+  begun-fits : (which : TokenKind) (body : Body) (line size first : ℕ) (rest : List ℕ) → IsShort body
+      → length (first ∷ rest) ≤ size → StepFits widths (begun_by which find body line size first rest)
+  begun-fits kind.Scalar body line size first rest short whole =
+      changed-fits widths find fit (with_bit body first) rest (omega arith)
+  begun-fits kind.Vector body line size first rest short whole =
+      digits-fit widths body rest (size - 1) (omega (arith, whole))
+  begun-fits kind.Time body line size first rest short whole = timed-fits widths body rest short
+  begun-fits kind.Other body line size first rest short whole = short
+  begun-fits kind.Comment body line size first rest short whole = short
+  begun-fits kind.Ignored body line size first rest short whole = short
+  begun-fits kind.Off body line size first rest short whole = short
+  begun-fits kind.On body line size first rest short whole = resumed-fits body line short
+  begun-fits kind.Unknown body line size first rest short whole = tt
+
+  word-fits : (place : BodyPlace) (body : Body) (line size : ℕ) (word : List ℕ) → IsShort body → length word ≤ size
+      → StepFits widths (step_at place find body line size word)
+  word-fits Plain body line size [] short whole = tt
+  word-fits Plain body line size (first ∷ rest) short whole =
+      begun-fits (token_kind first (first ∷ rest)) body line size first rest short whole
+  word-fits InComment body line size word short whole = go (is_end word)
     where
       go : (t : Bool) → IsShort (cond t (record body { place = Plain }) body)
       go true = short
       go false = short
-  word-fits BehindVector body size word short whole =
+  word-fits BehindVector body line size word short whole =
       changed-fits widths find fit (record body { place = Plain }) word short
-  word-fits BehindOther body size word short whole =
+  word-fits BehindOther body line size word short whole =
       passed-fits widths find fit (record body { place = Plain }) word short
 
   -- ---- all words
@@ -141,6 +151,7 @@ module _ (widths : List ℕ) (find : Find) (fit : FindFits widths find) where
   followed-fits (Goes body) line others fits more = more body fits
   followed-fits (Gives body (At time)) line others fits more = (fits.1, more body fits.0)
   followed-fits (Gives body (Sets slot digits)) line others fits more = (fits.1, more body fits.0)
+  followed-fits (Gives body (Resumes at)) line others fits more = more body fits.0
   followed-fits (Gives body (Wrong at mistake)) line others fits more = tt
   followed-fits (Fails mistake) line others fits more = tt
 
@@ -149,8 +160,8 @@ module _ (widths : List ℕ) (find : Find) (fit : FindFits widths find) where
   unfolding happenings
   happens-fit [] body whole short = tt
   happens-fit (word ∷ words) body whole short =
-      followed-fits (step_of find body word.size word.bytes) word.line (happenings find words)
-      (word-fits body.place body word.size word.bytes short whole.0)
+      followed-fits (step_of find body word.line word.size word.bytes) word.line (happenings find words)
+      (word-fits body.place body word.line word.size word.bytes short whole.0)
       (λ next is. happens-fit words next whole.1 is)
 
 -- ---- the words of a text

@@ -10,7 +10,7 @@ use Rattle.check_samples.specs.declared.channel.Channel.{Channel}
 use Rattle.check_samples.specs.declared.channel.UnknownBit.{UnknownBit}
 use Rattle.check_samples.specs.declared.edges.Needs.{Needs}
 use Rattle.check_samples.specs.declared.signal.Signal.{Signal}
-use Rattle.check_wave_laws.specs.Sampled.{AreInOrder, HasEdge, HidesReady, HidesValid, IsSampledBeat, Meets, Precedes, SampledBeat, WasReset, Wave, hidden_hand, is_whole, sampled_row, sampled_rows, shown_row, values_before, values_until}
+use Rattle.check_wave_laws.specs.Sampled.{AreInOrder, HasEdge, HidesReady, HidesValid, IsJoinedUntil, IsSampledBeat, Meets, Precedes, SampledBeat, WasReset, Wave, hidden_hand, is_whole, sampled_row, sampled_rows, shown_row, values_before, values_until}
 
 -- ---- rows, one after the other
 
@@ -375,9 +375,9 @@ crossed-at wave needs time beat are now is =
 pub beat-at : (wave : Wave) (needs : Needs) (time : ℕ) (beat : SampledBeat) → NeedsAre wave time needs
     → beat.time ≡ time → has_edge (values_before wave time) (values_until wave time) wave.probes ≡ true
     → slice_get wave.probes.channels beat.place ≡ Some beat.channel
-    → tells needs (values_before wave time) beat.channel ≡ true → is_whole wave.cut time ≡ true
+    → tells needs (values_before wave time) beat.channel ≡ true → IsJoinedUntil wave time → is_whole wave.cut time ≡ true
     → IsSampledBeat wave beat
-beat-at wave needs time beat are now edge looked told whole =
+beat-at wave needs time beat are now edge looked told joined whole =
     let outside = and_parts (rises (values_before wave time) (values_until wave time) wave.probes.clock)
     (not (is_active (values_before wave time) wave.probes.reset)) edge in
     let clock = and_parts (is_zero (bits_of (values_before wave time) wave.probes.clock))
@@ -390,5 +390,6 @@ beat-at wave needs time beat are now edge looked told whole =
           (not-true (is_active (values_before wave time) wave.probes.reset) outside.1);
       shows = shown-by wave needs beat (subst (λ (n : ℕ). NeedsAre wave n needs) (sym now) are)
           (subst (λ (n : ℕ). tells needs (values_before wave n) beat.channel ≡ true) (sym now) told);
+      joined = subst (λ (n : ℕ). IsJoinedUntil wave n) (sym now) joined;
       whole = subst (λ (n : ℕ). is_whole wave.cut n ≡ true) (sym now) whole;
     }

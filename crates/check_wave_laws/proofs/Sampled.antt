@@ -1,19 +1,20 @@
 -- The rows of what happens in a dump are those of its beats.
-use Rattle.std.proofs.Common.{◌≡◌, ◌∙◌, ℕ, ◌<◌, ◌≤◌, ◌⊎◌, inl, inr, ◌==◌, ◌||◌, Bool, true, false, cond, not, nat_le, List, [], ◌∷◌, ◌++◌, slice_get, Contains, Option, None, Some, is_none, ap, arith, append_assoc, refl, subst, sym}
+use Rattle.std.proofs.Common.{◌≡◌, ◌∙◌, ℕ, zero, suc, ◌<◌, ◌≤◌, ◌⊎◌, inl, inr, ◌==◌, ◌||◌, Bool, true, false, cond, not, nat_le, List, [], ◌∷◌, ◌++◌, length, get_or, slice_get, Contains, Option, None, Some, is_none, ap, arith, append_assoc, refl, subst, sym}
 use Rattle.std.specs.Prelude.{⊤, ◌↔◌}
 use Rattle.std.proofs.lemmas.Bool.{and_from, and_parts, both_ways, cases_lt, cond-false, cond-true, eq-eqb, le-leb, leb-true, ne_eqb, not-true}
 use Rattle.std.proofs.lemmas.List.Elements.{Contains-append_cases, Contains-append_left, Contains-append_right}
-use Rattle.check_vcd.specs.Body.{Happens, At, Sets, Wrong}
+use Rattle.check_vcd.specs.Body.{Happens, At, Sets, Resumes, Wrong}
 use Rattle.check_samples.specs.Digits.{bits_of}
 use Rattle.check_samples.specs.Edges.{edge_fault, needs_of, no_edges, with_edge}
-use Rattle.check_samples.specs.Left.{end_in, end_of_edges}
+use Rattle.check_vcd.specs.declared.fault.Mistake.TheVariants.{Gap}
+use Rattle.check_samples.specs.Left.{BeforeLine, end_in, end_of_edges}
 use Rattle.check_samples.specs.Rows.{Probes, Rows, and_then, has_edge, is_active, is_one, is_zero, no_rows, rises, rows_of, some_crosses}
 use Rattle.check_samples.specs.Sampling.{Sampling, at_time, edges_now, edges_when, is_at, is_time, rows_from, rows_now, rows_when, with_value}
 use Rattle.check_samples.specs.declared.edges.Edges.{Edges}
 use Rattle.check_samples.specs.declared.edges.Needs.{Needs}
 use Rattle.check_samples.specs.declared.reset.Reset.{Reset}
-use Rattle.check_wave_laws.specs.Sampled.{AreInOrder, AreSampled, EdgesAre, EndsSampled, HasEdge, StandsBelow, IsSampledBeat, NeverFalls, Precedes, SampledBeat, ValueChange, WasReset, Wave, active_in, always, changes_after, crossed_in, cut_after, is_before, is_until, is_whole, masked_in, outside_in, sampled_rows, values_after, values_before, values_until, wave_of}
-use Rattle.check_wave_laws.proofs.Changes.{EachTime, IsFrom, IsLess, IsUpTo, before-past, before-until, changes-from, each-push, each-weaker, from-before, from-until, now-push, until-before, until-past, up-to-before, up-to-next, up-to-self, up-to-until, value-kept, values-none, whole-before}
+use Rattle.check_wave_laws.specs.Sampled.{AreInOrder, AreSampled, EdgesAre, EndsSampled, HasEdge, HasNoGap, StandsBelow, MayLose, IsJoinedUntil, IsSampledBeat, NeverFalls, Precedes, SampledBeat, ValueChange, WasReset, Wave, active_in, always, changes_after, crossed_in, cut_after, gaps_after, is_before, is_until, is_whole, masked_in, outside_in, sampled_rows, values_after, values_before, values_until, wave_of}
+use Rattle.check_wave_laws.proofs.Changes.{EachTime, IsFrom, IsLess, IsUpTo, before-past, before-until, changes-from, each-push, each-weaker, from-before, from-until, gaps-from, now-push, until-before, until-past, up-to-before, up-to-next, up-to-self, up-to-until, value-kept, values-none, whole-before}
 use Rattle.check_wave_laws.proofs.Edges.{NeedsAre, beat-at, crossed-at, crossing, crossing-all, crossing-each, crossing-order, crossing-rows, Crosses, edge-at, no-beat, no-edge, none-there, or-right, order-append, rows-append}
 
 -- ---- the beats of some times
@@ -98,6 +99,7 @@ record Ends (wave : Wave) (time next : Option ℕ) : Type 0 where
   changes : wave.changes ≡ past ++ later
   until : EachTime (IsUpTo time) past
   gap : (early : ℕ) → StandsBelow next early → EachTime (λ at. is_until early at ≡ false) later
+  joined : (early : ℕ) → StandsBelow next early → IsJoinedUntil wave early
   whole : (early : ℕ) → StandsBelow next early → is_whole wave.cut early ≡ true
 
 module _ (wave : Wave) (time next : Option ℕ) (ends : Ends wave time next) where
@@ -278,7 +280,8 @@ module _ (wave : Wave) (time : ℕ) (next : Option ℕ) (ends : Ends wave (Some 
           let looked : slice_get wave.probes.channels beat.place ≡ Some beat.channel =
           subst (λ (n : ℕ). slice_get wave.probes.channels n ≡ Some beat.channel) place one.is in
           record {
-            is = beat-at wave needs time beat are one.now edge looked one.crossed (ends.whole time below);
+            is = beat-at wave needs time beat are one.now edge looked one.crossed (ends.joined time below)
+                (ends.whole time below);
             since = omega (arith, one.now);
             before = subst (λ (n : ℕ). StandsBelow next n) (sym one.now) below;
           }
@@ -405,6 +408,9 @@ record Runs (wave : Wave) (time : Option ℕ) (rest : List Happens) (s : Samplin
   sampler : IsSampler wave time past s
   changes : wave.changes ≡ past ++ changes_after time rest
   cut : wave.cut ≡ cut_after time rest
+  gone : List (Option ℕ)
+  gaps : wave.gaps ≡ gone ++ gaps_after time rest
+  joined : (gap : Option ℕ) → Contains gone gap → MayLose wave gap → ⊥
   until : EachTime (IsUpTo time) past
   rises : NeverFalls time rest
 
@@ -424,8 +430,14 @@ last-ends wave time s runs = record {
   changes = runs.changes;
   until = runs.until;
   gap = λ early below. tt;
+  joined = λ early below gap has until is. go gap (Contains-append_cases runs.gone [] gap
+      (subst (λ (gs : List (Option ℕ)). Contains gs gap) runs.gaps has)) is;
   whole = λ early below. ap (λ (cut : Option (Option ℕ)). is_whole cut early) runs.cut;
 }
+  where
+    go : (gap : Option ℕ) → Contains runs.gone gap ⊎ Contains [] gap → MayLose wave gap → ⊥
+    go gap (inl past) is = runs.joined gap past is
+    go gap (inr none) is = omega (arith, none.1)
 
 runs-out : (wave : Wave) (time : Option ℕ) (s : Sampling) → Runs wave time [] s → HasBeats wave time None (rows_now s)
 unfolding last-ends
@@ -447,6 +459,16 @@ runs-cut wave time cut = no-beats wave time None (λ beat within. go time cut be
 -- a later time begins
 module _ (wave : Wave) (time : Option ℕ) (next : ℕ) (happens : List Happens) (s : Sampling)
     (runs : Runs wave time (At next ∷ happens) s) (less : IsLess time next) where
+  later-joined : (early : ℕ) → early < next → IsJoinedUntil wave early
+  later-joined early less gap has until is =
+      go (Contains-append_cases runs.gone (gaps_after (Some next) happens) gap
+      (subst (λ (gs : List (Option ℕ)). Contains gs gap) runs.gaps has))
+    where
+      go : Contains runs.gone gap ⊎ Contains (gaps_after (Some next) happens) gap → ⊥
+      go (inl past) = runs.joined gap past is
+      go (inr later) =
+          both_ways (is_until early gap) (from-until early next gap less (gaps-from next happens runs.rises.1 gap later)) until
+
   later-ends : Ends wave time (Some next)
   later-ends = record {
     past = runs.past;
@@ -456,6 +478,7 @@ module _ (wave : Wave) (time : Option ℕ) (next : ℕ) (happens : List Happens)
     gap = λ early below. each-weaker (IsFrom next) (λ at. is_until early at ≡ false)
         (changes_after (Some next) happens) (λ at from. from-until early next at below from)
         (changes-from next happens runs.rises.1);
+    joined = later-joined;
     whole = λ early below. ap (λ (cut : Option (Option ℕ)). is_whole cut early) runs.cut
         ∙ whole-before next happens early runs.rises.1 below;
   }
@@ -481,6 +504,9 @@ module _ (wave : Wave) (time : Option ℕ) (next : ℕ) (happens : List Happens)
     };
     changes = runs.changes;
     cut = runs.cut;
+    gone = runs.gone;
+    gaps = runs.gaps;
+    joined = runs.joined;
     until = each-weaker (IsUpTo time) (IsUpTo (Some next)) runs.past
         (λ at up. up-to-next time next at less up) runs.until;
     rises = runs.rises.1;
@@ -494,6 +520,9 @@ same-runs wave time next happens s runs same = record {
   sampler = runs.sampler;
   changes = runs.changes ∙ ap (λ (n : ℕ). runs.past ++ changes_after (Some n) happens) same;
   cut = runs.cut ∙ ap (λ (n : ℕ). cut_after (Some n) happens) same;
+  gone = runs.gone;
+  gaps = runs.gaps ∙ ap (λ (n : ℕ). runs.gone ++ gaps_after (Some n) happens) same;
+  joined = runs.joined;
   until = runs.until;
   rises = subst (λ (n : ℕ). NeverFalls (Some n) happens) same runs.rises.1;
 }
@@ -521,9 +550,68 @@ value-runs wave time slot digits happens s runs =
       };
       changes = runs.changes ∙ sym (append_assoc runs.past (change ∷ []) (changes_after time happens));
       cut = runs.cut;
+      gone = runs.gone;
+      gaps = runs.gaps;
+      joined = runs.joined;
       until = each-push (IsUpTo time) runs.past change runs.until (up-to-self time);
       rises = runs.rises;
     }
+
+-- changes are told again
+crossed-gap : (wave : Wave) (time : Option ℕ) (edges : Edges) → EdgesSoFar wave time edges → edges.crossed ≡ true
+    → MayLose wave time
+crossed-gap wave None edges is crossed =
+    both_ways true (sym crossed ∙ ap (λ (e : Edges). e.crossed) is) refl
+crossed-gap wave (Some time) edges is crossed = is.crossed.0 crossed
+
+gap-crossed : (wave : Wave) (time : Option ℕ) (edges : Edges) → EdgesSoFar wave time edges → MayLose wave time
+    → edges.crossed ≡ true
+gap-crossed wave None edges is gap = absurd gap
+gap-crossed wave (Some time) edges is gap = is.crossed.1 gap
+
+-- there is a gap, and so no beat behind it
+module _ (wave : Wave) (time : Option ℕ) (line : ℕ) (happens : List Happens) (s : Sampling)
+    (runs : Runs wave time (Resumes line ∷ happens) s) where
+  gap-has : Contains wave.gaps time
+  gap-has =
+      subst (λ (gs : List (Option ℕ)). Contains gs time) (sym runs.gaps)
+      (Contains-append_right runs.gone (time ∷ gaps_after time happens) time (0, omega arith, refl))
+
+  runs-apart : s.edges.crossed ≡ true → HasBeats wave time None no_rows
+  runs-apart crossed = no-beats wave time None (λ beat within. go time gap-has gap-is beat within)
+    where
+      gap-is : MayLose wave time
+      gap-is = crossed-gap wave time s.edges runs.sampler.edges crossed
+
+      go : (at : Option ℕ) → Contains wave.gaps at → MayLose wave at → (beat : SampledBeat)
+          → IsWithin wave at None beat → ⊥
+      go None has is beat within = is
+      go (Some at) has is beat within =
+          within.is.joined (Some at) has (le-leb at beat.time within.since) is
+
+  runs-on : s.edges.crossed ≡ false → Runs wave time happens s
+  runs-on none = record {
+    past = runs.past;
+    sampler = runs.sampler;
+    changes = runs.changes;
+    cut = runs.cut;
+    gone = runs.gone ++ (time ∷ []);
+    gaps = runs.gaps ∙ sym (append_assoc runs.gone (time ∷ []) (gaps_after time happens));
+    joined = λ gap has is. go gap (Contains-append_cases runs.gone (time ∷ []) gap has) is;
+    until = runs.until;
+    rises = runs.rises;
+  }
+    where
+      one : (gap : Option ℕ) (k : ℕ) → k < length (time ∷ []) → get_or (time ∷ []) k gap ≡ gap → time ≡ gap
+      one gap zero inside is = is
+      one gap (suc k) inside is = absurd (omega (arith, inside))
+
+      go : (gap : Option ℕ) → Contains runs.gone gap ⊎ Contains (time ∷ []) gap → MayLose wave gap → ⊥
+      go gap (inl past) is = runs.joined gap past is
+      go gap (inr self) is =
+          let here : MayLose wave time =
+          subst (λ (g : Option ℕ). MayLose wave g) (sym (one gap self.0 self.1 self.2)) is in
+          both_ways s.edges.crossed none (gap-crossed wave time s.edges runs.sampler.edges here)
 
 same-rows : (s : Sampling) (next : ℕ) (happens : List Happens) → is_at s next ≡ true
     → rows_from (At next ∷ happens) s ≡ rows_from happens s
@@ -577,6 +665,15 @@ time-on wave (Some time) next happens s runs more = go (cases_lt time next)
         (sym (same-rows s next happens (test ∙ eq-eqb time next (sym same))))
         (more (Some time) s (same-runs wave time next happens s runs same))
 
+resume-on : (wave : Wave) (time : Option ℕ) (line : ℕ) (happens : List Happens) (s : Sampling)
+    → Runs wave time (Resumes line ∷ happens) s → Continues wave happens
+    → HasBeats wave time None (cond s.edges.crossed no_rows (rows_from happens s))
+resume-on wave time line happens s runs more = go s.edges.crossed refl
+  where
+    go : (t : Bool) → s.edges.crossed ≡ t → HasBeats wave time None (cond t no_rows (rows_from happens s))
+    go true crossed = runs-apart wave time line happens s runs crossed
+    go false none = more time s (runs-on wave time line happens s runs none)
+
 from-beats : (wave : Wave) (happens : List Happens) (time : Option ℕ) (s : Sampling) → Runs wave time happens s
     → HasBeats wave time None (rows_from happens s)
 unfolding rows_from
@@ -584,6 +681,7 @@ from-beats wave [] time s runs = runs-out wave time s runs
 from-beats wave (At next ∷ happens) time s runs = time-on wave time next happens s runs (from-beats wave happens)
 from-beats wave (Sets slot digits ∷ happens) time s runs =
     from-beats wave happens time (with_value s slot digits) (value-runs wave time slot digits happens s runs)
+from-beats wave (Resumes line ∷ happens) time s runs = resume-on wave time line happens s runs (from-beats wave happens)
 from-beats wave (Wrong line mistake ∷ happens) time s runs = runs-cut wave time runs.cut
 
 -- before anything has happened
@@ -603,6 +701,9 @@ first-runs happens s none edgeless rises =
       };
       changes = refl;
       cut = refl;
+      gone = [];
+      gaps = refl;
+      joined = λ gap has. absurd (omega (arith, has.1));
       until = tt;
       rises = rises;
     }
@@ -661,22 +762,36 @@ time-ends wave (Some time) next happens s runs more = go (cases_lt time next)
         (sym (at-same s next (test ∙ eq-eqb time next (sym same))))
         (more (Some time) s (same-runs wave time next happens s runs same))
 
-from-ends : (wave : Wave) (happens : List Happens) → wave.cut ≡ None → Concludes wave happens
+resume-ends : (wave : Wave) (time : Option ℕ) (line : ℕ) (happens : List Happens) (s : Sampling) → HasNoGap wave
+    → Runs wave time (Resumes line ∷ happens) s → Concludes wave happens
+    → EndsSampled wave (cond s.edges.crossed (BeforeLine line Gap) (end_in happens s))
+resume-ends wave time line happens s joined runs more = go s.edges.crossed refl
+  where
+    go : (t : Bool) → s.edges.crossed ≡ t → EndsSampled wave (cond t (BeforeLine line Gap) (end_in happens s))
+    go true crossed =
+        absurd (joined time (gap-has wave time line happens s runs)
+        (crossed-gap wave time s.edges runs.sampler.edges crossed))
+    go false none = more time s (runs-on wave time line happens s runs none)
+
+from-ends : (wave : Wave) (happens : List Happens) → wave.cut ≡ None → HasNoGap wave → Concludes wave happens
 unfolding end_in last-ends
-from-ends wave [] whole time s runs = record {
+from-ends wave [] whole joined time s runs = record {
   edges = edges_now s;
   are = edges-next wave time None (last-ends wave time s runs) s runs.sampler (now-below-none time);
   is = ap (λ (p : Probes). end_of_edges (edge_fault p.reset (edges_now s))) runs.sampler.probes;
 }
-from-ends wave (At next ∷ happens) whole time s runs =
-    time-ends wave time next happens s runs (from-ends wave happens whole)
-from-ends wave (Sets slot digits ∷ happens) whole time s runs =
-    from-ends wave happens whole time (with_value s slot digits) (value-runs wave time slot digits happens s runs)
-from-ends wave (Wrong line mistake ∷ happens) whole time s runs =
+from-ends wave (At next ∷ happens) whole joined time s runs =
+    time-ends wave time next happens s runs (from-ends wave happens whole joined)
+from-ends wave (Sets slot digits ∷ happens) whole joined time s runs =
+    from-ends wave happens whole joined time (with_value s slot digits) (value-runs wave time slot digits happens s runs)
+from-ends wave (Resumes line ∷ happens) whole joined time s runs =
+    resume-ends wave time line happens s joined runs (from-ends wave happens whole joined)
+from-ends wave (Wrong line mistake ∷ happens) whole joined time s runs =
     let both : ◌≡◌ {A = Option (Option ℕ)} None (Some time) = sym whole ∙ runs.cut in absurd (cc)
 
 pub ends-sampled : (happens : List Happens) (s : Sampling) → s.time ≡ None → s.edges ≡ no_edges
-    → NeverFalls None happens → cut_after None happens ≡ None
+    → NeverFalls None happens → cut_after None happens ≡ None → HasNoGap (wave_of s.probes s.now s.widths happens)
     → EndsSampled (wave_of s.probes s.now s.widths happens) (end_in happens s)
-ends-sampled happens s none edgeless rises whole =
-    from-ends (wave_of s.probes s.now s.widths happens) happens whole None s (first-runs happens s none edgeless rises)
+ends-sampled happens s none edgeless rises whole joined =
+    from-ends (wave_of s.probes s.now s.widths happens) happens whole joined None s
+    (first-runs happens s none edgeless rises)

@@ -3,7 +3,7 @@ use Rattle.std.proofs.Common.{◌≡◌, ◌∙◌, ℕ, ◌-◌, ◌⊎◌, inl
 use Rattle.std.specs.Prelude.{⊤}
 use Rattle.std.proofs.lemmas.Bool.{le-leb, ltb-false}
 use Rattle.tl_text.specs.Number.{number_of}
-use Rattle.check_vcd.specs.Body.{At, Body, Fails, Find, Gives, Goes, Happens, Sets, Step, Wrong, begun_by, changed, changed_to, falls, followed, happenings, passed, passed_to, set, start, step_at, step_of, timed, timed_at, with_bit, with_digits}
+use Rattle.check_vcd.specs.Body.{At, Body, Fails, Find, Gives, Goes, Happens, Resumes, Sets, Step, Wrong, begun_by, changed, changed_to, falls, followed, happenings, passed, passed_to, resumed, set, start, step_at, step_of, timed, timed_at, with_bit, with_digits}
 use Rattle.check_vcd.specs.Header.{Var}
 use Rattle.check_vcd.specs.Token.{are_bits, is_end, token_kind}
 use Rattle.check_vcd.specs.Words.{Word}
@@ -19,7 +19,7 @@ use Rattle.check_samples.specs.Left.{end_in}
 use Rattle.check_samples.specs.Rows.{Rows}
 use Rattle.check_samples.specs.Sampling.{Sampling, rows_from}
 use Rattle.check_signals.specs.Found.{Found, digits_in, find_of, sampling_of, width_in}
-use Rattle.check_wave_laws.specs.Sampled.{AreInOrder, AreSampled, EndsSampled, SampledBeat, NeverFalls, Precedes, Wave, cut_after, is_until, sampled_rows, wave_of}
+use Rattle.check_wave_laws.specs.Sampled.{AreInOrder, AreSampled, EndsSampled, HasNoGap, SampledBeat, NeverFalls, Precedes, Wave, cut_after, is_until, sampled_rows, wave_of}
 use Rattle.check_wave_laws.proofs.Edges.{here, here-or-there, none-there, there}
 use Rattle.check_wave_laws.proofs.Sampled.{ends-sampled, sampled}
 
@@ -30,6 +30,7 @@ abbrev StepRises : Option ℕ → Step → Type 0
 StepRises time (Goes body) = body.time ≡ time
 StepRises time (Gives body (At next)) = (is_until next time ≡ true) × (body.time ≡ Some next)
 StepRises time (Gives body (Sets slot digits)) = body.time ≡ time
+StepRises time (Gives body (Resumes line)) = body.time ≡ time
 StepRises time (Gives body (Wrong line mistake)) = ⊤
 StepRises time (Fails mistake) = ⊤
 
@@ -80,27 +81,37 @@ module _ (find : Find) where
       go true = tt
       go false = refl
 
-  begun-rises : (which : TokenKind) (body : Body) (size first : ℕ) (rest : List ℕ)
-      → StepRises body.time (begun_by which find body size first rest)
-  begun-rises kind.Scalar body size first rest = changed-rises (with_bit body first) rest
-  begun-rises kind.Vector body size first rest = digits-rise body rest (size - 1)
-  begun-rises kind.Time body size first rest = timed-rises body rest
-  begun-rises kind.Other body size first rest = refl
-  begun-rises kind.Comment body size first rest = refl
-  begun-rises kind.Ignored body size first rest = refl
-  begun-rises kind.Unknown body size first rest = tt
+  resumed-rises : (body : Body) (line : ℕ) → StepRises body.time (resumed body line)
+  resumed-rises body line = go body.is_off
+    where
+      go : (t : Bool) → StepRises body.time (cond t (Gives (record body { is_off = false }) (Resumes line)) (Goes body))
+      go true = refl
+      go false = refl
 
-  word-rises : (place : BodyPlace) (body : Body) (size : ℕ) (word : List ℕ)
-      → StepRises body.time (step_at place find body size word)
-  word-rises Plain body size [] = tt
-  word-rises Plain body size (first ∷ rest) = begun-rises (token_kind first (first ∷ rest)) body size first rest
-  word-rises InComment body size word = go (is_end word)
+  begun-rises : (which : TokenKind) (body : Body) (line size first : ℕ) (rest : List ℕ)
+      → StepRises body.time (begun_by which find body line size first rest)
+  begun-rises kind.Scalar body line size first rest = changed-rises (with_bit body first) rest
+  begun-rises kind.Vector body line size first rest = digits-rise body rest (size - 1)
+  begun-rises kind.Time body line size first rest = timed-rises body rest
+  begun-rises kind.Other body line size first rest = refl
+  begun-rises kind.Comment body line size first rest = refl
+  begun-rises kind.Ignored body line size first rest = refl
+  begun-rises kind.Off body line size first rest = refl
+  begun-rises kind.On body line size first rest = resumed-rises body line
+  begun-rises kind.Unknown body line size first rest = tt
+
+  word-rises : (place : BodyPlace) (body : Body) (line size : ℕ) (word : List ℕ)
+      → StepRises body.time (step_at place find body line size word)
+  word-rises Plain body line size [] = tt
+  word-rises Plain body line size (first ∷ rest) =
+      begun-rises (token_kind first (first ∷ rest)) body line size first rest
+  word-rises InComment body line size word = go (is_end word)
     where
       go : (t : Bool) → (cond t (record body { place = Plain }) body).time ≡ body.time
       go true = refl
       go false = refl
-  word-rises BehindVector body size word = changed-rises (record body { place = Plain }) word
-  word-rises BehindOther body size word = passed-rises (record body { place = Plain }) word
+  word-rises BehindVector body line size word = changed-rises (record body { place = Plain }) word
+  word-rises BehindOther body line size word = passed-rises (record body { place = Plain }) word
 
   followed-rises : (time : Option ℕ) (step : Step) (line : ℕ) (others : Body → List Happens) → StepRises time step
       → ((body : Body) → NeverFalls body.time (others body)) → NeverFalls time (followed step line others)
@@ -110,6 +121,8 @@ module _ (find : Find) where
       (rises.0, subst (λ (t : Option ℕ). NeverFalls t (others body)) rises.1 (more body))
   followed-rises time (Gives body (Sets slot digits)) line others rises more =
       subst (λ (t : Option ℕ). NeverFalls t (others body)) rises (more body)
+  followed-rises time (Gives body (Resumes at)) line others rises more =
+      subst (λ (t : Option ℕ). NeverFalls t (others body)) rises (more body)
   followed-rises time (Gives body (Wrong at mistake)) line others rises more = tt
   followed-rises time (Fails mistake) line others rises more = tt
 
@@ -117,8 +130,8 @@ module _ (find : Find) where
   unfolding happenings
   never-falls [] body = tt
   never-falls (word ∷ words) body =
-      followed-rises body.time (step_of find body word.size word.bytes) word.line (happenings find words)
-      (word-rises body.place body word.size word.bytes) (λ next. never-falls words next)
+      followed-rises body.time (step_of find body word.line word.size word.bytes) word.line (happenings find words)
+      (word-rises body.place body word.line word.size word.bytes) (λ next. never-falls words next)
 
 pub dump-sampled : (find : Find) (words : List Word) (s : Sampling) → s.time ≡ None → s.edges ≡ no_edges
     → AreSampled (wave_of s.probes s.now s.widths (happenings find words start))
@@ -135,12 +148,14 @@ system-sampled vars words found = dump-sampled (find_of vars found) words (sampl
 -- how whole dumps end
 pub system-ends : (vars : List Var) (words : List Word) (found : Found)
     → cut_after None (happenings (find_of vars found) words start) ≡ None
+    → HasNoGap (wave_of found.probes (map digits_in found.kept) (map width_in found.kept)
+    (happenings (find_of vars found) words start))
     → EndsSampled (wave_of found.probes (map digits_in found.kept) (map width_in found.kept)
     (happenings (find_of vars found) words start))
     (end_in (happenings (find_of vars found) words start) (sampling_of found))
-system-ends vars words found whole =
+system-ends vars words found whole joined =
     ends-sampled (happenings (find_of vars found) words start) (sampling_of found) refl refl
-    (never-falls (find_of vars found) words start) whole
+    (never-falls (find_of vars found) words start) whole joined
 
 -- ---- no other rows
 

@@ -3,7 +3,7 @@ use Rattle.std.proofs.Common.{◌≡◌, ◌∙◌, ℕ, zero, suc, ◌+◌, ◌
 use Rattle.std.specs.Option.{IfSome}
 use Rattle.std.proofs.lemmas.Bool.{and_from, le-leb}
 use Rattle.std.proofs.lemmas.List.{length-replicate, map-set, set-get_or}
-use Rattle.check_vcd.specs.Body.{At, Happens, Sets, Wrong}
+use Rattle.check_vcd.specs.Body.{At, Happens, Resumes, Sets, Wrong}
 use Rattle.check_beats.specs.declared.bus.Bus.{Bus}
 use Rattle.check_rows.specs.Buses.{bus_of_link}
 use Rattle.check_rows.specs.Row.{SeenRow}
@@ -287,4 +287,10 @@ module _ (masters ports : List Bus) (few_masters : length masters < 2 ^ 64) (few
       readable-same s next (rows_from happens next).text (value-same s slot digits)
       (readable-from happens next (value-fits masters ports s slot digits fits all.0)
       (subst (λ (ws : List ℕ). HappensFit ws happens) (value-same s slot digits).widths all.1))
+  readable-from (Resumes line ∷ happens) s fits all = by-gap s.edges.crossed (readable-from happens s fits all)
+    where
+      by-gap : (t : Bool) → Readable masters ports s.probes.channels (rows_from happens s).text
+          → Readable masters ports s.probes.channels (cond t no_rows (rows_from happens s)).text
+      by-gap true more = readable-none masters ports s.probes.channels
+      by-gap false more = more
   readable-from (Wrong line mistake ∷ happens) s fits all = readable-none masters ports s.probes.channels

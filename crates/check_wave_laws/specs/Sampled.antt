@@ -2,7 +2,7 @@
 -- project's own. A row has the values before the edge, since these are what a register takes at it.
 use Rattle.std.specs.Prelude.{◌≡◌, ◌⊎◌, ◌↔◌, ℕ, ◌<◌, ◌==◌, Bool, true, false, ◌&&◌, not, nat_le, nat_lt, ⊤, List, [], ◌∷◌, length, get_or, map, filter, slice_get, Option, None, Some, Contains, if◌then◌else◌}
 use Rattle.std.specs.List.{last_or, range_with_len}
-use Rattle.check_vcd.specs.Body.{Happens, At, Sets, Wrong}
+use Rattle.check_vcd.specs.Body.{Happens, At, Sets, Resumes, Wrong}
 use Rattle.check_samples.specs.Digits.{bits_of, extended}
 use Rattle.check_samples.specs.Edges.{edge_fault}
 use Rattle.check_samples.specs.Left.{End, end_of_edges}
@@ -26,13 +26,23 @@ changes_after time [] = []
 changes_after time (At next ∷ happens) = changes_after (Some next) happens
 changes_after time (Sets slot digits ∷ happens) =
     record { time = time; slot = slot; digits = digits } ∷ changes_after time happens
+changes_after time (Resumes line ∷ happens) = changes_after time happens
 changes_after time (Wrong line mistake ∷ happens) = []
+
+-- the times at which changes are told again, after they were not
+abbrev pub gaps_after : Option ℕ → List Happens → List (Option ℕ)
+gaps_after time [] = []
+gaps_after time (At next ∷ happens) = gaps_after (Some next) happens
+gaps_after time (Sets slot digits ∷ happens) = gaps_after time happens
+gaps_after time (Resumes line ∷ happens) = time ∷ gaps_after time happens
+gaps_after time (Wrong line mistake ∷ happens) = []
 
 -- if a line is wrong: the time at which it stands, or none if it stands before the first
 abbrev pub cut_after : Option ℕ → List Happens → Option (Option ℕ)
 cut_after time [] = None
 cut_after time (At next ∷ happens) = cut_after (Some next) happens
 cut_after time (Sets slot digits ∷ happens) = cut_after time happens
+cut_after time (Resumes line ∷ happens) = cut_after time happens
 cut_after time (Wrong line mistake ∷ happens) = Some time
 
 -- at an earlier time, and at this time or an earlier one; what stands before the first time is earlier than each
@@ -49,17 +59,20 @@ abbrev pub NeverFalls : Option ℕ → List Happens → Type 0
 NeverFalls time [] = ⊤
 NeverFalls time (At next ∷ happens) = (is_until next time ≡ true) × NeverFalls (Some next) happens
 NeverFalls time (Sets slot digits ∷ happens) = NeverFalls time happens
+NeverFalls time (Resumes line ∷ happens) = NeverFalls time happens
 NeverFalls time (Wrong line mistake ∷ happens) = ⊤
 
 -- ---- values
 
 -- a dump: what is looked at; the digits of each slot before its first change, and how many bits it has; all
--- changes; and the time at which a line is wrong, if one is
+-- changes; the times at which changes are told again, after they were not; and the time at which a line is wrong, if one
+-- is
 pub record Wave : Type 0 where
   pub probes : Probes
   pub first : List (List ℕ)
   pub widths : List ℕ
   pub changes : List ValueChange
+  pub gaps : List (Option ℕ)
   pub cut : Option (Option ℕ)
 
 abbrev pub wave_of : Probes → List (List ℕ) → List ℕ → List Happens → Wave
@@ -68,6 +81,7 @@ wave_of probes first widths happens = record {
   first = first;
   widths = widths;
   changes = changes_after None happens;
+  gaps = gaps_after None happens;
   cut = cut_after None happens;
 }
 
@@ -144,6 +158,19 @@ pub record EdgesAre (wave : Wave) (below : Option ℕ) (edges : Edges) : Type 0 
 abbrev pub WasReset : Wave → ℕ → Type 0
 WasReset wave time = HasEdge wave (active_in wave) (Some time)
 
+-- where changes are told again there is a gap, if a beat crossed at an earlier time
+abbrev pub MayLose : Wave → Option ℕ → Type 0
+MayLose wave None = ⊥
+MayLose wave (Some time) = HasEdge wave (crossed_in wave) (Some time)
+
+abbrev pub HasNoGap : Wave → Type 0
+HasNoGap wave = (gap : Option ℕ) → Contains wave.gaps gap → MayLose wave gap → ⊥
+
+-- up to the end of a time there is none
+abbrev pub IsJoinedUntil : Wave → ℕ → Type 0
+IsJoinedUntil wave time =
+    (gap : Option ℕ) → Contains wave.gaps gap → is_until time gap ≡ true → MayLose wave gap → ⊥
+
 -- a channel at a time, with its place among those that are looked at
 pub record SampledBeat : Type 0 where
   pub time : ℕ
@@ -167,13 +194,15 @@ pub record HidesReady (wave : Wave) (beat : SampledBeat) : Type 0 where
   pub ready : is_unsure (bits_of (values_before wave beat.time) beat.channel.ready) ≡ true
 
 -- it is a beat, or it is not known whether it is one: the clock was 0 before the time and is 1 at its end, the reset was
--- not active before it, valid and ready were 1 before it or one of them is hidden, and no line is wrong up to its end
+-- not active before it, valid and ready were 1 before it or one of them is hidden, and up to its end there is no gap and
+-- no line is wrong
 pub record IsSampledBeat (wave : Wave) (beat : SampledBeat) : Type 0 where
   pub looked : slice_get wave.probes.channels beat.place ≡ Some beat.channel
   pub low : is_zero (bits_of (values_before wave beat.time) wave.probes.clock) ≡ true
   pub high : is_one (bits_of (values_until wave beat.time) wave.probes.clock) ≡ true
   pub running : is_active (values_before wave beat.time) wave.probes.reset ≡ false
   pub shows : Meets wave beat ⊎ (HidesValid wave beat ⊎ HidesReady wave beat)
+  pub joined : IsJoinedUntil wave beat.time
   pub whole : is_whole wave.cut beat.time ≡ true
 
 -- what is hidden of a channel at which no beat crosses: ready if valid is 1, and else valid

@@ -1,6 +1,6 @@
 -- Whole texts of rows, and the dumps whose rows they are. It is this project's own.
 use Rattle.std.specs.Prelude.{◌≡◌, ℕ, ◌+◌, ◌-◌, ◌*◌, ◌^◌, ◌≤◌, ◌<◌, true, ⊤, List, [], ◌∷◌, ◌++◌, get_or, length, map, Some, Contains, IfSome}
-use Rattle.check_vcd.specs.Body.{Find, Happens, At, Sets, Wrong}
+use Rattle.check_vcd.specs.Body.{Find, Happens, At, Sets, Resumes, Wrong}
 use Rattle.check_vcd.specs.declared.codes.Coded.{Coded}
 use Rattle.check_beats.specs.declared.bus.Bus.{Bus}
 use Rattle.check_rows.specs.Buses.{IsLinkOf, bus_of_link}
@@ -91,6 +91,7 @@ abbrev pub HappensFit : List ℕ → List Happens → Type 0
 HappensFit widths [] = ⊤
 HappensFit widths (At time ∷ happens) = (time < 2 ^ 64) × HappensFit widths happens
 HappensFit widths (Sets slot digits ∷ happens) = (length digits ≤ get_or widths slot 0) × HappensFit widths happens
+HappensFit widths (Resumes line ∷ happens) = HappensFit widths happens
 HappensFit widths (Wrong line mistake ∷ happens) = ⊤
 
 -- no identifier that is kept has more bits than its slot

@@ -16,7 +16,7 @@ ghost use Rattle.check_samples.specs.declared.channel.Channel.{Channel};
 ghost use Rattle.check_signals.specs.Found.{Found, digits_in, find_of, found_in, sampling_of, width_in};
 ghost use Rattle.check_signals.specs.Names.{SignalNames, names_of_file};
 ghost use Rattle.check_wave_laws.specs.Rows.{IsRow};
-ghost use Rattle.check_wave_laws.specs.Sampled.{AreSampled, EndsSampled, NeverFalls, Wave, cut_after, wave_of};
+ghost use Rattle.check_wave_laws.specs.Sampled.{AreSampled, EndsSampled, HasNoGap, NeverFalls, Wave, cut_after, wave_of};
 ghost use Rattle.check_wave_laws.specs.Seen.{BeatFits, row_of_channel};
 ghost use Rattle.check_wave_laws.specs.Text.{FindFits, HasRows, SamplingFits};
 
@@ -61,8 +61,8 @@ pub fn names_are_of_links()
 /// The rows of what happens in a dump are those of its beats, each once, by time and within a time in the order of the
 /// channels. A channel has a beat at a time exactly if the clock was 0 before the time and is 1 at its end, the reset was
 /// not active before it, and valid and ready were 1 before it. What a signal was before a time is its last change at an
-/// earlier time, and so it stands in the row. Rows end where a valid or a ready has to be known and is not. Times may not
-/// fall.
+/// earlier time, and so it stands in the row. Rows end where a valid or a ready has to be known and is not, and where
+/// changes are told again that were not, if a beat crossed at an earlier time. Times may not fall.
 pub fn rows_are_sampled()
     ensures { (happens : List Happens) (s : Sampling) → s.time ≡ None → s.edges ≡ no_edges → NeverFalls None happens
         → AreSampled (wave_of s.probes s.now s.widths happens) (rows_from happens s) }
@@ -83,11 +83,13 @@ pub fn systems_are_sampled()
         (rows_from (happenings (find_of vars found) words start) (sampling_of found)) }
 {}
 
-/// A dump with no wrong line ends as its edges say: the clock never rises exactly if there is no time before which it was 0
+/// A dump with no wrong line and no gap ends as its edges say: the clock never rises exactly if there is no time before which it was 0
 /// and at whose end it is 1, and so it is with edges outside of reset and with beats in it.
 pub fn dumps_end_by_their_edges()
     ensures { (vars : List Var) (words : List Word) (found : Found)
         → cut_after None (happenings (find_of vars found) words start) ≡ None
+        → HasNoGap (wave_of found.probes (map digits_in found.kept) (map width_in found.kept)
+        (happenings (find_of vars found) words start))
         → EndsSampled (wave_of found.probes (map digits_in found.kept) (map width_in found.kept)
         (happenings (find_of vars found) words start))
         (end_in (happenings (find_of vars found) words start) (sampling_of found)) }

@@ -3,7 +3,7 @@ use Rattle.std.specs.Option.{IfSome}
 use Rattle.check_vcd.specs.Dump.{happens_in}
 use Rattle.check_samples.specs.Faults.{of_sample}
 use Rattle.check_samples.specs.Left.{Stops}
-use Rattle.check_samples.proofs.LeftLemmas.{ends, fails-by, goes-on, stops-ending, stops-over, stops-reading}
+use Rattle.check_samples.proofs.LeftLemmas.{ends, fails-by, goes-on, stops-ending, stops-over, stops-reading, stops-taking}
 use Rattle.check_samples.proofs.rows.Rows.read.Goals as goal
 
 pub returns-in_ok-take-in-Ok-Some-clause-ok : goal.returns-in_ok-take-in-Ok-Some-clause-ok
@@ -14,7 +14,20 @@ returns-in_ok-take-in-Ok-Some-clause-ok g c =
     (goes-on (happens_in inside.dump) (happens_in dump) inside.sampler c.take.new.self c.args.text.now.items
     c.take.new.text.items tt c.in-Ok-Some.event dump.body.value
     (rw c.in-Ok-Some.field-0-is at c.in-Ok-Some.ensures.ok) (rw c.value.ensures at c.in_ok-take-in-Ok-Some.ensures.rows)
-    (rw c.value.ensures at c.in_ok-take-in-Ok-Some.ensures.state))
+    (rw c.value.ensures at c.in_ok-take-in-Ok-Some.ensures.state) c.in_ok-take-in-Ok-Some.ensures.gap)
+
+pub returns-in_err-take-in-Ok-Some-clause-fault : goal.returns-in_err-take-in-Ok-Some-clause-fault
+returns-in_err-take-in-Ok-Some-clause-fault g c =
+    let fault = c.in_err-take-in-Ok-Some.field-0.0 in
+    let inside = c.self.inside in
+    let old = c.args.text.now.items in
+    let new = c.take.new.text.items in
+    let dump = c.read.new.self in
+    fails-by c.from_residual.result (of_sample fault)
+    (λ f. IfSome c.args.self.now (Stops f old new)) c.from_residual.ensures.1
+    (rw (← c.self.view_is) (stops-taking (happens_in inside.dump) (happens_in dump) inside.sampler c.take.new.self old new
+    fault c.in-Ok-Some.event dump.body.value (rw c.in-Ok-Some.field-0-is at c.in-Ok-Some.ensures.ok)
+    (rw c.value.ensures at c.in_err-take-in-Ok-Some.ensures.rows) c.in_err-take-in-Ok-Some.ensures.gap))
 
 pub returns-in_err-push_rows-in-Ok-None-clause-fault : goal.returns-in_err-push_rows-in-Ok-None-clause-fault
 returns-in_err-push_rows-in-Ok-None-clause-fault g c =

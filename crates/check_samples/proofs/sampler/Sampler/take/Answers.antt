@@ -1,14 +1,20 @@
--- A value changes, or a time begins.
-use Rattle.std.proofs.Common.{◌≡◌, Ok, Err, false, true, sym, ◌∙◌}
+-- A value changes, changes are told again, or a time begins.
+use Rattle.std.proofs.Common.{◌≡◌, Ok, Err, false, true, ap, sym, ◌∙◌}
 use Rattle.check_samples.specs.Rows.{Writes}
-use Rattle.check_samples.specs.Sampling.{is_at, rows_now}
-use Rattle.check_samples.proofs.TakeLemmas.{takes-none, takes-same, takes-time, takes-value}
+use Rattle.check_samples.specs.Sampling.{Sampling, is_at, rows_now}
+use Rattle.check_samples.proofs.TakeLemmas.{takes-none, takes-resume, takes-same, takes-time, takes-value}
 use Rattle.check_samples.proofs.sampler.Sampler.take.Goals as goal
 
 pub returns-in_ok-change-in-Change-clause-rows : goal.returns-in_ok-change-in-Change-clause-rows
 returns-in_ok-change-in-Change-clause-rows c = λ rest.
     rw c.in-Change.is (takes-value c.args.text.now.items c.args.self.now c.change.new.self c.in-Change.slot
     c.args.digits.now rest c.in_ok-change-in-Change.ensures)
+
+pub returns-else-self-clause-rows : goal.returns-else-self-clause-rows
+returns-else-self-clause-rows c = λ rest.
+    let joined : c.args.self.now.edges.crossed ≡ false =
+    ap (λ (s : Sampling). s.edges.crossed) (sym c.self.view_is) ∙ c.if-self.false in
+    rw c.in-Resume.is (takes-resume c.args.text.now.items c.args.self.now c.in-Resume.line rest joined)
 
 pub returns-in_ok-begin-in-Ok-clause-rows : goal.returns-in_ok-begin-in-Ok-clause-rows
 returns-in_ok-begin-in-Ok-clause-rows c = λ rest.
