@@ -1,5 +1,5 @@
 -- A dump that is opened, and the identifiers that are kept of it.
-use Rattle.std.proofs.Common.{◌≡◌, ◌≢◌, ◌∙◌, ℕ, suc, ◌+◌, ◌<◌, List, [], ◌∷◌, length, get_or, drop, drop-cons, map, add-one, Option, Some, None, Result, Ok, Err, false, IfErr, IsErrAnd, inl, inr, ap, refl, sym, subst, if◌then◌else◌}
+use Rattle.std.proofs.Common.{◌≡◌, ◌≢◌, ◌∙◌, ℕ, suc, ◌+◌, ◌<◌, List, [], ◌∷◌, length, get_or, drop, drop-cons, map, add-one, Option, Some, None, Result, Ok, Err, IfErr, IsErrAnd, inl, inr, ap, refl, sym, subst, if◌then◌else◌}
 use Rattle.std.proofs.KnownBytes.{Appends-nil}
 use Rattle.std.proofs.Math.Path.{fun_ext}
 use Rattle.std.specs.Option.{IfSome, option_map}
@@ -36,7 +36,7 @@ use Rattle.tl_streams.specs.declared.streams.ReadFault.{ReadFault}
 use Rattle.tl_streams.specs.declared.streams.ReadFault.TheVariants as read
 use Rattle.check_waves.specs.Capture.{Describes, GivesLinks, IsCapture, IsFirstSystemFault, IsNoHeader, IsOfSystem, IsOpened, IsUnopened, NotFound, found_among, rows_after, rows_found, rows_in}
 use Rattle.check_waves.specs.Links.{WaveLinks}
-use Rattle.check_waves.specs.Out.{IsOut, capture_of}
+use Rattle.check_waves.specs.Out.{EndsCapture, IsOut, capture_of}
 use Rattle.check_waves.specs.Fault.{of_dump, of_keys, of_read, of_signal, of_system}
 use Rattle.check_waves.specs.declared.fault.WaveFault.{WaveFault}
 
@@ -233,14 +233,31 @@ refused-dump (Some text) (Err e) fault links read_old read_new at is given why =
       written = Appends-nil at;
     })
 
--- the rows were written
-pub captured : (text : Option (List ℕ)) (rows : Option RowsLeft) (result : Result Unit WaveFault) (links : WaveLinks)
-    (read_old read_new old new : Option (List ℕ)) → GivesLinks read_old read_new links
-    → IfSome text (IsOpened links rows) → IfSome rows (λ left. IsOut result (capture_of left) old new)
-    → IfSome text (λ t. IsCapture read_old read_new result t old new)
-captured None rows result links read_old read_new old new given has out = tt
-captured (Some text) None result links read_old read_new old new given has out = absurd has
-captured (Some text) (Some left) (Ok done) links read_old read_new old new given has out =
-    record { links = links; given = given; left = left; has = has; out = out }
-captured (Some text) (Some left) (Err e) links read_old read_new old new given has out =
-    inr (record { links = links; given = given; left = left; has = has; out = out })
+-- the rows were written, and the capture was ended
+pub captured : (text : Option (List ℕ)) (rows : Option RowsLeft) (answer result : Result Unit WaveFault) (links : WaveLinks)
+    (read_old read_new old mid new : Option (List ℕ)) → GivesLinks read_old read_new links
+    → IfSome text (IsOpened links rows) → IfSome rows (λ left. IsOut answer (capture_of left) old mid)
+    → EndsCapture mid new answer result → IfSome text (λ t. IsCapture read_old read_new result t old new)
+captured None rows answer result links read_old read_new old mid new given has out ends = tt
+captured (Some text) None answer result links read_old read_new old mid new given has out ends = absurd has
+captured (Some text) (Some left) answer (Ok done) links read_old read_new old mid new given has out ends = record {
+  links = links;
+  given = given;
+  left = left;
+  has = has;
+  mid = mid;
+  answer = answer;
+  out = out;
+  ends = ends;
+}
+captured (Some text) (Some left) answer (Err e) links read_old read_new old mid new given has out ends =
+    inr (record {
+      links = links;
+      given = given;
+      left = left;
+      has = has;
+      mid = mid;
+      answer = answer;
+      out = out;
+      ends = ends;
+    })

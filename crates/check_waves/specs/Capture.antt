@@ -18,7 +18,7 @@ use Rattle.check_signals.specs.Source.{SearchFault, fault_view}
 use Rattle.check_signals.specs.declared.fault.KeyFault.{KeyFault}
 use Rattle.tl_streams.specs.Streams.{ReadsUpTo}
 use Rattle.check_waves.specs.Links.{WaveLinks, links_of}
-use Rattle.check_waves.specs.Out.{IsOut, capture_of}
+use Rattle.check_waves.specs.Out.{EndsCapture, IsOut, capture_of}
 use Rattle.check_waves.specs.declared.fault.WaveFault.{WaveFault}
 use Rattle.check_waves.specs.declared.fault.WaveFault.TheVariants as wave
 
@@ -133,14 +133,17 @@ pub record IsWaveRefused (read_old read_new : Option (List ℕ)) (fault : WaveFa
   pub why : IsOfSystem read_old read_new fault ⊎ IsOfDump read_old read_new fault text
   pub written : Appends old new []
 
--- the system has these links, and the capture of the text was written, as far as is answered
+-- the system has these links, and the capture of the text was written, as far as was answered, and ended so
 pub record IsWritten (read_old read_new : Option (List ℕ)) (result : Result Unit WaveFault) (text : List ℕ)
     (old new : Option (List ℕ)) : Type 0 where
   pub links : WaveLinks
   pub given : GivesLinks read_old read_new links
   pub left : RowsLeft
   pub has : rows_in links text ≡ Ok left
-  pub out : IsOut result (capture_of left) old new
+  pub mid : Option (List ℕ)
+  pub answer : Result Unit WaveFault
+  pub out : IsOut answer (capture_of left) old mid
+  pub ends : EndsCapture mid new answer result
 
 abbrev pub IsCapture : Option (List ℕ) → Option (List ℕ) → Result Unit WaveFault → List ℕ → Option (List ℕ)
     → Option (List ℕ) → Type 0

@@ -1,5 +1,5 @@
 -- Rows on their way to a writer that may tell its bytes. This project's own.
-use Rattle.std.specs.Prelude.{◌≡◌, ◌⊎◌, ℕ, Bool, true, false, List, ◌++◌, Option, Result, Ok, Err}
+use Rattle.std.specs.Prelude.{◌≡◌, ◌⊎◌, ℕ, Bool, true, false, List, [], ◌∷◌, ◌++◌, codes, Option, Result, Ok, Err}
 use Rattle.std.specs.Io.KnownBytes.{Appends}
 use Rattle.tl_streams.specs.Streams.{AppendsPart}
 use Rattle.check_rows.specs.Column.{header_line}
@@ -30,6 +30,32 @@ IsOut (Err wave.Memory) left old new = AppendsFront old new left.text
 IsOut (Err (wave.System fault)) left old new = ⊥
 IsOut (Err (wave.Keys fault)) left old new = ⊥
 IsOut (Err (wave.Signal fault)) left old new = ⊥
+
+-- ---- where rows are missing
+
+-- the line that ends a capture of which rows are missing
+abbrev pub cut_line : List ℕ
+cut_line = codes "fault" ++ (10 ∷ [])
+
+-- it is written after each fault but that of a write
+abbrev pub is_marked : Result Unit WaveFault → Bool
+is_marked (Ok done) = false
+is_marked (Err (wave.System fault)) = true
+is_marked (Err (wave.Keys fault)) = true
+is_marked (Err (wave.Signal fault)) = true
+is_marked (Err (wave.Dump line mistake)) = true
+is_marked (Err (wave.Unknown unknown)) = true
+is_marked (Err (wave.Edges why)) = true
+is_marked (Err wave.Read) = true
+is_marked (Err wave.Write) = false
+is_marked (Err wave.Memory) = true
+
+-- a capture with this answer was ended: by that line if it is to be, and the answer is the same; or that write failed
+abbrev pub EndsCapture : Option (List ℕ) → Option (List ℕ) → Result Unit WaveFault → Result Unit WaveFault → Type 0
+EndsCapture old new answer result =
+    ((is_marked answer ≡ false) × (result ≡ answer) × (new ≡ old))
+    ⊎ ((is_marked answer ≡ true)
+    × (((result ≡ answer) × Appends old new cut_line) ⊎ ((result ≡ Err wave.Write) × AppendsPart old new cut_line)))
 
 -- ---- for the proofs
 

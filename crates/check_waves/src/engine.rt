@@ -7,7 +7,7 @@ ghost use Rattle.check_samples.specs.Left.{left_in};
 ghost use Rattle.check_signals.specs.Found.{slot_one, slots_from};
 ghost use Rattle.check_waves.specs.Capture.{GivesLinks, IsCapture, IsOpened, IsUnopened};
 ghost use Rattle.check_waves.specs.Links.{links_view};
-ghost use Rattle.check_waves.specs.Out.{AppendsFront, Finishes, IsOut, IsPushed, Moves, capture_of, is_cut};
+ghost use Rattle.check_waves.specs.Out.{AppendsFront, EndsCapture, Finishes, IsOut, IsPushed, Moves, capture_of, is_cut, is_marked};
 
 use crate::fault::WaveFault;
 use crate::system::{WaveLinks, read_links};
@@ -22,6 +22,9 @@ use tl_streams::{LimitedReader, LimitedWriter, write_all};
 /// The first row of a capture.
 const HEADER: &[u8] =
     b"time,link,channel,opcode,param,size,source,address,mask,data,denied,corrupt\n";
+
+/// The last line of a capture of which rows are missing.
+const CUT: &[u8] = b"fault\n";
 
 /// How many bytes of rows are kept before they are written.
 const ROOM: usize = 32_768;
@@ -196,9 +199,33 @@ fn write_rows<D: Read + Drop, W: Write>(
     write_left(alloc, &mut rows, writer)
 }
 
+/// Whether an answer is a fault after which a line says that rows are missing.
+fn is_marked(answer: &Result<(), WaveFault>) -> bool
+    ensures { result ≡ is_marked answer.now }
+{
+    !matches!(answer, Ok(()) | Err(WaveFault::Write))
+}
+
+/// Ends a capture with this answer: after a fault by the line that says that rows are missing.
+fn end_capture<W: Write>(
+    writer: &mut LimitedWriter<'_, W>,
+    answer: Result<(), WaveFault>,
+) -> Result<(), WaveFault>
+    ensures same { writer.new.writer.ghost_name ≡ writer.old.writer.ghost_name }
+    ensures ends { EndsCapture (W.contents writer.old.writer.now) (W.contents writer.new.writer.now) answer result }
+{
+    if !is_marked(&answer) {
+        return answer;
+    }
+    match write_all(writer, CUT) {
+        Ok(()) => answer,
+        Err(_) => Err(WaveFault::Write),
+    }
+}
+
 /// Reads a system and then a dump, each to its end or first fault, and writes the capture: the header, and a row for
-/// each beat that crosses at a rising edge of the clock. Rows before a fault are written. The system is judged first,
-/// then the header of the dump, and then where its signals are.
+/// each beat that crosses at a rising edge of the clock. Rows before a fault are written, and then the line `fault`. The
+/// system is judged first, then the header of the dump, and then where its signals are.
 pub fn write_capture<S: Read, D: Read + Drop, W: Write>(
     alloc: Global,
     system: &mut S,
@@ -243,5 +270,6 @@ fn write_linked<D: Read + Drop, W: Write>(
         (W.contents writer.old.writer.now) (W.contents writer.new.writer.now)) }
 {
     let rows = open(alloc, dump, links)?;
-    write_rows(alloc, rows, writer)
+    let answer = write_rows(alloc, rows, writer);
+    end_capture(writer, answer)
 }

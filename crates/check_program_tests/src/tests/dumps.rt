@@ -56,8 +56,12 @@ const DUMP: &[u8] =
 const CAPTURE: &[u8] =
     b"time,link,channel,opcode,param,size,source,address,mask,data,denied,corrupt\n5,m0,A,1,0,0,0,0,01,0000000000000000,,\n7,m0,A,1,0,0,0,0,01,0000000000000000,,\n";
 
-/// How many bytes the first row of a capture has.
-const FIRST_ROW: usize = 76;
+/// Captures of which rows are missing: all of them, and none.
+const HEADER_CUT: &[u8] =
+    b"time,link,channel,opcode,param,size,source,address,mask,data,denied,corrupt\nfault\n";
+
+const CAPTURE_CUT: &[u8] =
+    b"time,link,channel,opcode,param,size,source,address,mask,data,denied,corrupt\n5,m0,A,1,0,0,0,0,01,0000000000000000,,\n7,m0,A,1,0,0,0,0,01,0000000000000000,,\nfault\n";
 
 /// The line and the status of a fault.
 fn line_of(rt: &impl Abort, alloc: Global, fault: &WaveFault) -> (String, u8) {
@@ -89,10 +93,10 @@ fn capture(written: &[u8]) -> End<'_> {
     }
 }
 
-/// So much of the capture is written before the fault.
-fn front(rt: &impl Abort, line: &'static str, status: u8, count: usize) -> End<'static> {
+/// So much of the capture is written before a write fails.
+fn front(rt: &impl Abort, count: usize) -> End<'static> {
     End {
-        answer: Err((line, status)),
+        answer: Err(("write failed", 5)),
         written: CAPTURE.get(..count).expect(rt, "a front"),
     }
 }
@@ -162,45 +166,52 @@ const NO_EDGE: &[u8] =
 
 #[test]
 fn a_clock_that_never_rises(rt: HostRuntime) {
-    let end = front(&rt, "tlvcd: the clock never rises", 1, FIRST_ROW);
+    let end = End {
+        answer: Err(("tlvcd: the clock never rises", 1)),
+        written: HEADER_CUT,
+    };
     expect(&rt, rt.alloc(), &without_trouble(SYSTEM, NO_EDGE), &end);
 }
 
-/// The system or the dump cannot be read, with this trouble, and so much is written before.
+/// The system or the dump cannot be read, with this trouble, and this is written.
 fn expect_unread(
     rt: &impl Abort,
     alloc: Global,
     reading_system: Trouble,
     reading_input: Trouble,
-    count: usize,
+    written: &[u8],
 ) {
     let run = Run {
         reading_system,
         reading_input,
         ..without_trouble(SYSTEM, DUMP)
     };
-    expect(rt, alloc, &run, &front(rt, "read failed", 5, count));
+    let end = End {
+        answer: Err(("read failed", 5)),
+        written,
+    };
+    expect(rt, alloc, &run, &end);
 }
 
 #[test]
 fn a_failed_read_is_read(rt: HostRuntime) {
     for at in 0..=SYSTEM.len() as u32 {
-        expect_unread(&rt, rt.alloc(), Trouble::At(at), Trouble::Never, 0);
+        expect_unread(&rt, rt.alloc(), Trouble::At(at), Trouble::Never, b"");
     }
     for at in 0..HEAD.len() as u32 {
-        expect_unread(&rt, rt.alloc(), Trouble::Never, Trouble::At(at), 0);
+        expect_unread(&rt, rt.alloc(), Trouble::Never, Trouble::At(at), b"");
     }
     // after the header its line is written; at the end all rows are there
     let behind_head = Trouble::At(HEAD.len() as u32);
-    expect_unread(&rt, rt.alloc(), Trouble::Never, behind_head, FIRST_ROW);
+    expect_unread(&rt, rt.alloc(), Trouble::Never, behind_head, HEADER_CUT);
     let at_end = Trouble::At(DUMP.len() as u32);
-    expect_unread(&rt, rt.alloc(), Trouble::Never, at_end, CAPTURE.len());
+    expect_unread(&rt, rt.alloc(), Trouble::Never, at_end, CAPTURE_CUT);
 }
 
 #[test]
 fn reads_that_are_interrupted_for_ever_are_read(rt: HostRuntime) {
     let forever = Trouble::Always(ErrorKind::Interrupted);
-    expect_unread(&rt, rt.alloc(), forever, Trouble::Never, 0);
+    expect_unread(&rt, rt.alloc(), forever, Trouble::Never, b"");
 }
 
 /// A writer with this trouble is a failed write, after so many bytes.
@@ -209,7 +220,7 @@ fn expect_front(rt: &impl Abort, alloc: Global, writing: Trouble, count: usize) 
         writing,
         ..without_trouble(SYSTEM, DUMP)
     };
-    expect(rt, alloc, &run, &front(rt, "write failed", 5, count));
+    expect(rt, alloc, &run, &front(rt, count));
 }
 
 #[test]

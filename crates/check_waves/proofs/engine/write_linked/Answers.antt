@@ -9,6 +9,7 @@ returns-in_err-rows-clause-written g c read_old read_new given =
 
 pub returns-clause-written : goal.returns-clause-written
 returns-clause-written g c read_old read_new given =
-    captured (g.D.Read.remaining c.args.dump) _ c.write_rows.result _ read_old read_new
-    (g.W.Write.contents c.args.writer.now.writer.now) (g.W.Write.contents c.write_rows.new.writer.writer.now) given
-    c.in_ok-rows.ensures.ok c.write_rows.ensures.written
+    captured (g.D.Read.remaining c.args.dump) _ c.write_rows-answer.result c.end_capture.result _ read_old read_new
+    (g.W.Write.contents c.args.writer.now.writer.now) (g.W.Write.contents c.write_rows-answer.new.writer.writer.now)
+    (g.W.Write.contents c.end_capture.new.writer.writer.now) given c.in_ok-rows.ensures.ok
+    c.write_rows-answer.ensures.written c.end_capture.ensures.ends
