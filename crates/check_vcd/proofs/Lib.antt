@@ -4,3 +4,4 @@ pub mod ScannerLemmas
 pub mod LeftLemmas
 pub mod CodeLemmas
 pub mod DumpLemmas
+pub mod DigitLemmas

@@ -1,8 +1,8 @@
 -- The body of a dump: what happens in it, word by word. IEEE 1364, "Value change dump files"; which words are wrong, and
 -- what they are called then, is this project's own.
-use Rattle.std.specs.Prelude.{◌≡◌, ℕ, ◌-◌, ◌||◌, ◌==◌, Bool, true, false, not, nat_lt, List, [], ◌∷◌, length, Option, None, Some, Result, Ok, Err, if◌then◌else◌}
+use Rattle.std.specs.Prelude.{◌≡◌, ℕ, ◌-◌, ◌||◌, ◌==◌, Bool, true, false, not, nat_lt, List, [], ◌∷◌, length, map, Option, None, Some, Result, Ok, Err, if◌then◌else◌}
 use Rattle.tl_text.specs.Number.{number_of}
-use Rattle.check_vcd.specs.Token.{are_bits, is_end, token_kind}
+use Rattle.check_vcd.specs.Token.{are_bits, is_end, plain_digit, token_kind}
 use Rattle.check_vcd.specs.Words.{Word}
 use Rattle.check_vcd.specs.declared.body.TheConstants.{TIME_DIGITS}
 use Rattle.check_vcd.specs.declared.body.Body as code_body
@@ -87,15 +87,15 @@ timed_at body (Some time) =
 abbrev pub timed : Body → List ℕ → Step
 timed body digits = timed_at body (number_of 10 TIME_DIGITS digits)
 
--- a value of one bit
+-- a value of one bit, as what it stands for
 abbrev pub with_bit : Body → ℕ → Body
-with_bit body digit = record body { value = digit ∷ []; size = 1 }
+with_bit body digit = record body { value = plain_digit digit ∷ []; size = 1 }
 
 -- a value of several
 abbrev pub with_digits : Body → List ℕ → ℕ → Step
 with_digits body digits size =
     if (length digits == 0) || not (are_bits digits) then Fails BadValue
-    else Goes (record body { place = BehindVector; value = digits; size = size })
+    else Goes (record body { place = BehindVector; value = map plain_digit digits; size = size })
 
 -- changes are told from this line on
 abbrev pub resumed : Body → ℕ → Step

@@ -1,12 +1,13 @@
 //! The body of a dump: what happens, word by word.
-ghost use Rattle.std.specs.Prelude.{◌≡◌};
+ghost use Rattle.std.specs.Prelude.{◌≡◌, ◌++◌, OnOk, map};
 ghost use Rattle.check_vcd.specs.Body.{Tells, begun, body_of, changed, passed, resumed, start, step_of, timed, told, with_bit, with_digits};
 ghost use Rattle.check_vcd.specs.Codes.{find_in};
+ghost use Rattle.check_vcd.specs.Token.{plain_digit};
 
 use crate::codes::Codes;
 use crate::fault::{Mistake, WordFault};
-use crate::token::{TokenKind, are_bits, is_end, token_kind};
-use std::alloc::Global;
+use crate::token::{TokenKind, are_bits, are_plain, is_end, plain_digit, token_kind};
+use std::alloc::{AllocError, Global};
 use tl_text::read_number;
 
 /// The most digits of a time.
@@ -45,6 +46,19 @@ pub(crate) struct Body {
     size: u64,
     time: Option<u64>,
     is_off: bool,
+}
+
+/// Appends digits as what they stand for. In most dumps they are that already.
+fn push_plain(value: &mut Vec<u8>, digits: &[u8]) -> Result<(), AllocError>
+    ensures { OnOk result (value.new.items ≡ value.old.items ++ map plain_digit digits.now) }
+{
+    if are_plain(digits) {
+        return value.extend_from_slice(digits);
+    }
+    for digit in digits {
+        value.push(plain_digit(*digit))?;
+    }
+    Ok(())
 }
 
 impl Body {
@@ -115,7 +129,7 @@ impl Body {
         ensures codes { self.new.codes ≡ self.old.codes }
     {
         self.value.clear();
-        self.value.push(digit)?;
+        self.value.push(plain_digit(digit))?;
         self.size = 1;
         self.change(code)
     }
@@ -129,7 +143,7 @@ impl Body {
             return Err(WordFault::Wrong(Mistake::BadValue));
         }
         self.value.clear();
-        self.value.extend_from_slice(digits)?;
+        push_plain(&mut self.value, digits)?;
         self.size = size;
         self.place = BodyPlace::BehindVector;
         Ok(None)

@@ -1,6 +1,6 @@
 //! What a word of a dump's body begins.
 ghost use Rattle.std.specs.Prelude.{◌≡◌};
-ghost use Rattle.check_vcd.specs.Token.{are_bits, is_bit, is_end, is_ignored, token_kind, starts_other, starts_vector};
+ghost use Rattle.check_vcd.specs.Token.{are_bits, are_plain, is_bit, is_end, is_ignored, is_plain, is_unset, is_weak_high, is_weak_low, plain_digit, token_kind, starts_other, starts_vector};
 
 /// What a word of a dump's body begins.
 #[derive(Debug, Clone, Copy, PartialEq, Eq)]
@@ -22,12 +22,64 @@ pub enum TokenKind {
     Unknown,
 }
 
-/// Whether a digit stands for one bit of four values.
+/// Whether a digit is one bit of four values.
+#[inline(always)]
+fn is_plain(digit: u8) -> bool
+    ensures { result ≡ is_plain digit }
+{
+    matches!(digit, b'0' | b'1' | b'x' | b'X' | b'z' | b'Z')
+}
+
+/// Whether each of these is.
+pub fn are_plain(digits: &[u8]) -> bool
+    ensures { result ≡ are_plain digits.now }
+{
+    digits.iter().all(|digit| is_plain(*digit))
+}
+
+/// Whether a digit is a weak 0.
+fn is_weak_low(digit: u8) -> bool
+    ensures { result ≡ is_weak_low digit }
+{
+    matches!(digit, b'L' | b'l')
+}
+
+/// Whether a digit is a weak 1.
+fn is_weak_high(digit: u8) -> bool
+    ensures { result ≡ is_weak_high digit }
+{
+    matches!(digit, b'H' | b'h')
+}
+
+/// Whether a digit says that nothing is known of its bit.
+fn is_unset(digit: u8) -> bool
+    ensures { result ≡ is_unset digit }
+{
+    matches!(digit, b'U' | b'u' | b'W' | b'w' | b'-')
+}
+
+/// Whether a digit stands for one bit.
 #[inline(always)]
 pub fn is_bit(digit: u8) -> bool
     ensures { result ≡ is_bit digit }
 {
-    matches!(digit, b'0' | b'1' | b'x' | b'X' | b'z' | b'Z')
+    is_plain(digit) || is_weak_low(digit) || is_weak_high(digit) || is_unset(digit)
+}
+
+/// What a digit stands for.
+#[inline(always)]
+pub fn plain_digit(digit: u8) -> u8
+    ensures { result ≡ plain_digit digit }
+{
+    if is_plain(digit) {
+        digit
+    } else if is_weak_low(digit) {
+        b'0'
+    } else if is_weak_high(digit) {
+        b'1'
+    } else {
+        b'x'
+    }
 }
 
 /// Whether each of these does.
@@ -59,9 +111,7 @@ pub fn is_end(word: &[u8]) -> bool
 fn is_ignored(word: &[u8]) -> bool
     ensures { result ≡ is_ignored word.now }
 {
-    is_end(word)
-        || word == b"$dumpvars".as_slice()
-        || word == b"$dumpall".as_slice()
+    is_end(word) || word == b"$dumpvars".as_slice() || word == b"$dumpall".as_slice()
 }
 
 /// What a word with this first byte begins.

@@ -1,14 +1,15 @@
 -- What happens in a dump fits, if no identifier that is kept has more bits than its slot.
-use Rattle.std.proofs.Common.{◌≡◌, ℕ, ◌+◌, ◌-◌, ◌^◌, ◌<◌, ◌≤◌, ◌==◌, nat_le, nat_lt, Bool, true, false, ◌||◌, not, cond, List, [], ◌∷◌, ◌++◌, length, get_or, Option, Some, None, arith, refl, subst, option_and_then, length-append}
+use Rattle.std.proofs.Common.{◌≡◌, ℕ, ◌+◌, ◌-◌, ◌^◌, ◌<◌, ◌≤◌, ◌==◌, nat_le, nat_lt, Bool, true, false, ◌||◌, not, cond, List, [], ◌∷◌, ◌++◌, length, get_or, map, Option, Some, None, arith, refl, subst, option_and_then, length-append}
 use Rattle.std.specs.Prelude.{⊤}
 use Rattle.std.proofs.lemmas.Bool.{ltb-false, ltb-true}
+use Rattle.std.proofs.lemmas.List.{length-map}
 use Rattle.std.specs.Str.Parse.{digits_value}
 use Rattle.tl_text.specs.Number.{are_digits, number_of}
 use Rattle.check_beats.specs.declared.bus.Bus.{Bus}
 use Rattle.check_vcd.specs.Body.{At, Body, Fails, Find, Gives, Goes, Happens, Resumes, Sets, Step, Wrong, begun_by, changed, changed_to, falls, followed, happenings, passed, passed_to, resumed, set, start, step_at, step_of, timed, timed_at, with_bit, with_digits}
 use Rattle.check_vcd.specs.Header as header
 use Rattle.check_vcd.specs.Header.{Header, Opened, Var, words_behind, blank, opening}
-use Rattle.check_vcd.specs.Token.{are_bits, is_end, token_kind}
+use Rattle.check_vcd.specs.Token.{are_bits, is_end, plain_digit, token_kind}
 use Rattle.check_vcd.specs.Words.{Front, Word, is_blank, line_after, nothing, with_byte, word_if_any, words_from, dump_words}
 use Rattle.check_vcd.specs.declared.body.BodyPlace.{BodyPlace}
 use Rattle.check_vcd.specs.declared.body.BodyPlace.TheVariants.{Plain, InComment, BehindVector, BehindOther}
@@ -103,9 +104,9 @@ digits-fit : (widths : List ℕ) (body : Body) (digits : List ℕ) (size : ℕ) 
 digits-fit widths body digits size short = go ((length digits == 0) || not (are_bits digits))
   where
     go : (t : Bool) → StepFits widths
-        (cond t (Fails BadValue) (Goes (record body { place = BehindVector; value = digits; size = size })))
+        (cond t (Fails BadValue) (Goes (record body { place = BehindVector; value = map plain_digit digits; size = size })))
     go true = tt
-    go false = short
+    go false = omega (arith, length-map digits plain_digit, short)
 
 module _ (widths : List ℕ) (find : Find) (fit : FindFits widths find) where
   resumed-fits : (body : Body) (line : ℕ) → IsShort body → StepFits widths (resumed body line)

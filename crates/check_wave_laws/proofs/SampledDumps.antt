@@ -5,7 +5,7 @@ use Rattle.std.proofs.lemmas.Bool.{le-leb, ltb-false}
 use Rattle.tl_text.specs.Number.{number_of}
 use Rattle.check_vcd.specs.Body.{At, Body, Fails, Find, Gives, Goes, Happens, Resumes, Sets, Step, Wrong, begun_by, changed, changed_to, falls, followed, happenings, passed, passed_to, resumed, set, start, step_at, step_of, timed, timed_at, with_bit, with_digits}
 use Rattle.check_vcd.specs.Header.{Var}
-use Rattle.check_vcd.specs.Token.{are_bits, is_end, token_kind}
+use Rattle.check_vcd.specs.Token.{are_bits, is_end, plain_digit, token_kind}
 use Rattle.check_vcd.specs.Words.{Word}
 use Rattle.check_vcd.specs.declared.body.BodyPlace.{BodyPlace}
 use Rattle.check_vcd.specs.declared.body.BodyPlace.TheVariants.{Plain, InComment, BehindVector, BehindOther}
@@ -77,7 +77,7 @@ module _ (find : Find) where
   digits-rise body digits size = go ((length digits == 0) || not (are_bits digits))
     where
       go : (t : Bool) → StepRises body.time
-          (cond t (Fails BadValue) (Goes (record body { place = BehindVector; value = digits; size = size })))
+          (cond t (Fails BadValue) (Goes (record body { place = BehindVector; value = map plain_digit digits; size = size })))
       go true = tt
       go false = refl
 
