@@ -32,7 +32,7 @@ extern "C" {
 
 /* The version of this header. It rises when a struct, a number or a call changes; a call that reads a text answers TLX_OTHER_VERSION if the
  * library was built for another one. */
-#define TLX_VERSION 4
+#define TLX_VERSION 5
 
 /* The room of a message's bytes in the structs below. The largest size that a call takes is the library's own: tlx_largest_size. */
 #define TLX_ROOM 256
@@ -71,23 +71,25 @@ enum tlx_fault {
   TLX_NO_LINK = 30,       /* there is no such link, or it is not watched */
   TLX_FIELD_CHANGED = 31,
   TLX_UNKNOWN_OPCODE = 32,
-  TLX_SIZE_OUT_OF_RANGE = 33,
-  TLX_WRONG_MASK = 34,
-  TLX_WRONG_CORRUPT_FLAG = 35,
-  TLX_UNKNOWN_LANES = 36, /* a byte of a request is unknown: `unknown data` */
-  TLX_NO_SUCH_SOURCE = 37,
-  TLX_SOURCE_IN_FLIGHT = 38,
-  TLX_WRONG_PORT = 39,
-  TLX_NO_REQUEST = 40,
-  TLX_EARLY_REPLY = 41,
-  TLX_WRONG_SIZE = 42,
-  TLX_WRONG_OPCODE = 43,
-  TLX_UNKNOWN_DATA = 44,
-  TLX_NOT_SENT = 45,
-  TLX_NOT_GIVEN = 46,
-  TLX_WRONG_REPLY = 47,
+  TLX_WRONG_PARAM = 33,
+  TLX_SIZE_OUT_OF_RANGE = 34,
+  TLX_UNALIGNED_ADDRESS = 35,
+  TLX_WRONG_MASK = 36,
+  TLX_WRONG_CORRUPT_FLAG = 37,
+  TLX_UNKNOWN_LANES = 38, /* a byte of a request is unknown: `unknown data` */
+  TLX_NO_SUCH_SOURCE = 39,
+  TLX_SOURCE_IN_FLIGHT = 40,
+  TLX_WRONG_PORT = 41,
+  TLX_NO_REQUEST = 42,
+  TLX_EARLY_REPLY = 43,
+  TLX_WRONG_SIZE = 44,
+  TLX_WRONG_OPCODE = 45,
+  TLX_UNKNOWN_DATA = 46,
+  TLX_NOT_SENT = 47,
+  TLX_NOT_GIVEN = 48,
+  TLX_WRONG_REPLY = 49,
   /* of the end (tlx_judge_end) */
-  TLX_INCOMPLETE = 48,    /* requests are left without a whole reply */
+  TLX_INCOMPLETE = 50,    /* requests are left without a whole reply */
   /* of an image (tlx_system_image; the last one of tlx_judge_make and tlx_judge_read) */
   TLX_NO_PORT = 60,       /* the file names no such port */
   TLX_NO_IMAGE = 61,      /* the file names no image for the port */
@@ -132,8 +134,8 @@ struct tlx_answer {
 
 /* A beat that crossed a link, valid and ready. The bus of its link says how many lanes are read: `lanes` and `known` have the first for lane 0,
  * and what stands in them from the bus on is nothing to the judge. Bit k of `known` says that lane k was seen; what is not known of a get
- * or of a reply without bytes does not matter. `param`, `address` and `mask` are read of channel A alone, where a bit of `mask` from the bus
- * on is TLX_WRONG_MASK; `denied` and `corrupt` of D alone, where another number than 0 and 1 is TLX_BAD_ARGUMENT.
+ * or of a reply without bytes does not matter. `address` and `mask` are read of channel A alone, where a bit of `mask` from the bus
+ * on is TLX_WRONG_MASK; `denied` of D alone. Another number than 0 and 1 in `corrupt`, or in `denied` of D, is TLX_BAD_ARGUMENT.
  * `line` and `time` are the caller's own and stand in the text of a fault. The struct has 128 bytes; no padding stands before its last 7. */
 struct tlx_beat {
   uint64_t line;
@@ -321,8 +323,7 @@ static inline uint32_t tlx_judge_step(struct tlx_judge *judge, const struct tlx_
 static inline uint32_t tlx_judge_end(struct tlx_judge *judge) { return judge ? tlx_judge_end_at(judge) : (uint32_t)TLX_NULL; }
 
 /* The line of the last fault of a beat (TLX_FIELD_CHANGED to TLX_WRONG_REPLY) or of the end, as tlcheck says it of a capture, with its line
- * end and with the `line` and the `time` of the struct: `unlawful: line 4, time 12, p0 D: wrong reply: expected .., captured ..`. Empty before
- * the first; a lawful beat leaves it as it was. */
+ * end and with the `line` and the `time` of the struct: `unlawful: line 4, time 12, p0 D: wrong reply: expected .., captured ..`. Empty before the first; a lawful beat leaves it as it was. */
 static inline size_t tlx_judge_text(struct tlx_judge *judge, char *text, size_t room) {
   return judge && text && room ? tlx_judge_text_at(judge, text, room) : 0;
 }

@@ -2,11 +2,15 @@
 
 CAUSES = {
     "unknown opcode": ["the encoding of the opcode or of the parameter at this link"],
+    "wrong param": ["d_param: it is 0 in each reply of these operations"],
     "size out of range": ["the width of the size at this link; a message has at most 256 bytes"],
     "field changed": ["a multiplexer that changes its choice within a burst", "two messages of one channel that interleave"],
+    "unaligned address": ["the address generator of the master: a request starts at a multiple of its size",
+                          "an adapter that cuts requests", "`unaligned = true` in the system file, if slaves are to deny such requests"],
     "wrong mask": ["the mask generator: which lanes belong to the address and the size", "the width of the bus in the system file"],
     "unknown data": ["a register that nothing initializes", "a memory that the system file does not say is unknown at reset"],
-    "wrong corrupt flag": ["d_corrupt: it stands with each beat of a denied reply that has data, and with no other"],
+    "wrong corrupt flag": ["d_corrupt: it stands with each beat of a denied reply that has data, and with no other",
+                           "`d_corrupt = \"-\"` in the system file, if the design has no such signal"],
     "no such source": ["the sources of the masters in the system file (sources, first, stride)",
                        "the bits that the crossbar adds to a source"],
     "source in flight": ["the allocator of sources: it gives one again before its last reply has ended"],

@@ -128,7 +128,7 @@ class Explainer:
         name = begun.name if begun else NAMES[row.number(3), row.number(4)]
         bus = self.system.buses[row.link]
         _, lanes = bus.lanes(row.address(), row.number(5))
-        word = row.lanes()
+        word = row.lanes(bus)
         here = [word[lane] if row.mask() >> lane & 1 else None for lane in lanes] if carries_data(name) else []
         data = (begun.data if begun else []) + here
         pairs = (("operation", sent.name, name), ("address", hex(sent.address), hex(row.address())), ("size", sent.size, row.number(5)))
@@ -171,8 +171,10 @@ class Explainer:
 
     def captured(self, row, message):
         """The bytes of a reply with its last beat."""
-        _, lanes = self.system.buses[row.link].lanes(message.address, message.size)
-        return message.reply + ([row.lanes()[lane] for lane in lanes] if ANSWERS[row.number(3)] == "AccessAckData" else [])
+        bus = self.system.buses[row.link]
+        _, lanes = bus.lanes(message.address, message.size)
+        word = row.lanes(bus)
+        return message.reply + ([word[lane] for lane in lanes] if ANSWERS[row.number(3)] == "AccessAckData" else [])
 
     def of_given(self, row, message):
         """What the port gave for a request that is answered at its master's link."""

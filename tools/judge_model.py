@@ -43,6 +43,11 @@ def digits_of(word, pattern):
     return word
 
 
+def must_be_corrupt(opcode, denied):
+    """Whether a beat of a reply has to be marked corrupt: that of a denied one with data."""
+    return denied and ANSWERS.get(opcode) == "AccessAckData"
+
+
 class Link:
     """A link between a master or a port and the crossbar: its bus, what is in flight by source, and what is under way on A and on D."""
 
@@ -94,8 +99,9 @@ class Rows:
 
     def columns(self, words, is_ask, bus):
         """The columns from the opcode on, each of which is judged before the next."""
-        yield number_of(words[3], 255)
-        yield number_of(words[4], 255) if is_ask else digits_of(words[4], "")
+        opcode = number_of(words[3], 255)
+        yield opcode
+        yield number_of(words[4] or "0", 255) if not is_ask else number_of(words[4], 255)
         yield number_of(words[5], 255)
         yield number_of(words[6], 65535)
         yield int(digits_of(words[7], "[0-9a-fA-F]{1,16}"), 16) if is_ask else digits_of(words[7], "")
@@ -106,8 +112,10 @@ class Rows:
         word = digits_of(words[9], f"([0-9a-fA-FxXzZ]{{{bus.data_digits}}})?") or "0" * bus.data_digits
         pairs = [word[at:at + 2] for at in range(0, len(word), 2)]
         yield [None if set(pair) & set("xXzZ") else int(pair, 16) for pair in reversed(pairs)]
-        yield digits_of(words[10], "" if is_ask else "[01]") == "1"
-        yield digits_of(words[11], "" if is_ask else "[01]") == "1"
+        denied = digits_of(words[10], "" if is_ask else "[01]") == "1"
+        yield denied
+        # an empty flag is the one that the message must have
+        yield number_of(words[11] or "0", 1) == 1 if is_ask else digits_of(words[11] or str(int(must_be_corrupt(opcode, denied))), "[01]") == "1"
 
     def keep_order(self, row):
         """The time does not fall, and a channel of a link has one beat at a time."""
@@ -135,8 +143,8 @@ class Judge:
 
     def __init__(self, system, images, links, order):
         ports, masters = system.get("port", []), system["master"]
-        self.ports, self.masters, self.view, self.order = ports, masters, links, order
-        self.owners = owners_of(masters)
+        self.system, self.ports, self.masters, self.view, self.order = system, ports, masters, links, order
+        self.owners, self.may_be_unaligned = owners_of(masters), system.get("unaligned", False)
         self.links = {(side, number): Link(side, number, table, bus_of(system, table))
                       for side, tables in (("m", masters), ("p", ports)) for number, table in enumerate(tables)}
         self.watched = {"masters": "m", "ports": "p"}.get(links, "mp")
@@ -205,17 +213,21 @@ class Judge:
                 raise Unlawful("unknown opcode")
             if row.size > MAX_SIZE:
                 raise Unlawful("size out of range")
+            if row.address % (1 << row.size) and not self.may_be_unaligned:
+                raise Unlawful("unaligned address")
         elif any(getattr(row, field) != getattr(flight.row, field) for field in ("opcode", "param", "size", "source", "address")):
             raise Unlawful("field changed")
         active = link.bus.active(row.address, row.size)
         if row.mask != active and not (name == "putpart" and row.mask & ~active == 0):
             raise Unlawful("wrong mask")
+        if row.corrupt:
+            raise Unlawful("wrong corrupt flag")
         if carries_data(name) and any(row.mask >> lane & 1 and byte is None for lane, byte in enumerate(row.lanes)):
             raise Unlawful("unknown data")
 
     def begun(self, link, row):
         """The flight that a request's first beat begins."""
-        owner, port = self.owner_of(link, row.source), port_of(self.ports, row.address, row.size)
+        owner, port = self.owner_of(link, row.source), port_of(self.system, row.address, row.size)
         if owner is None:
             raise Unlawful("no such source")
         if self.is_in_flight(link, row.source):
@@ -257,11 +269,13 @@ class Judge:
         if flight is None:
             if row.opcode not in ANSWERS:
                 raise Unlawful("unknown opcode")
+            if row.param:
+                raise Unlawful("wrong param")
             if row.size > MAX_SIZE:
                 raise Unlawful("size out of range")
-        elif any(getattr(row, field) != getattr(flight.reply_row, field) for field in ("opcode", "size", "source", "denied")):
+        elif any(getattr(row, field) != getattr(flight.reply_row, field) for field in ("opcode", "param", "size", "source", "denied")):
             raise Unlawful("field changed")
-        if row.corrupt and not (row.denied and ANSWERS[row.opcode] == "AccessAckData"):
+        if row.corrupt != must_be_corrupt(row.opcode, row.denied):
             raise Unlawful("wrong corrupt flag")
 
     def begun_reply(self, link, row):

@@ -45,12 +45,17 @@ def ranges_of(port):
     return [tuple(pair) for pair in port["ranges"]] if "ranges" in port else [(port["base"], port["length"])]
 
 
-def port_of(ports, address, size):
-    """The number of the port one of whose ranges holds all bytes of a request; that of the error port if none does."""
-    for number, port in enumerate(ports):
-        if any(base <= address and address + (1 << size) <= base + length for base, length in ranges_of(port)):
-            return number
-    return len(ports)
+def holds(ranges, address, size):
+    """Whether one of these ranges holds all bytes of a request."""
+    return any(base <= address and address + (1 << size) <= base + length for base, length in ranges)
+
+
+def port_of(system, address, size):
+    """The number of the port one of whose ranges holds all bytes of a request, or with the decode of addresses the first of them; that of the
+    error port if none does."""
+    ports = system.get("port", [])
+    decoded = 0 if system.get("decode") == "address" else size
+    return next((number for number, port in enumerate(ports) if holds(ranges_of(port), address, decoded)), len(ports))
 
 
 ERROR_PORT = {"kind": "error", "base": 0, "length": 0}
@@ -79,7 +84,8 @@ class Slave:
     def __init__(self, port, image=b""):
         self.kind, self.sizes, self.order = port["kind"], port.get("sizes"), port.get("order")
         self.is_unknown, self.served, self.kept = port.get("unknown", False), 0, []
-        base = ranges_of(port)[0][0]
+        self.ranges = ranges_of(port)
+        base = self.ranges[0][0]
         self.cells = {base + place: byte for given in (image, bytes.fromhex(port.get("reset", ""))) for place, byte in enumerate(given)}
 
     def may_answer_unknown(self):
@@ -109,8 +115,8 @@ class Slave:
         return Reply(False, old if carries else [])
 
     def permits(self, ask):
-        """Whether a memory serves a request at one of its ranges."""
-        return self.supports(ask.name, ask.size) and ask.address % (1 << ask.size) == 0
+        """Whether a memory serves a request."""
+        return self.supports(ask.name, ask.size) and ask.address % (1 << ask.size) == 0 and holds(self.ranges, ask.address, ask.size)
 
     def writes(self, ask):
         """The addresses of the bytes that a request may write."""

@@ -69,6 +69,10 @@ def sources_of(rng, masters):
 def system_of(rng):
     """A random system, and the bytes of each image by its port."""
     images, system = {}, {"bus": rng.choice(BUSES)}
+    if rng.random() < 0.6:
+        system["unaligned"] = rng.random() < 0.8
+    if rng.random() < 0.4:
+        system["decode"] = rng.choice(["bytes", "address", "address"])
     # now and then as many as a system may have, or nearly so
     ports, masters = (rng.choice([40, 255]), 64) if rng.random() < 0.01 else (rng.randint(1, 4), rng.randint(1, 3))
     system["port"] = [port_of_system(rng, number, images) for number in range(ports)]
@@ -87,18 +91,18 @@ def system_of(rng):
     return system, images
 
 
-def address_of(rng, ports, size):
-    """An address: mostly one of a port's, and mostly a multiple of the size."""
+def address_of(rng, ports, size, is_unaligned=False):
+    """An address: mostly one of a port's, and a multiple of the size; now and then none if requests may be unaligned."""
     if rng.random() < 0.08:
         return rng.choice([0x8000, 0, 2**64 - (1 << size), 0x80000000 - (1 << size)])
     base, length = rng.choice(ranges_of(rng.choice(ports)))
     # near the beginning, near the end, or anywhere, mostly where 4 KiB end and begin
     offset = rng.choice([rng.randrange(min(length, 64)), rng.randrange(min(length, 64)), max(0, length - rng.randint(1, 16)),
                          min(length - 1, rng.choice([rng.randrange(length), 0x1000 * rng.randrange(1, 5) - 8 + rng.randrange(16)]))])
-    return base + offset if rng.random() < 0.1 else (base + offset) >> size << size
+    return base + offset if is_unaligned and rng.random() < 0.1 else (base + offset) >> size << size
 
 
-def ask_of(rng, ports, hot=()):
+def ask_of(rng, ports, hot=(), is_unaligned=False):
     """A random request, mostly at one of the hot addresses if there are some."""
     name = rng.choice([*OPERATIONS, "get", "get", "get", "putfull", "putfull", "putpart", "putpart"])
     # a slave without a table of sizes serves atomics of two sizes alone
@@ -106,7 +110,7 @@ def ask_of(rng, ports, hot=()):
     size = rng.choice(sizes) if rng.random() < 0.97 else rng.randrange(6, 9)
     hole = 0.3 if name == "putpart" else 0
     data = [None if rng.random() < hole else rng.choice([0, 255, rng.randrange(256)]) for _ in range(1 << size)] if carries_data(name) else []
-    address = rng.choice(hot) >> size << size if hot and rng.random() < 0.8 else address_of(rng, ports, size)
+    address = rng.choice(hot) >> size << size if hot and rng.random() < 0.8 else address_of(rng, ports, size, is_unaligned)
     return Ask(name, address, size, data)
 
 
@@ -163,7 +167,7 @@ class Run:
     request waits for a moment of its own."""
 
     def __init__(self, rng, system, images, order, bug=None, is_renumbering=False, is_serial=False):
-        self.rng, self.ports, self.masters, self.order = rng, system["port"], system["master"], order
+        self.rng, self.system, self.ports, self.masters, self.order = rng, system, system["port"], system["master"], order
         self.is_renumbering, self.is_serial = is_renumbering, is_serial
         self.bug = bug
         self.buses = {"m": [Bus(bus_of(system, master)) for master in self.masters], "p": [Bus(bus_of(system, port)) for port in self.ports]}
@@ -178,7 +182,8 @@ class Run:
         most = 8 if len(self.masters) < 4 else 1
         # now and then most requests meet at two addresses
         hot = [address_of(rng, self.ports, 3) for _ in range(2)] if rng.random() < 0.5 else []
-        self.asks = [[ask_of(rng, self.ports, hot) for _ in range(rng.randint(1, most))] for _ in self.masters]
+        is_unaligned = system.get("unaligned", False)
+        self.asks = [[ask_of(rng, self.ports, hot, is_unaligned) for _ in range(rng.randint(1, most))] for _ in self.masters]
 
     def has_bug(self, name, chance=0.3):
         """Whether a bug shows itself now, which it does once."""
@@ -227,7 +232,7 @@ class Run:
                 source = self.rng.choice(sorted(self.free[master]))
                 self.free[master].remove(source)
                 ask = asks.pop()
-                transfer = Transfer(ask, master, source, port_of(self.ports, ask.address, ask.size))
+                transfer = Transfer(ask, master, source, port_of(self.system, ask.address, ask.size))
                 channel.waiting.append(lambda transfer=transfer: self.ask_at_master(transfer))
 
     def ask_at_master(self, transfer):
@@ -246,7 +251,8 @@ class Run:
         return Message(self.columns("m", transfer.master, transfer.ask, transfer.source), lambda: True, leave)
 
     def columns(self, side, number, ask, source):
-        return self.buses[side][number].asks(ask.name, ask.size, source, ask.address, ask.data, self.junk)
+        rows = self.buses[side][number].asks(ask.name, ask.size, source, ask.address, ask.data, self.junk)
+        return [row + self.rng.choice(["", "", "0"]) for row in rows]
 
     def wide_of(self, transfer, port):
         """The source at the port's link: that of its owner, or a free one of the port's own."""
@@ -323,9 +329,11 @@ class Run:
                 places, active = bus.lanes(ask.address, ask.size, beat)
                 for place, lane in zip(places, active):
                     lanes[lane] = reply.data[place]
-            corrupt = int(reply.denied and kind == "AccessAckData" and self.rng.random() < 0.7)
+            # an empty flag is the one that the message must have, and an empty parameter is 0
+            corrupt = self.rng.choice(["", *3 * [int(reply.denied and kind == "AccessAckData")]])
+            param = self.rng.choice(["", "", 0])
             code = {"AccessAck": 0, "AccessAckData": 1, "HintAck": 2}[kind]
-            rows.append(f"{code},,{ask.size},{source},,,{bus.spell_lanes(lanes)},{int(reply.denied)},{corrupt}")
+            rows.append(f"{code},{param},{ask.size},{source},,,{bus.spell_lanes(lanes)},{int(reply.denied)},{corrupt}")
         return rows
 
     def reply_at_port(self, transfer, port, wide, reply):

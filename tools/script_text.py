@@ -25,8 +25,9 @@ def table_of(name, keys, values):
 
 
 def text_of(system):
-    """The text of a script or of a system file; `slots`, `bus` and the `ops` of a master are left out if the system has none."""
-    lines = [f"{key} = {system[key]}" for key in ("slots", "bus") if key in system]
+    """The text of a script or of a system file; `slots`, `bus`, `unaligned`, `decode` and the `ops` of a master are left out if the system has
+    none."""
+    lines = [f"{key} = {value_of(key, system[key])}" for key in ("slots", "bus", "unaligned", "decode") if key in system]
     for port in system.get("port", []):
         lines += ["", *table_of("port", PORT_KEYS, port)]
     for master in system["master"]:

@@ -50,9 +50,9 @@ class Row:
     def mask(self):
         return int(self.words[8], 16)
 
-    def lanes(self):
-        """The bytes of the bus from lane 0 on, None for one that is unknown."""
-        word = self.words[9]
+    def lanes(self, bus):
+        """The bytes of the bus from lane 0 on, None for one that is unknown. A row without data has zeros."""
+        word = self.words[9] or "0" * bus.data_digits
         pairs = (word[at:at + 2] for at in range(len(word) - 2, -2, -2))
         return [None if set(pair) & set("xXzZ") else int(pair, 16) for pair in pairs]
 
@@ -108,15 +108,15 @@ class System:
         with open(path, "rb") as file:
             table = tomllib.load(file)
         self.folder = os.path.dirname(path)
-        self.tables = {"m": table["master"], "p": table.get("port", [])}
+        self.table, self.tables = table, {"m": table["master"], "p": table.get("port", [])}
         self.buses = {f"{side}{number}": Bus(bus_of(table, it)) for side, tables in self.tables.items() for number, it in enumerate(tables)}
         self.names = {f"{side}{number}": it.get("name", f"{side}{number}") for side, tables in self.tables.items()
                       for number, it in enumerate(tables)}
         self.owners = owners_of(self.tables["m"])
 
     def port_of(self, address, size):
-        """The number of the port whose range has these bytes, or that of the error port."""
-        return port_of(self.tables["p"], address, size)
+        """The number of the port to which a request goes."""
+        return port_of(self.table, address, size)
 
     def slave(self, port):
         """A port's slave at reset."""
@@ -210,7 +210,7 @@ class Story:
         self.recent.append((row, message))
         carries = carries_data(message.name)
         if carries:
-            mask, word = row.mask(), row.lanes()
+            mask, word = row.mask(), row.lanes(bus)
             _, lanes = bus.lanes(message.address, message.size)
             message.data += [word[lane] if mask >> lane & 1 else None for lane in lanes]
         if len(message.asked) == bus.count(message.size, carries):
@@ -238,7 +238,7 @@ class Story:
         bus, carries = self.system.buses[row.link], ANSWERS[row.number(3)] == "AccessAckData"
         if carries:
             _, lanes = bus.lanes(message.address, message.size)
-            word = row.lanes()
+            word = row.lanes(bus)
             message.reply += [word[lane] for lane in lanes]
         if len(message.answered) == bus.count(message.size, carries):
             message.is_over = True

@@ -78,7 +78,8 @@ static void read_row(char *fields[12], uint64_t line, struct row *row) {
   beat->mask = strtoull(fields[8], 0, 16);
   read_lanes(fields[9], beat);
   beat->denied = (uint8_t)strtoul(fields[10], 0, 10);
-  beat->corrupt = (uint8_t)strtoul(fields[11], 0, 10);
+  /* an empty flag is the one that the message must have: of a denied AccessAckData 1 */
+  beat->corrupt = (uint8_t)(*fields[11] ? strtoul(fields[11], 0, 10) : beat->channel == TLX_D && beat->denied && beat->opcode == 1);
   row->place = place_of(beat);
 }
 

@@ -99,7 +99,9 @@ const char *words_of(enum tlx_fault fault) {
     case TLX_NO_LINK: return "no such link";
     case TLX_FIELD_CHANGED: return "field changed";
     case TLX_UNKNOWN_OPCODE: return "unknown opcode";
+    case TLX_WRONG_PARAM: return "wrong param";
     case TLX_SIZE_OUT_OF_RANGE: return "size out of range";
+    case TLX_UNALIGNED_ADDRESS: return "unaligned address";
     case TLX_WRONG_MASK: return "wrong mask";
     case TLX_WRONG_CORRUPT_FLAG: return "wrong corrupt flag";
     case TLX_UNKNOWN_LANES: return "unknown data";

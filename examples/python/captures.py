@@ -42,8 +42,10 @@ def beat_of(line, row):
     time, link, channel, opcode, param, size, source, address, mask, data, denied, corrupt = row
     number, known = lanes_of(data)
     side, link_number = tlx.link_of(link)
+    # an empty flag is the one that the message must have: of a denied AccessAckData 1
+    marked = corrupt or str(int((channel, opcode, denied) == ("D", "1", "1")))
     return tlx.Beat(side, link_number, tlx.Channel[channel], int(opcode), int(size), int(source), int(address or "0", 16), int(mask or "0", 16),
-                    number, int(param or 0), denied == "1", corrupt == "1", known, line, int(time))
+                    number, int(param or 0), denied == "1", marked == "1", known, line, int(time))
 
 
 def verdict_of(judge, beats, is_array, is_complete):

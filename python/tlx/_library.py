@@ -9,7 +9,7 @@ import os
 import struct
 
 # The version of the header that the structs below are those of.
-HEADER_VERSION = 4
+HEADER_VERSION = 5
 # The room for a message's bytes, the lanes of the widest bus, and the room for the longest text.
 ROOM = 256
 LANES = 64

@@ -9,6 +9,7 @@ from .messages import Beat, Channel, Side, link_of
 
 _FIELDS = {Channel.A: ("opcode", "param", "size", "source", "address", "mask", "data"),
            Channel.D: ("opcode", "size", "source", "denied", "data", "corrupt")}
+_ACCESS_ACK_DATA = 1
 _HANDSHAKE = ("valid", "ready")
 # Within a clock cycle beats cross in this order, and of each by rising number (docs/CAPTURE.md, "The order of beats").
 _CROSSING = ((Channel.A, Side.MASTER), (Channel.A, Side.PORT), (Channel.D, Side.PORT), (Channel.D, Side.MASTER))
@@ -19,7 +20,8 @@ class Monitor:
 
     judge: the judge. links: the links that are watched by their names, m0 or p3, with what stands before the specification's names
     of their signals in `sample`: {"m0": "core_"} reads core_a_valid, core_a_ready, core_a_opcode, ... absent: the
-    specification's names of signals that the design does not have, as a_param or d_denied; they are 0 at all links.
+    specification's names of signals that the design does not have, as a_param or d_denied; they are 0 at all links. Without
+    d_corrupt a beat is marked as the standard asks: one with data is if it is denied.
     ValueError of a name that is no link's. A link that the judge does not watch is refused at its first beat.
     """
 
@@ -84,6 +86,8 @@ class _Channel:
             if unknown:
                 known = sum(1 << lane for lane in range(LANES) if not unknown >> 8 * lane & 0xFF)
         side, number, channel = self.link
+        if channel is Channel.D and "corrupt" not in self.signals:
+            values["corrupt"] = int(values["denied"] == 1 and values["opcode"] == _ACCESS_ACK_DATA)
         return Beat(side=side, number=number, channel=channel, known=known, line=line, time=time, **values)
 
 

@@ -252,17 +252,19 @@ bytes_after (Some head) beats bytes some = refl
 
 -- ---- a beat with the fields and the mask of the first
 
-pub formed_alike : (bus : ℕ) (head beat : AskHead) → IsFormed bus head → SameFields head beat → beat.mask ≡ head.mask → IsFormed bus beat
-formed_alike bus head beat formed same mask = record {
+pub formed_alike : (bus : ℕ) (head beat : AskHead) → IsFormed bus head → SameFields head beat → beat.mask ≡ head.mask
+    → beat.corrupt ≡ false → IsFormed bus beat
+formed_alike bus head beat formed same mask clean = record {
   op = formed.op;
   code = record { opcode_is = formed.code.opcode_is ∙ sym same.opcode; param_is = formed.code.param_is ∙ sym same.param };
   in_limit = rw same.size formed.in_limit;
   mask = rw (same.size, same.address, mask) formed.mask;
+  clean = clean;
 }
 
 pub fits_alike : (bus : ℕ) (first : Option AskHead) (head beat : AskHead) → first ≡ Some head → IsFormed bus head
-    → SameFields head beat → beat.mask ≡ head.mask → FitsAsk bus first beat
-fits_alike bus first head beat is formed same mask = record {
-  formed = formed_alike bus head beat formed same mask;
+    → SameFields head beat → beat.mask ≡ head.mask → beat.corrupt ≡ false → FitsAsk bus first beat
+fits_alike bus first head beat is formed same mask clean = record {
+  formed = formed_alike bus head beat formed same mask clean;
   same = λ h at. let e : head ≡ h = cc in subst (λ (x : AskHead). SameFields x beat) e same;
 }

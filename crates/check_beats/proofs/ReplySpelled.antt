@@ -8,7 +8,7 @@ use Rattle.tl_types.proofs.Lists.{slice_get-push}
 use Rattle.tl_types.specs.Operation.{reply_carries_bytes, reply_byte_count}
 use Rattle.tl_types.specs.Wire.{reply_opcode_of}
 use Rattle.check_beats.specs.Bus.{low, lane_on_bus, beat_count_on_bus, bus_log}
-use Rattle.check_beats.specs.Form.{IsFormedReply, FitsReply, SameReplyFields, IsLawfulFlag}
+use Rattle.check_beats.specs.Form.{IsFormedReply, FitsReply, SameReplyFields, IsRightMark}
 use Rattle.check_beats.specs.Message.{reply_op_of_number, byte_at, seen_cells, reply_part, reply_beats}
 use Rattle.check_beats.specs.State.{ReplyBegun, reply_begun, first_reply, replied_beats, replied_bytes, ends_reply, reply_of, reply_after}
 use Rattle.check_beats.specs.Begun.{IsReplyKept}
@@ -81,11 +81,12 @@ pub record GatheredReply (w : ℕ) (begun : Option ReplyBegun) (beats : List Rep
   pub stand : Stand w (replied_bytes begun) beats
 
 pub itself : (a : ReplyHead) → SameReplyFields a a
-itself a = record { opcode = refl; size = refl; source = refl; denied = refl }
+itself a = record { opcode = refl; param = refl; size = refl; source = refl; denied = refl }
 
 between : (h a b : ReplyHead) → SameReplyFields h a → SameReplyFields h b → SameReplyFields a b
 between h a b p q = record {
   opcode = q.opcode ∙ sym p.opcode;
+  param = q.param ∙ sym p.param;
   size = q.size ∙ sym p.size;
   source = q.source ∙ sym p.source;
   denied = q.denied ∙ sym p.denied;
@@ -187,12 +188,13 @@ fields_of x y bytes formed same =
     let named : reply_op_of_number x.opcode ≡ formed.op = reply_op_named formed.op x.opcode formed.code in
     record {
       opcode = same.opcode ∙ sym formed.code ∙ ap reply_opcode_of (sym named);
+      param = same.param ∙ formed.param;
       size = same.size;
       source = same.source;
       denied = ap (λ (d : Bool). Some d) (sym same.denied);
     }
 
-flag_of : (x y : ReplyHead) → IsFormedReply y → SameReplyFields x y → IsLawfulFlag (reply_op_of_number x.opcode) y.denied y.corrupt
+flag_of : (x y : ReplyHead) → IsFormedReply y → SameReplyFields x y → IsRightMark (reply_op_of_number x.opcode) y.denied y.corrupt
 flag_of x y formed same =
     let named : reply_op_of_number x.opcode ≡ formed.op = rw (← same.opcode) (reply_op_named formed.op y.opcode formed.code) in
     rw named formed.flag

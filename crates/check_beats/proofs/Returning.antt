@@ -211,6 +211,7 @@ reply_fits_alike first head beat is formed same flag = record {
   formed = record {
     op = formed.op;
     code = formed.code ∙ sym same.opcode;
+    param = same.param ∙ formed.param;
     in_limit = rw same.size formed.in_limit;
     flag = rw (same.denied, flag) formed.flag;
   };

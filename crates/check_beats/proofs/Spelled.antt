@@ -224,6 +224,7 @@ one_spells w x fits alone = record {
         let here : IsBeatOf (2 ^ w) (ask_of (2 ^ w) None x.head x.lanes) b x = record {
           fields = fields_of (2 ^ w) x.head x.head (ask_part (2 ^ w) x.head x.lanes) fits.formed (itself x.head);
           mask = mask_of (2 ^ w) x.head x.head fits.formed (itself x.head);
+          clean = fits.formed.clean;
           bytes = λ j given at row.
               let within : j < count =
               rw (← length-given_at x.head.mask x.lanes first count)
@@ -247,6 +248,7 @@ long_spells w b beats x g fits wide is ends = record {
       let there = any k y (slice_get-push beats x y k found) in record {
         fields = fields_of (2 ^ w) x.head y.head (b.bytes ++ ask_part (2 ^ w) x.head x.lanes) fits.formed there.1;
         mask = mask_of (2 ^ w) x.head y.head there.0 there.1;
+        clean = there.0.clean;
         bytes = λ j given at row.
             let at_lanes : slice_get (b.bytes ++ given_at x.head.mask x.lanes 0 (length x.lanes)) j ≡ Some given = rw is.part at in
             let in_row : slice_get (beats ++ x ∷ []) (j / 2 ^ w) ≡ Some y = rw row found in

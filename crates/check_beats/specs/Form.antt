@@ -1,7 +1,7 @@
 -- When a beat is one of a lawful message, after the first beat of the message that is under way on its channel: the
 -- chapter "Beats and bursts" of the TileLink specification. That lanes may be unknown, and which fault is named where
 -- several apply, is this project's own.
-use Rattle.std.specs.Prelude.{◌≡◌, ◌≢◌, ℕ, ◌<◌, ◌≤◌, Bool, true, false, Option, Some, bit_and, IsTrue}
+use Rattle.std.specs.Prelude.{◌≡◌, ◌≢◌, ℕ, ◌<◌, ◌≤◌, Bool, true, false, ◌&&◌, Option, Some, bit_and, IsTrue}
 use Rattle.tl_types.specs.Fault.{IsFirstOf}
 use Rattle.tl_types.specs.Operation.{may_leave_unset, reply_carries_bytes}
 use Rattle.tl_types.specs.Wire.{IsCodeOf, reply_opcode_of}
@@ -12,7 +12,9 @@ use Rattle.check_beats.specs.Bus.{active_mask_on_bus}
 use Rattle.check_beats.specs.declared.beat.AskHead.{AskHead}
 use Rattle.check_beats.specs.declared.beat.ReplyHead.{ReplyHead}
 use Rattle.check_beats.specs.declared.fault.FormFault.{FormFault}
-use Rattle.check_beats.specs.declared.fault.FormFault.TheVariants.{Changed, Opcode, Size, Mask, CorruptFlag, UnknownData}
+use Rattle.check_beats.specs.declared.fault.FormFault.TheVariants.{Changed, Opcode, Param, Size, Unaligned, Mask, CorruptFlag, UnknownData}
+use Rattle.check_beats.specs.declared.rules.LinkRules.{LinkRules}
+use Rattle.check_beats.specs.Rules.{IsAlignedBy}
 
 -- the beat has the fields of the first beat of the message that is under way, if one is
 abbrev pub Continues : {B : Type 0} → (B → B → Type 0) → Option B → B → Type 0
@@ -33,13 +35,14 @@ pub record SameFields (first beat : AskHead) : Type 0 where
   pub source : beat.source ≡ first.source
   pub address : beat.address ≡ first.address
 
--- a beat of a request is lawful alone: its opcode and parameter name an operation, its size is within the limit, and
--- its mask is that of a request of this operation, size and address
+-- a beat of a request is lawful alone: its opcode and parameter name an operation, its size is within the limit, its
+-- mask is that of a request of this operation, size and address, and it is not marked corrupt
 pub record IsFormed (bus : ℕ) (beat : AskHead) : Type 0 where
   pub op : AskOp
   pub code : IsCodeOf op beat.opcode beat.param
   pub in_limit : beat.size ≤ MAX_SIZE
   pub mask : IsLawfulMaskOnBus bus op beat.size beat.address beat.mask
+  pub clean : beat.corrupt ≡ false
 
 -- the beat is lawful alone, and is one of the request that is under way, if one is
 pub record FitsAsk (bus : ℕ) (begun : Option AskHead) (beat : AskHead) : Type 0 where
@@ -51,35 +54,38 @@ abbrev pub IsKnown : AskHead → ℕ → Type 0
 IsKnown beat known = beat.opcode < 4 → bit_and beat.mask known ≡ beat.mask
 
 -- the beat has this fault as one of a request
-abbrev pub HasAskFormFault : ℕ → Option AskHead → AskHead → ℕ → FormFault → Type 0
-HasAskFormFault bus begun beat known Changed = Continues SameFields begun beat → ⊥
-HasAskFormFault bus begun beat known Opcode = (op : AskOp) → IsCodeOf op beat.opcode beat.param → ⊥
-HasAskFormFault bus begun beat known Size = MAX_SIZE < beat.size
-HasAskFormFault bus begun beat known Mask =
+abbrev pub HasAskFormFault : ℕ → LinkRules → Option AskHead → AskHead → ℕ → FormFault → Type 0
+HasAskFormFault bus rules begun beat known Changed = Continues SameFields begun beat → ⊥
+HasAskFormFault bus rules begun beat known Opcode = (op : AskOp) → IsCodeOf op beat.opcode beat.param → ⊥
+HasAskFormFault bus rules begun beat known Param = ⊥
+HasAskFormFault bus rules begun beat known Size = MAX_SIZE < beat.size
+HasAskFormFault bus rules begun beat known Unaligned = IsAlignedBy rules beat → ⊥
+HasAskFormFault bus rules begun beat known Mask =
     (op : AskOp) × IsCodeOf op beat.opcode beat.param × (IsLawfulMaskOnBus bus op beat.size beat.address beat.mask → ⊥)
-HasAskFormFault bus begun beat known CorruptFlag = ⊥
-HasAskFormFault bus begun beat known UnknownData = (beat.opcode < 4) × (bit_and beat.mask known ≢ beat.mask)
+HasAskFormFault bus rules begun beat known CorruptFlag = IsTrue beat.corrupt
+HasAskFormFault bus rules begun beat known UnknownData = (beat.opcode < 4) × (bit_and beat.mask known ≢ beat.mask)
 
 -- ---- replies
 
--- `corrupt` is lawful if it is set only in a beat that carries bytes of a denied reply
-pub record IsLawfulFlag (op : ReplyOp) (denied corrupt : Bool) : Type 0 where
-  pub carries : IsTrue corrupt → IsTrue (reply_carries_bytes op)
-  pub of_denied : IsTrue corrupt → IsTrue denied
+-- `corrupt` is set exactly in the beats that carry bytes of a denied reply
+abbrev pub IsRightMark : ReplyOp → Bool → Bool → Type 0
+IsRightMark op denied corrupt = corrupt ≡ (denied && reply_carries_bytes op)
 
 -- two beats of replies have the same shared fields
 pub record SameReplyFields (first beat : ReplyHead) : Type 0 where
   pub opcode : beat.opcode ≡ first.opcode
+  pub param : beat.param ≡ first.param
   pub size : beat.size ≡ first.size
   pub source : beat.source ≡ first.source
   pub denied : beat.denied ≡ first.denied
 
--- a beat of a reply is lawful alone, whatever the bus
+-- a beat of a reply is lawful alone, whatever the bus; its parameter is 0, since no operation of these links has another
 pub record IsFormedReply (beat : ReplyHead) : Type 0 where
   pub op : ReplyOp
   pub code : reply_opcode_of op ≡ beat.opcode
+  pub param : beat.param ≡ 0
   pub in_limit : beat.size ≤ MAX_SIZE
-  pub flag : IsLawfulFlag op beat.denied beat.corrupt
+  pub flag : IsRightMark op beat.denied beat.corrupt
 
 pub record FitsReply (begun : Option ReplyHead) (beat : ReplyHead) : Type 0 where
   pub formed : IsFormedReply beat
@@ -97,10 +103,12 @@ IsKnownReply bus address beat known =
 abbrev pub HasReplyFormFault : Option ReplyHead → ReplyHead → FormFault → Type 0
 HasReplyFormFault begun beat Changed = Continues SameReplyFields begun beat → ⊥
 HasReplyFormFault begun beat Opcode = (op : ReplyOp) → reply_opcode_of op ≡ beat.opcode → ⊥
+HasReplyFormFault begun beat Param = beat.param ≢ 0
 HasReplyFormFault begun beat Size = MAX_SIZE < beat.size
+HasReplyFormFault begun beat Unaligned = ⊥
 HasReplyFormFault begun beat Mask = ⊥
 HasReplyFormFault begun beat CorruptFlag =
-    (op : ReplyOp) × (reply_opcode_of op ≡ beat.opcode) × (IsLawfulFlag op beat.denied beat.corrupt → ⊥)
+    (op : ReplyOp) × (reply_opcode_of op ≡ beat.opcode) × (IsRightMark op beat.denied beat.corrupt → ⊥)
 HasReplyFormFault begun beat UnknownData = ⊥
 
 -- ---- the order of faults
@@ -110,14 +118,16 @@ HasReplyFormFault begun beat UnknownData = ⊥
 abbrev pub form_rank : FormFault → ℕ
 form_rank Changed = 1
 form_rank Opcode = 2
-form_rank Size = 3
-form_rank Mask = 4
-form_rank CorruptFlag = 5
-form_rank UnknownData = 6
+form_rank Param = 3
+form_rank Size = 4
+form_rank Unaligned = 5
+form_rank Mask = 6
+form_rank CorruptFlag = 7
+form_rank UnknownData = 8
 
 -- the fault is the first one, in that order, that the beat has
-abbrev pub IsFirstAskFormFault : ℕ → Option AskHead → AskHead → ℕ → FormFault → Type 0
-IsFirstAskFormFault bus begun beat known = IsFirstOf (HasAskFormFault bus begun beat known) form_rank
+abbrev pub IsFirstAskFormFault : ℕ → LinkRules → Option AskHead → AskHead → ℕ → FormFault → Type 0
+IsFirstAskFormFault bus rules begun beat known = IsFirstOf (HasAskFormFault bus rules begun beat known) form_rank
 
 abbrev pub IsFirstReplyFormFault : Option ReplyHead → ReplyHead → FormFault → Type 0
 IsFirstReplyFormFault begun beat = IsFirstOf (HasReplyFormFault begun beat) form_rank

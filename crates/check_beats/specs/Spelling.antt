@@ -7,7 +7,7 @@ use Rattle.tl_types.specs.Request.{Request}
 use Rattle.tl_types.specs.declared.limits.TheConstants.{MAX_SIZE}
 use Rattle.check_cells.specs.Pattern.{Pattern}
 use Rattle.check_beats.specs.Bus.{lane_on_bus, beat_count_on_bus}
-use Rattle.check_beats.specs.Form.{IsLawfulMaskOnBus, IsLawfulFlag}
+use Rattle.check_beats.specs.Form.{IsLawfulMaskOnBus, IsRightMark}
 use Rattle.check_beats.specs.declared.beat.AskHead.{AskHead}
 use Rattle.check_beats.specs.declared.beat.ReplyHead.{ReplyHead}
 
@@ -33,6 +33,7 @@ pub record HasFieldsOf (ask : Request) (beat : AskHead) : Type 0 where
 pub record IsBeatOf (bus : ℕ) (ask : Request) (b : ℕ) (beat : AskBeat) : Type 0 where
   pub fields : HasFieldsOf ask beat.head
   pub mask : IsLawfulMaskOnBus bus ask.op ask.size ask.address beat.head.mask
+  pub clean : beat.head.corrupt ≡ false
   pub bytes : (j : ℕ) (given : Option ℕ) → slice_get ask.bytes j ≡ Some given → j / bus ≡ b
       → StandsAt beat.head.mask beat.lanes (lane_on_bus bus ask.address ask.size j) given
 
@@ -52,6 +53,7 @@ pub record ReplyBeat : Type 0 where
 -- the fields that each beat of a reply shares are the reply's
 pub record HasReplyFieldsOf (reply : Pattern) (beat : ReplyHead) : Type 0 where
   pub opcode : beat.opcode ≡ reply_opcode_of reply.op
+  pub param : beat.param ≡ 0
   pub size : beat.size ≡ reply.size
   pub source : beat.source ≡ reply.source
   pub denied : reply.denied ≡ Some beat.denied
@@ -60,7 +62,7 @@ pub record HasReplyFieldsOf (reply : Pattern) (beat : ReplyHead) : Type 0 where
 -- one is unknown the lane was; the bytes of a denied reply stand nowhere
 pub record IsReplyBeatOf (bus : ℕ) (reply : Pattern) (address b : ℕ) (beat : ReplyBeat) : Type 0 where
   pub fields : HasReplyFieldsOf reply beat.head
-  pub corrupt : IsLawfulFlag reply.op beat.head.denied beat.head.corrupt
+  pub corrupt : IsRightMark reply.op beat.head.denied beat.head.corrupt
   pub bytes : beat.head.denied ≡ false → (j : ℕ) (byte : Option ℕ) → slice_get reply.bytes j ≡ Some byte → j / bus ≡ b
       → StandsAt beat.known beat.lanes (lane_on_bus bus address reply.size j) byte
 

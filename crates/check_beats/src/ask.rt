@@ -1,8 +1,9 @@
 //! Beats of channel A.
-ghost use Rattle.std.specs.Prelude.{◌≡◌, ◌≤◌, ◌↔◌, ℕ, None, Some, length, IsTrue, IfSome, IfNone};
+ghost use Rattle.std.specs.Prelude.{◌≡◌, ◌≤◌, ◌↔◌, ℕ, None, Some, false, length, IsTrue, IfSome, IfNone};
 ghost use Rattle.tl_types.specs.Wire.{IsCodeOf};
 ghost use Rattle.check_beats.specs.Bus.{bus_bytes, active_mask_on_bus};
 ghost use Rattle.check_beats.specs.Form.{IsLawfulMaskOnBus, SameFields, Continues, IsKnown, IsFormed, FitsAsk, IsFirstAskFormFault};
+ghost use Rattle.check_beats.specs.Rules.{IsAlignedBy};
 ghost use Rattle.check_beats.specs.Message.{ask_beats, op_of};
 ghost use Rattle.check_beats.specs.State.{ask_of};
 
@@ -10,6 +11,7 @@ use crate::beat::AskHead;
 use crate::bus::{Bus, active_mask_on_bus, beat_count_on_bus, first_lane};
 use crate::fault::FormFault;
 use crate::lanes::push_lanes;
+use crate::rules::{LinkRules, is_aligned_by};
 use tl_types::{Ask, AskOp, Bytes, MAX_BYTES, MAX_SIZE, read_op};
 
 /// Whether two beats have the same shared fields.
@@ -62,9 +64,16 @@ fn is_known(beat: &AskHead, known: u64) -> bool
 
 /// The first fault that a beat has as one of a request, after the first beat of the request that is under way.
 #[inline(always)]
-pub fn ask_fault(bus: Bus, first: &Option<AskHead>, beat: &AskHead, known: u64) -> Option<FormFault>
-    ensures fault { IfSome result (IsFirstAskFormFault (bus_bytes bus) first.now beat.now known) }
+pub fn ask_fault(
+    bus: Bus,
+    rules: LinkRules,
+    first: &Option<AskHead>,
+    beat: &AskHead,
+    known: u64,
+) -> Option<FormFault>
+    ensures fault { IfSome result (IsFirstAskFormFault (bus_bytes bus) rules first.now beat.now known) }
     ensures fits { IfNone result (FitsAsk (bus_bytes bus) first.now beat.now) }
+    ensures aligned { IfNone result (IsAlignedBy rules beat.now) }
     ensures known { IfNone result (IsKnown beat.now known) }
 {
     if !continues(first, beat) {
@@ -76,8 +85,14 @@ pub fn ask_fault(bus: Bus, first: &Option<AskHead>, beat: &AskHead, known: u64) 
     if beat.size > MAX_SIZE {
         return Some(FormFault::Size);
     }
+    if !is_aligned_by(rules, beat) {
+        return Some(FormFault::Unaligned);
+    }
     if !is_lawful_mask(bus, beat.mask, op, beat.size, beat.address) {
         return Some(FormFault::Mask);
+    }
+    if beat.corrupt {
+        return Some(FormFault::CorruptFlag);
     }
     if !is_known(beat, known) {
         return Some(FormFault::UnknownData);
@@ -150,10 +165,26 @@ pub fn put_ask(bus: Bus, beat: &AskHead, lanes: &[u8], ask: &mut Ask)
     }
 }
 
+/// Whether a beat has the fields and the mask of another, and is not marked corrupt.
+fn is_alike(head: &AskHead, beat: &AskHead) -> bool
+    ensures same { IsTrue result → SameFields head.now beat.now }
+    ensures mask { IsTrue result → beat.now.mask ≡ head.now.mask }
+    ensures clean { IsTrue result → beat.now.corrupt ≡ false }
+{
+    same_fields(head, beat) && beat.mask == head.mask && !beat.corrupt
+}
+
 /// The fault that a beat which fits has by its lanes, if it has one.
-fn lane_fault(bus: Bus, first: &Option<AskHead>, beat: &AskHead, known: u64) -> Option<FormFault>
-    requires { FitsAsk (bus_bytes bus) first.now beat.now }
-    ensures fault { IfSome result (IsFirstAskFormFault (bus_bytes bus) first.now beat.now known) }
+fn lane_fault(
+    bus: Bus,
+    rules: LinkRules,
+    first: &Option<AskHead>,
+    beat: &AskHead,
+    known: u64,
+) -> Option<FormFault>
+    requires fits { FitsAsk (bus_bytes bus) first.now beat.now }
+    requires aligned { IsAlignedBy rules beat.now }
+    ensures fault { IfSome result (IsFirstAskFormFault (bus_bytes bus) rules first.now beat.now known) }
     ensures known { IfNone result (IsKnown beat.now known) }
 {
     if is_known(beat, known) {
@@ -167,6 +198,7 @@ fn lane_fault(bus: Bus, first: &Option<AskHead>, beat: &AskHead, known: u64) -> 
 // one with the fields and the mask of the first is as lawful as that: most are
 pub fn next_ask_fault(
     bus: Bus,
+    rules: LinkRules,
     first: &Option<AskHead>,
     head: &AskHead,
     beat: &AskHead,
@@ -174,14 +206,15 @@ pub fn next_ask_fault(
 ) -> Option<FormFault>
     requires formed { IsFormed (bus_bytes bus) head.now }
     requires first { first.now ≡ Some head.now }
-    ensures fault { IfSome result (IsFirstAskFormFault (bus_bytes bus) first.now beat.now known) }
+    ensures fault { IfSome result (IsFirstAskFormFault (bus_bytes bus) rules first.now beat.now known) }
     ensures fits { IfNone result (FitsAsk (bus_bytes bus) first.now beat.now) }
+    ensures aligned { IfNone result (IsAlignedBy rules beat.now) }
     ensures known { IfNone result (IsKnown beat.now known) }
 {
-    if same_fields(head, beat) && beat.mask == head.mask {
-        lane_fault(bus, first, beat, known)
+    if is_alike(head, beat) && is_aligned_by(rules, beat) {
+        lane_fault(bus, rules, first, beat, known)
     } else {
-        other_ask_fault(bus, first, beat, known)
+        other_ask_fault(bus, rules, first, beat, known)
     }
 }
 
@@ -190,13 +223,15 @@ pub fn next_ask_fault(
 #[inline(never)]
 fn other_ask_fault(
     bus: Bus,
+    rules: LinkRules,
     first: &Option<AskHead>,
     beat: &AskHead,
     known: u64,
 ) -> Option<FormFault>
-    ensures fault { IfSome result (IsFirstAskFormFault (bus_bytes bus) first.now beat.now known) }
+    ensures fault { IfSome result (IsFirstAskFormFault (bus_bytes bus) rules first.now beat.now known) }
     ensures fits { IfNone result (FitsAsk (bus_bytes bus) first.now beat.now) }
+    ensures aligned { IfNone result (IsAlignedBy rules beat.now) }
     ensures known { IfNone result (IsKnown beat.now known) }
 {
-    ask_fault(bus, first, beat, known)
+    ask_fault(bus, rules, first, beat, known)
 }

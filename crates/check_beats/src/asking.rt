@@ -2,6 +2,7 @@
 ghost use Rattle.std.specs.Prelude.{◌≡◌, ◌≤◌, ◌↔◌, None, false, length, IsTrue, IfSome, IfNone};
 ghost use Rattle.check_beats.specs.Bus.{bus_bytes};
 ghost use Rattle.check_beats.specs.Form.{FitsAsk, IsKnown, IsFirstAskFormFault};
+ghost use Rattle.check_beats.specs.Rules.{IsAlignedBy};
 ghost use Rattle.check_beats.specs.State.{first_ask, asked_beats, ends_ask, ask_of, ask_after};
 
 use crate::ask::{ask_beats, ask_fault, next_ask_fault, op_of, put_ask};
@@ -9,6 +10,7 @@ use crate::beat::AskHead;
 use crate::bus::Bus;
 use crate::fault::FormFault;
 use crate::lanes::push_beat;
+use crate::rules::LinkRules;
 use std::marker::Model;
 use tl_types::{Ask, Bytes, MAX_BYTES};
 
@@ -74,15 +76,16 @@ impl Asking {
         }
     }
 
-    /// The first fault that a beat has as the next one, by its lanes that are known.
-    pub fn fault(&self, beat: &AskHead, known: u64) -> Option<FormFault>
-        ensures fault { IfSome result (IsFirstAskFormFault self.now.bus (first_ask self.now.begun) beat.now known) }
+    /// The first fault that a beat has as the next one, by these rules and by its lanes that are known.
+    pub fn fault(&self, rules: LinkRules, beat: &AskHead, known: u64) -> Option<FormFault>
+        ensures fault { IfSome result (IsFirstAskFormFault self.now.bus rules (first_ask self.now.begun) beat.now known) }
         ensures fits { IfNone result (FitsAsk self.now.bus (first_ask self.now.begun) beat.now) }
+        ensures aligned { IfNone result (IsAlignedBy rules beat.now) }
         ensures known { IfNone result (IsKnown beat.now known) }
     {
         match &self.first {
-            Some(head) => next_ask_fault(self.bus, &self.first, head, beat, known),
-            None => ask_fault(self.bus, &self.first, beat, known),
+            Some(head) => next_ask_fault(self.bus, rules, &self.first, head, beat, known),
+            None => ask_fault(self.bus, rules, &self.first, beat, known),
         }
     }
 

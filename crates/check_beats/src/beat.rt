@@ -12,12 +12,14 @@ pub struct AskHead {
     pub source: u16,
     pub address: u64,
     pub mask: u64,
+    pub corrupt: bool,
 }
 
 /// One beat of a reply on channel D, but for its lanes.
 #[derive(Debug, Clone, Copy, PartialEq, Eq, Default)]
 pub struct ReplyHead {
     pub opcode: u8,
+    pub param: u8,
     pub size: u8,
     pub source: u16,
     pub denied: bool,

@@ -23,9 +23,11 @@ mod lanes;
 pub mod laws;
 mod reply;
 mod replying;
+mod rules;
 mod under_way;
 
 pub use beat::{AskHead, ReplyHead};
 pub use bus::{Bus, MAX_LANES, beat_count_on_bus};
 pub use fault::FormFault;
+pub use rules::LinkRules;
 pub use under_way::UnderWay;

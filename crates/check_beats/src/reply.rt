@@ -2,7 +2,7 @@
 ghost use Rattle.std.specs.Prelude.{◌≡◌, ◌+◌, ◌*◌, ◌/◌, ◌%◌, ◌^◌, ◌≤◌, ◌↔◌, ◌++◌, None, Some, length, IsTrue, IfSome, IfNone};
 ghost use Rattle.tl_types.specs.Wire.{reply_opcode_of};
 ghost use Rattle.check_beats.specs.Bus.{bus_bytes};
-ghost use Rattle.check_beats.specs.Form.{IsLawfulFlag, SameReplyFields, Continues, IsFormedReply, FitsReply, IsFirstReplyFormFault, IsKnownReply};
+ghost use Rattle.check_beats.specs.Form.{IsRightMark, SameReplyFields, Continues, IsFormedReply, FitsReply, IsFirstReplyFormFault, IsKnownReply};
 ghost use Rattle.check_beats.specs.Message.{reply_beats, reply_op_of_number, seen_cells};
 ghost use Rattle.check_beats.specs.State.{reply_of};
 
@@ -29,14 +29,16 @@ fn shared_word(beat: &ReplyHead) -> u32
 pub fn same_reply_fields(first: &ReplyHead, beat: &ReplyHead) -> bool
     ensures { IsTrue result ↔ SameReplyFields first.now beat.now }
 {
-    shared_word(beat) == shared_word(first) && beat.denied == first.denied
+    shared_word(beat) == shared_word(first)
+        && beat.param == first.param
+        && beat.denied == first.denied
 }
 
 /// Whether a `corrupt` flag is lawful.
 pub fn is_lawful_flag(op: ReplyOp, denied: bool, corrupt: bool) -> bool
-    ensures { IsTrue result ↔ IsLawfulFlag op denied corrupt }
+    ensures { IsTrue result ↔ IsRightMark op denied corrupt }
 {
-    !corrupt || (op.carries_bytes() && denied)
+    corrupt == (denied && op.carries_bytes())
 }
 
 /// Whether a beat has the fields of the message that is under way, if one is.
@@ -60,6 +62,9 @@ pub fn reply_fault(first: &Option<ReplyHead>, beat: &ReplyHead) -> Option<FormFa
     let Ok(op) = read_reply_op(beat.opcode) else {
         return Some(FormFault::Opcode);
     };
+    if beat.param != 0 {
+        return Some(FormFault::Param);
+    }
     if beat.size > MAX_SIZE {
         return Some(FormFault::Size);
     }

@@ -2,6 +2,7 @@
 ghost use Rattle.std.specs.Prelude.{◌≡◌, ◌≤◌, ◌↔◌, None, false, length, take, IsTrue, IfSome, IfNone};
 ghost use Rattle.check_beats.specs.Bus.{bus_bytes};
 ghost use Rattle.check_beats.specs.Form.{FitsAsk, FitsReply, IsKnown, IsKnownReply, IsFirstAskFormFault, IsFirstReplyFormFault};
+ghost use Rattle.check_beats.specs.Rules.{IsAlignedBy};
 ghost use Rattle.check_beats.specs.State.{nothing_under, first_ask, first_reply, ends_ask, ends_reply, ask_of, reply_of, ask_after, reply_after};
 
 use crate::asking::Asking;
@@ -10,6 +11,7 @@ use crate::bus::Bus;
 use crate::fault::FormFault;
 use crate::reply::is_known_reply;
 use crate::replying::Replying;
+use crate::rules::LinkRules;
 use check_cells::Pattern;
 use std::marker::Model;
 use tl_types::Ask;
@@ -66,13 +68,14 @@ impl UnderWay {
         self.replying.begins()
     }
 
-    /// The first fault that a beat has as the next one of channel A, by its lanes that are known.
-    pub fn ask_fault(&self, beat: &AskHead, known: u64) -> Option<FormFault>
-        ensures fault { IfSome result (IsFirstAskFormFault self.now.bus (first_ask self.now.asking) beat.now known) }
+    /// The first fault that a beat has as the next one of channel A, by these rules and by its lanes that are known.
+    pub fn ask_fault(&self, rules: LinkRules, beat: &AskHead, known: u64) -> Option<FormFault>
+        ensures fault { IfSome result (IsFirstAskFormFault self.now.bus rules (first_ask self.now.asking) beat.now known) }
         ensures fits { IfNone result (FitsAsk self.now.bus (first_ask self.now.asking) beat.now) }
+        ensures aligned { IfNone result (IsAlignedBy rules beat.now) }
         ensures known { IfNone result (IsKnown beat.now known) }
     {
-        self.asking.fault(beat, known)
+        self.asking.fault(rules, beat, known)
     }
 
     /// The first fault that a beat has as the next one of channel D.

@@ -120,7 +120,7 @@ no_flight = record {
   wide = 0;
   master = 0;
   port = 0;
-  first = record { opcode = 0; param = 0; size = 0; source = 0; address = 0; mask = 0 };
+  first = record { opcode = 0; param = 0; size = 0; source = 0; address = 0; mask = 0; corrupt = false };
   given = [];
   is_whole = false;
 }
@@ -130,7 +130,7 @@ not_kept = record {
   wide = 0;
   master = 0;
   port = 0;
-  first = record { opcode = 0; param = 0; size = 0; source = 0; address = 0; mask = 0 };
+  first = record { opcode = 0; param = 0; size = 0; source = 0; address = 0; mask = 0; corrupt = false };
   span = 0;
   is_unaligned = false;
   marks = record { places = 0; given = 0; low = false; high = false; even = false; odd = false };

@@ -95,7 +95,7 @@ fn begun(watch: &Watch, wide: u16, beat: &AskHead) -> CountedFlight
     CountedFlight {
         wide,
         master: master_of(watch.sources(), wide),
-        port: watch.map().route_bytes(beat.address, beat.size),
+        port: watch.route(beat.address, beat.size),
         first: *beat,
         span,
         is_unaligned: beat.address % span != 0,

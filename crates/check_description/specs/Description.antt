@@ -8,6 +8,7 @@ use Rattle.tl_map.specs.declared.address_map.AddressMapFault.TheVariants.{Memory
 use Rattle.tl_map.specs.declared.owners.Owner.{Owner}
 use Rattle.tl_map.specs.declared.owners.SourceOwnerFault.{SourceOwnerFault}
 use Rattle.tl_map.specs.declared.owners.SourceOwnerFault.TheVariants.{Memory as SourceMemory}
+use Rattle.check_beats.specs.declared.rules.LinkRules.{LinkRules}
 use Rattle.check_keys.specs.declared.fault.SystemFault.{SystemFault}
 use Rattle.check_keys.specs.declared.fault.SystemFault.TheVariants.{Map, Sources}
 use Rattle.check_description.specs.Port.{Port, port_view}
@@ -16,8 +17,9 @@ use Rattle.check_description.specs.File.{Parts}
 use Rattle.check_description.specs.Master.{HasOwners, IsFirstOwnerFault, Master, master_view}
 use Rattle.check_description.specs.declared.masters.Master as code_master
 
--- the ports, the masters as the file has them, and which wide sources are each master's
+-- the rules of the links, the ports, the masters as the file has them, and which wide sources are each master's
 pub record Description : Type 0 where
+  pub rules : LinkRules
   pub ports : List Port
   pub masters : List Master
   pub owners : List Owner
@@ -27,17 +29,19 @@ abbrev pub ranges_of : List Port → List (List Range)
 ranges_of ports = map (λ (port : Port). port.ranges) ports
 
 -- the description of these parts
-abbrev pub described : List code_port.Port → List code_master.Master → List Owner → Description
-described ports masters owners =
-    record { ports = map port_view ports; masters = map master_view masters; owners = owners }
+abbrev pub described : LinkRules → List code_port.Port → List code_master.Master → List Owner → Description
+described rules ports masters owners =
+    record { rules = rules; ports = map port_view ports; masters = map master_view masters; owners = owners }
 
 -- ---- what parts make
 
--- the parts make this description: their ranges make a map, and the owners are those of the masters and share nothing
+-- the parts make this description: their ranges make a map, the owners are those of the masters and share nothing, and the
+-- rest is as it was read
 pub record Makes (parts : Parts) (description : Description) : Type 0 where
   pub map : IsLawfulAddressMap (ranges_of parts.ports)
   pub owners : HasOwners parts.masters description.owners
   pub sources : AreLawfulOwners description.owners
+  pub rules : description.rules ≡ parts.rules
   pub ports : description.ports ≡ parts.ports
   pub masters : description.masters ≡ parts.masters
 

@@ -4,18 +4,21 @@ use Rattle.std.specs.Str.{is_utf8}
 use Rattle.toml.specs.Data.{Members}
 use Rattle.toml.specs.Parse.{parse_document}
 use Rattle.check_beats.specs.declared.bus.Bus.TheVariants.{Eight}
+use Rattle.check_beats.specs.declared.rules.LinkRules.{LinkRules}
 use Rattle.check_keys.specs.Bus.{bus_in_table}
 use Rattle.tl_text.specs.Reading.{◌>>=◌}
 use Rattle.check_keys.specs.declared.fault.SystemFault.{SystemFault}
 use Rattle.check_keys.specs.declared.fault.SystemFault.TheVariants.{TooLong, NotToml}
+use Rattle.check_description.specs.Rules.{rules_in}
 use Rattle.check_description.specs.Port.{Port, port_view, ports_of}
 use Rattle.check_description.specs.Master.{Master, master_view, masters_of}
 use Rattle.check_description.specs.declared.parts.Image as code_image
 use Rattle.check_description.specs.declared.parts.Parts as code_parts
 use Rattle.check_description.specs.declared.read.TheConstants.{MAX_SYSTEM}
 
--- the ports and the masters
+-- the rules of the links, the ports and the masters
 pub record Parts : Type 0 where
+  pub rules : LinkRules
   pub ports : List Port
   pub masters : List Master
 
@@ -31,9 +34,10 @@ document_of bytes =
 unfoldable pub parts_in : Members → Result Parts SystemFault
 parts_in members = do
   bus ← bus_in_table Eight members
+  rules ← rules_in members
   ports ← ports_of bus members
   masters ← masters_of bus members
-  Ok (record { ports = ports; masters = masters })
+  Ok (record { rules = rules; ports = ports; masters = masters })
 
 -- the parts that a file names, or the first fault on the way to them
 abbrev pub parts_of : List ℕ → Result Parts SystemFault
@@ -42,6 +46,7 @@ parts_of bytes = document_of bytes >>= parts_in
 -- what contracts see of the parts that were read
 abbrev pub parts_view : code_parts.Parts → Parts
 parts_view parts = record {
+  rules = parts.rules;
   ports = map port_view parts.ports.items;
   masters = map master_view parts.masters.items;
 }

@@ -1,4 +1,5 @@
 pub mod Master
+pub mod Rules
 pub mod File
 pub mod Unknown
 pub mod Name

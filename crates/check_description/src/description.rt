@@ -11,14 +11,16 @@ use crate::masters::Master;
 use crate::owners::sources_of;
 use crate::parts::Parts;
 use crate::port::Port;
+use check_beats::LinkRules;
 use check_keys::SystemFault;
 use std::alloc::Global;
 use std::marker::Model;
 use tl_map::{AddressMap, SourceOwners};
 
-/// What a file describes: the ports, the masters, which port has which addresses, and which wide sources are whose.
+/// What a file describes: the rules of the links, the ports, the masters, which port has which addresses, and which wide sources are whose.
 #[derive(Drop)]
 pub struct Description {
+    rules: LinkRules,
     ports: Vec<Port>,
     masters: Vec<Master>,
     addresses: AddressMap,
@@ -28,6 +30,7 @@ pub struct Description {
 /// The parts of a description, each to be taken on its own.
 #[derive(Drop)]
 pub struct Described {
+    pub rules: LinkRules,
     pub ports: Vec<Port>,
     pub masters: Vec<Master>,
     pub addresses: AddressMap,
@@ -41,7 +44,7 @@ impl Model for Description {
 
     ghost Value = { Said };
 
-    ghost view = { λ s. described s.ports.items s.masters.items s.sources };
+    ghost view = { λ s. described s.rules s.ports.items s.masters.items s.sources };
 
     ghost invariant = { λ s. (s.addresses ≡ ranges_of (map port_view s.ports.items))
         × (length s.sources ≡ length s.masters.items) };
@@ -50,6 +53,7 @@ impl Model for Description {
 impl Description {
     /// The description of these parts, with the sources of each master.
     fn new(
+        rules: LinkRules,
         ports: Vec<Port>,
         masters: Vec<Master>,
         addresses: AddressMap,
@@ -57,14 +61,22 @@ impl Description {
     ) -> Description
         requires addresses { addresses ≡ ranges_of (map port_view ports.items) }
         requires counted { length sources ≡ length masters.items }
-        ensures { result ≡ described ports.items masters.items sources }
+        ensures { result ≡ described rules ports.items masters.items sources }
     {
         Description {
+            rules,
             ports,
             masters,
             addresses,
             sources,
         }
+    }
+
+    /// What the links may do beyond the standard.
+    pub fn rules(&self) -> LinkRules
+        ensures { result ≡ self.now.rules }
+    {
+        self.rules
     }
 
     /// The ports.
@@ -97,6 +109,7 @@ impl Description {
 
     /// The parts.
     pub fn into_parts(self) -> Described
+        ensures rules { result.rules ≡ self.rules }
         ensures ports { map port_view result.ports.items ≡ self.ports }
         ensures masters { map master_view result.masters.items ≡ self.masters }
         ensures addresses { result.addresses ≡ ranges_of self.ports }
@@ -104,6 +117,7 @@ impl Description {
         ensures counted { length result.sources ≡ length result.masters.items }
     {
         Described {
+            rules: self.rules,
             ports: self.ports,
             masters: self.masters,
             addresses: self.addresses,
@@ -135,5 +149,5 @@ pub fn describe(alloc: Global, parts: Parts) -> Result<Description, SystemFault>
 {
     let addresses = map_of(alloc, &parts.ports)?;
     let sources = sources_of(alloc, &parts.masters)?;
-    Ok(Description::new(parts.ports, parts.masters, addresses, sources))
+    Ok(Description::new(parts.rules, parts.ports, parts.masters, addresses, sources))
 }

@@ -27,6 +27,7 @@ mod port;
 mod ports;
 mod ranges;
 mod read;
+mod rules;
 mod sizes;
 mod slave;
 mod unknown;

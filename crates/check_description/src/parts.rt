@@ -4,11 +4,13 @@ ghost use Rattle.tl_map.specs.declared.limits.TheConstants.{MAX_JUDGED_PORTS};
 
 use crate::masters::Master;
 use crate::port::Port;
+use check_beats::LinkRules;
 use std::alloc::{AllocError, Global};
 
-/// The ports and masters that a file names.
+/// The rules of the links, the ports and the masters that a file names.
 #[derive(Debug, Drop)]
 pub struct Parts {
+    pub rules: LinkRules,
     pub ports: Vec<Port>,
     pub masters: Vec<Master>,
     ghost few_ports: { length ports.items ≤ MAX_JUDGED_PORTS },

@@ -10,6 +10,7 @@ use crate::masters::read_masters;
 use crate::names::check_names;
 use crate::parts::Parts;
 use crate::ports::read_ports;
+use crate::rules::read_rules;
 use crate::unknown::check_keys;
 use check_beats::Bus;
 use check_keys::{SystemFault, bus_in_table};
@@ -43,9 +44,14 @@ fn read_tables(alloc: Global, table: &Table) -> Result<Parts, SystemFault>
     ensures { Gives parts_view result (parts_in (table_view table.now)) }
 {
     let bus = bus_in_table(table, Bus::Eight)?;
+    let rules = read_rules(table)?;
     let ports = read_ports(alloc, bus, table)?;
     let masters = read_masters(alloc, bus, table)?;
-    Ok(Parts { ports, masters })
+    Ok(Parts {
+        rules,
+        ports,
+        masters,
+    })
 }
 
 /// The parts that a file names, or its first fault in the order of the checks: that it is no document, a key that no table

@@ -1,11 +1,13 @@
 -- The keys of a system file. This project's own.
 use Rattle.std.specs.Prelude.{ℕ, List, codes}
 use Rattle.check_keys.specs.declared.fault.Key.{Key}
-use Rattle.check_keys.specs.declared.fault.Key.TheVariants.{Bus, Port, Name, Kind, Base, Length, Ranges, Reset, Image, Unknown, Sizes, Order, Master, Sources, First, Stride}
+use Rattle.check_keys.specs.declared.fault.Key.TheVariants.{Bus, Unaligned, Decode, Port, Name, Kind, Base, Length, Ranges, Reset, Image, Unknown, Sizes, Order, Master, Sources, First, Stride}
 
 -- the key, as a file has it
 abbrev pub key_name : Key → List ℕ
 key_name Bus = codes "bus"
+key_name Unaligned = codes "unaligned"
+key_name Decode = codes "decode"
 key_name Port = codes "port"
 key_name Name = codes "name"
 key_name Kind = codes "kind"

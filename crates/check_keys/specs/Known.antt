@@ -23,8 +23,8 @@ wire_keys =
 -- the keys that a table of this kind may have. `slots` and `ops` are a script's, and mean nothing to a judge
 abbrev pub known_keys : TableKind → List (List ℕ)
 known_keys Top =
-    codes "bus" ∷ codes "port" ∷ codes "master" ∷ codes "clock" ∷ codes "reset" ∷ codes "reset_active" ∷
-    codes "slots" ∷ codes "extra" ∷ []
+    codes "bus" ∷ codes "unaligned" ∷ codes "decode" ∷ codes "port" ∷ codes "master" ∷ codes "clock" ∷
+    codes "reset" ∷ codes "reset_active" ∷ codes "slots" ∷ codes "extra" ∷ []
 known_keys Port =
     codes "name" ∷ codes "kind" ∷ codes "base" ∷ codes "length" ∷ codes "ranges" ∷ codes "reset" ∷
     codes "image" ∷ codes "unknown" ∷ codes "sizes" ∷ codes "order" ∷ codes "bus" ∷ codes "signals" ∷

@@ -14,6 +14,8 @@ use tl_map::{AddressMapFault, SourceOwnerFault};
 #[derive(Debug, Clone, Copy, PartialEq, Eq)]
 pub enum Key {
     Bus,
+    Unaligned,
+    Decode,
     Port,
     Name,
     Kind,
@@ -38,6 +40,8 @@ impl Key {
     {
         match self {
             Key::Bus => "bus",
+            Key::Unaligned => "unaligned",
+            Key::Decode => "decode",
             Key::Port => "port",
             Key::Name => "name",
             Key::Kind => "kind",

@@ -96,6 +96,8 @@ impl TableKind {
         match self {
             TableKind::Top => &[
                 b"bus",
+                b"unaligned",
+                b"decode",
                 b"port",
                 b"master",
                 b"clock",

@@ -29,7 +29,9 @@ fn form_words(fault: FormFault) -> &'static str
     match fault {
         FormFault::Changed => "field changed",
         FormFault::Opcode => "unknown opcode",
+        FormFault::Param => "wrong param",
         FormFault::Size => "size out of range",
+        FormFault::Unaligned => "unaligned address",
         FormFault::Mask => "wrong mask",
         FormFault::CorruptFlag => "wrong corrupt flag",
         FormFault::UnknownData => "unknown data",

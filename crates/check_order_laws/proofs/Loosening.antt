@@ -17,7 +17,7 @@ use Rattle.check_watch.proofs.Earlier.{earlier_is_lawful}
 use Rattle.check_watch_laws.specs.Crossed.{AreWatched}
 use Rattle.check_watch_laws.specs.Memories.{order_at, port_for, reset_of}
 use Rattle.check_watch_laws.specs.Moments.{IsDueAt, dues_of, moments}
-use Rattle.check_watch_laws.specs.Rules.{KeepsRules, IsSeenWhole, AreSeenWhole}
+use Rattle.check_watch_laws.specs.Rules.{KeepsRules, IsCompliant, AreCompliant}
 use Rattle.check_watch_laws.specs.Whenever.{IsDoneWhenever, AreFresh}
 use Rattle.check_watch_laws.proofs.Back.{rules_make_lawful}
 use Rattle.check_watch_laws.proofs.Crossing.{crossing}
@@ -25,7 +25,7 @@ use Rattle.check_watch_laws.proofs.Orders.{done_of_due}
 use Rattle.check_watch_laws.proofs.Sequential.{due_at}
 use Rattle.check_watch_laws.proofs.Turned.{messages}
 use Rattle.check_watch_laws.proofs.Whenever.{whenever_is_due}
-use Rattle.check_watch_laws.proofs.Whole.{seen_whole}
+use Rattle.check_watch_laws.proofs.Whole.{all_compliant}
 use Rattle.check_order_laws.specs.Looser.{IsSameOrAny, IsLooser, AreSoundSlaves, HaveByteLanes}
 use Rattle.check_order_laws.proofs.Same.{same_plan, same_messages, same_crossing}
 use Rattle.check_order_laws.proofs.Whenever.{accept_done, reply_done}
@@ -53,12 +53,12 @@ module _ (plan : Plan) (before after : List PortSlave) where
   other = record plan { resets = after }
 
   pub same_seen : ((port : ℕ) → may_be_unknown (reset_of one port) ≡ may_be_unknown (reset_of other port))
-      → (past : List Sighting) → AreSeenWhole one past → AreSeenWhole other past
+      → (past : List Sighting) → AreCompliant one past → AreCompliant other past
   same_seen lanes [] seen = tt
   same_seen lanes (x ∷ past) seen = (same_seen lanes past seen.0, go x.beat seen.1)
     where
-      go : (beat : Beat) → IsSeenWhole one past (record x { beat = beat }) beat
-          → IsSeenWhole other past (record x { beat = beat }) beat
+      go : (beat : Beat) → IsCompliant one past (record x { beat = beat }) beat
+          → IsCompliant other past (record x { beat = beat }) beat
       go (A beat) was = was
       go (D beat) was = λ ask next.
           subst (λ b. HasKnownLanes (bus_of plan.layout x.link) b ask beat x.known) (lanes (port_for plan x.link ask))
@@ -138,7 +138,7 @@ module _ (plan : Plan) (before after : List PortSlave) where
     loosened past is watched bytes lawful =
         rules_make_lawful other past (same_plan plan before after is) watched
         (same_seen (λ port. sym (same_lanes (reset_of other port) (reset_of one port) (looser port))) past
-        (seen_whole one past lawful))
+        (all_compliant one past lawful))
         (λ later earlier so.
         let watched' = earlier_watched plan.layout later earlier
         (subst (λ l. AreWatched plan.layout l) (sym so) watched) in

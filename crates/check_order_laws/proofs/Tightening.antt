@@ -29,7 +29,7 @@ use Rattle.check_watch_laws.proofs.Sequential.{due_at}
 use Rattle.check_watch_laws.proofs.Telling.{are_told}
 use Rattle.check_watch_laws.proofs.Told.{matched_but_one}
 use Rattle.check_watch_laws.proofs.Turns.{link_on, true_or_false}
-use Rattle.check_watch_laws.proofs.Whole.{seen_whole}
+use Rattle.check_watch_laws.proofs.Whole.{all_compliant}
 use Rattle.check_order_laws.specs.Looser.{IsSameOrAny, IsLooser, AreSoundSlaves, HaveByteLanes}
 use Rattle.check_order_laws.specs.Open.{NothingIsContested, DifferByAccept}
 use Rattle.check_order_laws.proofs.InTurn.{none_open, open_after}
@@ -204,7 +204,7 @@ module _ (plan : Plan) (before after : List PortSlave) where
     tightened past is watched none lawful =
         rules_make_lawful strict past (same_plan plan before after is) watched
         (same_seen plan before after (λ port. same_lanes (reset_of loose port) (reset_of strict port) (looser port)) past
-        (seen_whole loose past lawful))
+        (all_compliant loose past lawful))
         (λ later earlier so.
         let watched' = earlier_watched plan.layout later earlier
         (subst (λ l. AreWatched plan.layout l) (sym so) watched) in

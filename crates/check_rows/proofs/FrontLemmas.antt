@@ -1,5 +1,5 @@
 -- The first column of a line.
-use Rattle.std.proofs.Common.{◌≡◌, ◌∙◌, ℕ, ◌+◌, ◌-◌, ◌*◌, ◌^◌, ◌<◌, ◌≤◌, ◌==◌, Bool, true, false, ◌&&◌, List, [], ◌∷◌, ◌++◌, length, get_or, take, drop, ◌/◌, ◌%◌, ◌⊎◌, inl, inr, None, get_or-take, Result, Ok, Err, refl, sym, ap, arith, take-append-drop, nat_le, nat_lt}
+use Rattle.std.proofs.Common.{◌≡◌, ◌∙◌, ℕ, ◌+◌, ◌-◌, ◌*◌, ◌^◌, ◌<◌, ◌≤◌, ◌==◌, Bool, true, false, ◌&&◌, if◌then◌else◌, List, [], ◌∷◌, ◌++◌, length, get_or, take, drop, ◌/◌, ◌%◌, ◌⊎◌, inl, inr, None, get_or-take, Result, Ok, Err, refl, sym, ap, arith, take-append-drop, nat_le, nat_lt}
 use Rattle.std.proofs.lemmas.Bool.{and_from, cases_lt, eq-eqb, eqb-true, le-leb, lt-ltb, false≢true}
 use Rattle.std.proofs.lemmas.Bool.Decides.{nat_tests}
 use Rattle.std.proofs.lemmas.Int.Digits.{digits_value_more}
@@ -19,13 +19,13 @@ use Rattle.check_rows.specs.Lanes.{SeenLanes, lane_of_digits, lanes_of, shown_by
 use Rattle.check_rows.specs.declared.fault.RowFault.TheVariants.{Number}
 use Rattle.check_beats.specs.declared.bus.Bus.{Bus}
 use Rattle.check_watch.specs.declared.beat.Link.TheVariants.{Master, Port}
-use Rattle.check_rows.specs.Columns.{channel_of, flag_of, index_of, link_of, nothing_of}
-use Rattle.check_rows.specs.Number.{address_of, decimal_of, hex_of, mask_digits, mask_of}
+use Rattle.check_rows.specs.Columns.{channel_of, flag_of, flag_or, index_of, link_of, nothing_of}
+use Rattle.check_rows.specs.Number.{address_of, decimal_of, decimal_or_zero, hex_of, mask_digits, mask_of}
 use Rattle.check_rows.specs.declared.columns.RowChannel.TheVariants as channel
 use Rattle.check_rows.specs.declared.fault.RowFault.{RowFault}
 use Rattle.check_rows.specs.Column.{column_parts}
 use Rattle.check_rows.specs.Front.{BeginsWithNumber, FirstIsNumber, FirstSpells, LastSpell}
-use Rattle.check_rows.specs.Row.{SeenBeat, ask_of_words, beat_of, reply_of_words, row_of}
+use Rattle.check_rows.specs.Row.{SeenBeat, ask_of_words, asks_for_mark, beat_of, reply_of_words, row_of}
 use Rattle.check_rows.specs.Buses.{bus_of_link}
 use Rattle.check_rows.specs.declared.columns.RowChannel.{RowChannel}
 use Rattle.check_watch.specs.Plan.{seen_at}
@@ -297,20 +297,106 @@ spells-lanes bus text lanes count size inside comma is = record {
               ∙ plain-lanes bus (take count text) lanes (sym is) (long ∙ whole) place (omega (arith, long, within))
         ]
 
+-- ---- columns that may be empty
+
+-- a flag that stands there is the flag
+pub flag-given : (absent : Bool) (text : List ℕ) (flag : Bool) → flag_of text ≡ Ok flag → flag_or absent text ≡ Ok flag
+unfolding flag_of flag_or
+flag-given absent [] flag is = absurd (Ok≢Err flag Number (sym is))
+flag-given absent (byte ∷ text) flag is =
+    let some : (length (byte ∷ text) == 0) ≡ false = grind (arith, nat_tests) in rw some is
+
+-- an empty column is the flag that is handed in
+pub no-flag : (absent : Bool) → flag_or absent [] ≡ Ok absent
+unfolding flag_or
+no-flag absent = refl
+
+-- an empty text is one column
+pub empty-last : (absent : Bool) (text : List ℕ) → (length text == 0) ≡ true → flag_or absent text ≡ Ok absent
+unfolding flag_or
+empty-last absent [] is = refl
+empty-last absent (byte ∷ text) is = let none = eqb-true (length (byte ∷ text)) 0 is in absurd (omega (arith, none))
+
+pub empty-alone : (text : List ℕ) → (length text == 0) ≡ true → column_parts text ≡ text ∷ []
+empty-alone [] is = refl
+empty-alone (byte ∷ text) is = let none = eqb-true (length (byte ∷ text)) 0 is in absurd (omega (arith, none))
+
+-- marks of one digit
+pub no_mark : decimal_or_zero 1 [] ≡ Ok 0
+unfolding decimal_or_zero
+no_mark = refl
+
+pub unset_mark : decimal_or_zero 1 (48 ∷ []) ≡ Ok 0
+unfolding decimal_or_zero decimal_of
+unset_mark = refl
+
+pub set_mark : decimal_or_zero 1 (49 ∷ []) ≡ Ok 1
+unfolding decimal_or_zero decimal_of
+set_mark = refl
+
+-- a flag is the number that it spells
+pub mark-given : (text : List ℕ) (flag : Bool) → flag_of text ≡ Ok flag
+    → decimal_or_zero 1 text ≡ Ok (if flag then 1 else 0)
+unfolding flag_of
+mark-given [] flag is = absurd (Ok≢Err flag Number (sym is))
+mark-given (byte ∷ []) flag is = zero (byte == 48) refl
+  where
+    same : (other : Bool) → flag_of (byte ∷ []) ≡ Ok other → flag ≡ other
+    same other given = cc
+
+    one : (t : Bool) → (byte == 49) ≡ t → (byte == 48) ≡ false
+        → decimal_or_zero 1 (byte ∷ []) ≡ Ok (if flag then 1 else 0)
+    one true here other =
+        let at : byte ≡ 49 = eqb-true byte 49 here in
+        let set : flag ≡ true = same true (rw at refl) in rw (set, at) set_mark
+    one false here other =
+        let fault : flag_of (byte ∷ []) ≡ Err Number = rw (other, here) refl in absurd (Ok≢Err flag Number (sym is ∙ fault))
+
+    zero : (t : Bool) → (byte == 48) ≡ t → decimal_or_zero 1 (byte ∷ []) ≡ Ok (if flag then 1 else 0)
+    zero true here =
+        let at : byte ≡ 48 = eqb-true byte 48 here in
+        let unset : flag ≡ false = same false (rw at refl) in rw (unset, at) unset_mark
+    zero false here = one (byte == 49) refl here
+mark-given (first ∷ second ∷ more) flag is =
+    let fault : flag_of (first ∷ second ∷ more) ≡ Err Number = rw (and-no (first == 48), and-no (first == 49)) refl in
+    absurd (Ok≢Err flag Number (sym is ∙ fault))
+
+-- an empty last column is 0
+pub mark-absent : (text : List ℕ) → (length text == 0) ≡ true → decimal_or_zero 1 text ≡ Ok 0
+mark-absent [] is = no_mark
+mark-absent (byte ∷ text) is = let none = eqb-true (length (byte ∷ text)) 0 is in absurd (omega (arith, none))
+
+-- a number that stands there is the number
+number-given : (most : ℕ) (word : List ℕ) (number : ℕ) → decimal_of most word ≡ Ok number
+    → decimal_or_zero most word ≡ Ok number
+unfolding decimal_of decimal_or_zero
+number-given most [] number is = absurd (cc)
+number-given most (byte ∷ word) number is =
+    let some : (length (byte ∷ word) == 0) ≡ false = grind (arith, nat_tests) in rw some is
+
+pub spells-given : (most : ℕ) (text : List ℕ) (number : ℕ) (rest : List ℕ) → FirstSpells (decimal_of most) text number rest
+    → FirstSpells (decimal_or_zero most) text number rest
+spells-given most text number rest h = record {
+  word = h.word;
+  parts = h.parts;
+  spells = number-given most h.word number h.spells;
+}
+
+pub spells-zero : (most : ℕ) (text rest : List ℕ) → column_parts text ≡ [] ∷ column_parts rest
+    → FirstSpells (decimal_or_zero most) text 0 rest
+unfolding decimal_or_zero
+spells-zero most text rest empty = record { word = []; parts = empty; spells = refl }
+
 -- ---- the columns of a beat
 
--- nothing stands behind the last comma
-pub none-behind : (rest : List ℕ) → (length rest == 0) ≡ true → [] ∷ column_parts rest ≡ [] ∷ [] ∷ []
-none-behind [] is = refl
-none-behind (byte ∷ rest) is = let none = eqb-true (length (byte ∷ rest)) 0 is in absurd (omega (arith, none))
-
--- seven columns that are read, an empty one, and an empty last one, are nine
+-- seven columns that are read, an empty one, and a last one with a flag or without, are nine
 pub ask-spells : (bus : ℕ) (text : List ℕ) (opcode param size source address mask : ℕ) (lanes : SeenLanes)
-    (t₁ t₂ t₃ t₄ t₅ t₆ t₇ : List ℕ) → FirstSpells (decimal_of 255) text opcode t₁
+    (corrupt : ℕ) (t₁ t₂ t₃ t₄ t₅ t₆ t₇ t₈ : List ℕ) → FirstSpells (decimal_of 255) text opcode t₁
     → FirstSpells (decimal_of 255) t₁ param t₂ → FirstSpells (decimal_of 255) t₂ size t₃
     → FirstSpells (decimal_of 65535) t₃ source t₄ → FirstSpells address_of t₄ address t₅
     → FirstSpells (mask_of bus) t₅ mask t₆ → FirstSpells (lanes_of bus) t₆ lanes t₇
-    → column_parts t₇ ≡ [] ∷ [] ∷ [] → LastSpell (ask_of_words bus) text (record {
+    → column_parts t₇ ≡ [] ∷ column_parts t₈ → decimal_or_zero 1 t₈ ≡ Ok corrupt → column_parts t₈ ≡ t₈ ∷ []
+    → LastSpell (ask_of_words bus) text (record {
       beat = beat.A (record {
         opcode = opcode;
         param = param;
@@ -318,37 +404,38 @@ pub ask-spells : (bus : ℕ) (text : List ℕ) (opcode param size source address
         source = source;
         address = address;
         mask = mask;
+        corrupt = corrupt == 1;
       });
       lanes = lanes;
     })
 unfolding ask_of_words field_at nothing_of
-ask-spells bus text opcode param size source address mask lanes t₁ t₂ t₃ t₄ t₅ t₆ t₇ h₁ h₂ h₃ h₄ h₅ h₆ h₇ last =
+ask-spells bus text opcode param size source address mask lanes corrupt t₁ t₂ t₃ t₄ t₅ t₆ t₇ t₈ h₁ h₂ h₃ h₄ h₅ h₆ h₇ empty flag last =
     let all : column_parts text
-    ≡ h₁.word ∷ h₂.word ∷ h₃.word ∷ h₄.word ∷ h₅.word ∷ h₆.word ∷ h₇.word ∷ [] ∷ [] ∷ [] =
-    rw (h₁.parts, h₂.parts, h₃.parts, h₄.parts, h₅.parts, h₆.parts, h₇.parts, last) refl in
+    ≡ h₁.word ∷ h₂.word ∷ h₃.word ∷ h₄.word ∷ h₅.word ∷ h₆.word ∷ h₇.word ∷ [] ∷ t₈ ∷ [] =
+    rw (h₁.parts, h₂.parts, h₃.parts, h₄.parts, h₅.parts, h₆.parts, h₇.parts, empty, last) refl in
     record {
       nine = rw all refl;
       spells = λ time link channel.
-          rw (all, h₁.spells, h₂.spells, h₃.spells, h₄.spells, h₅.spells, h₆.spells, h₇.spells) refl;
+          rw (all, h₁.spells, h₂.spells, h₃.spells, h₄.spells, h₅.spells, h₆.spells, h₇.spells, flag) refl;
     }
 
--- a reply has three empty columns, and two flags at the end
-pub reply-spells : (bus : ℕ) (text : List ℕ) (opcode size source : ℕ) (lanes : SeenLanes) (denied corrupt : Bool)
-    (t₁ t₂ t₃ t₄ t₅ t₆ t₇ t₈ : List ℕ) → FirstSpells (decimal_of 255) text opcode t₁ → column_parts t₁ ≡ [] ∷ column_parts t₂
+-- a reply has two empty columns, and two flags at the end
+pub reply-spells : (bus : ℕ) (text : List ℕ) (opcode param size source : ℕ) (lanes : SeenLanes) (denied corrupt : Bool)
+    (t₁ t₂ t₃ t₄ t₅ t₆ t₇ t₈ : List ℕ) → FirstSpells (decimal_of 255) text opcode t₁ → FirstSpells (decimal_or_zero 255) t₁ param t₂
     → FirstSpells (decimal_of 255) t₂ size t₃ → FirstSpells (decimal_of 65535) t₃ source t₄
     → column_parts t₄ ≡ [] ∷ column_parts t₅ → column_parts t₅ ≡ [] ∷ column_parts t₆ → FirstSpells (lanes_of bus) t₆ lanes t₇
-    → FirstSpells flag_of t₇ denied t₈ → flag_of t₈ ≡ Ok corrupt → column_parts t₈ ≡ t₈ ∷ []
+    → FirstSpells flag_of t₇ denied t₈ → flag_or (asks_for_mark opcode denied) t₈ ≡ Ok corrupt → column_parts t₈ ≡ t₈ ∷ []
     → LastSpell (reply_of_words bus) text (record {
-      beat = beat.D (record { opcode = opcode; size = size; source = source; denied = denied; corrupt = corrupt });
+      beat = beat.D (record { opcode = opcode; param = param; size = size; source = source; denied = denied; corrupt = corrupt });
       lanes = lanes;
     })
 unfolding reply_of_words field_at nothing_of
-reply-spells bus text opcode size source lanes denied corrupt t₁ t₂ t₃ t₄ t₅ t₆ t₇ t₈ h₁ e₁ h₂ h₃ e₂ e₃ h₄ h₅ flag last =
-    let all : column_parts text ≡ h₁.word ∷ [] ∷ h₂.word ∷ h₃.word ∷ [] ∷ [] ∷ h₄.word ∷ h₅.word ∷ t₈ ∷ [] =
-    rw (h₁.parts, e₁, h₂.parts, h₃.parts, e₂, e₃, h₄.parts, h₅.parts, last) refl in
+reply-spells bus text opcode param size source lanes denied corrupt t₁ t₂ t₃ t₄ t₅ t₆ t₇ t₈ h₁ h₆ h₂ h₃ e₂ e₃ h₄ h₅ flag last =
+    let all : column_parts text ≡ h₁.word ∷ h₆.word ∷ h₂.word ∷ h₃.word ∷ [] ∷ [] ∷ h₄.word ∷ h₅.word ∷ t₈ ∷ [] =
+    rw (h₁.parts, h₆.parts, h₂.parts, h₃.parts, e₂, e₃, h₄.parts, h₅.parts, last) refl in
     record {
       nine = rw all refl;
-      spells = λ time link channel. rw (all, h₁.spells, h₂.spells, h₃.spells, h₄.spells, h₅.spells, flag) refl;
+      spells = λ time link channel. rw (all, h₁.spells, h₆.spells, h₂.spells, h₃.spells, h₄.spells, h₅.spells, flag) refl;
     }
 
 -- three columns and the nine of a beat are a row

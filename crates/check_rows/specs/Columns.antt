@@ -40,6 +40,10 @@ flag_of word =
     else if bytes_eq word (codes "1") then Ok true
     else Err fault.Number
 
+-- a flag, or this one if the column is empty
+unfoldable pub flag_or : Bool → List ℕ → Result Bool RowFault
+flag_or absent word = if length word == 0 then Ok absent else flag_of word
+
 -- a column that the channel does not have is empty
 unfoldable pub nothing_of : List ℕ → Result Unit RowFault
 nothing_of word = if length word == 0 then Ok tt else Err fault.Number

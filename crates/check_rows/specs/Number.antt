@@ -13,6 +13,10 @@ decimal_of most word = do
   number ← ok_or spelled Range
   if nat_le number most then Ok number else Err Range
 
+-- the same, or 0 if the column is empty
+unfoldable pub decimal_or_zero : ℕ → List ℕ → Result ℕ RowFault
+decimal_or_zero most word = if length word == 0 then Ok 0 else decimal_of most word
+
 -- the number that hexadecimal digits spell
 unfoldable pub hex_of : List ℕ → Result ℕ RowFault
 hex_of word = if are_digits 16 word then Ok (digits_value 16 word) else Err Number

@@ -1,5 +1,5 @@
 -- The row that the columns of a record spell, or the first fault that they have, from the left. This project's own.
-use Rattle.std.specs.Prelude.{ℕ, ◌^◌, ◌-◌, ◌==◌, List, length, take, Result, Ok, Err, if◌then◌else◌}
+use Rattle.std.specs.Prelude.{ℕ, ◌^◌, ◌-◌, ◌==◌, Bool, ◌&&◌, List, length, take, Result, Ok, Err, if◌then◌else◌}
 use Rattle.check_beats.specs.Bus.{bus_bytes}
 use Rattle.check_beats.specs.declared.bus.Bus.{Bus}
 use Rattle.check_watch.specs.Plan.{Sighting, seen_at}
@@ -7,10 +7,10 @@ use Rattle.check_watch.specs.declared.beat.Beat.{Beat}
 use Rattle.check_watch.specs.declared.beat.Beat.TheVariants as beat
 use Rattle.check_rows.specs.Buses.{bus_of_link}
 use Rattle.check_rows.specs.Column.{column}
-use Rattle.check_rows.specs.Columns.{link_of, channel_of, flag_of, nothing_of}
+use Rattle.check_rows.specs.Columns.{link_of, channel_of, flag_of, flag_or, nothing_of}
 use Rattle.check_rows.specs.declared.column.Column.TheVariants as named
 use Rattle.check_rows.specs.Lanes.{SeenLanes, lanes_of}
-use Rattle.check_rows.specs.Number.{decimal_of, address_of, mask_of}
+use Rattle.check_rows.specs.Number.{decimal_of, decimal_or_zero, address_of, mask_of}
 use Rattle.tl_text.specs.Reading.{◌>>=◌}
 use Rattle.check_rows.specs.declared.columns.RowChannel.{RowChannel}
 use Rattle.check_rows.specs.declared.columns.RowChannel.TheVariants as channel
@@ -29,7 +29,7 @@ pub record SeenRow : Type 0 where
   pub time : ℕ
   pub sighting : Sighting
 
--- a beat of channel A has no flags
+-- a beat of channel A is never denied, and not corrupt if that column is empty
 unfoldable pub ask_of_words : ℕ → List (List ℕ) → Result SeenBeat RowFault
 ask_of_words bus columns = do
   opcode ← decimal_of 255 (column columns named.Opcode)
@@ -40,7 +40,7 @@ ask_of_words bus columns = do
   mask ← mask_of bus (column columns named.Mask)
   lanes ← lanes_of bus (column columns named.Data)
   _ ← nothing_of (column columns named.Denied)
-  _ ← nothing_of (column columns named.Corrupt)
+  corrupt ← decimal_or_zero 1 (column columns named.Corrupt)
   Ok (record {
     beat = beat.A (record {
       opcode = opcode;
@@ -49,25 +49,32 @@ ask_of_words bus columns = do
       source = source;
       address = address;
       mask = mask;
+      corrupt = corrupt == 1;
     });
     lanes = lanes;
   })
 
--- a beat of channel D has no parameter, address or mask
+-- whether the standard asks that a beat of a reply is marked corrupt: AccessAckData, 1, is if it is denied
+abbrev pub asks_for_mark : ℕ → Bool → Bool
+asks_for_mark opcode denied = denied && (opcode == 1)
+
+-- a beat of channel D has no address or mask. If its parameter is empty, it is 0; and if the flag is, it is what the standard
+-- asks for
 unfoldable pub reply_of_words : ℕ → List (List ℕ) → Result SeenBeat RowFault
 reply_of_words bus columns = do
   opcode ← decimal_of 255 (column columns named.Opcode)
-  _ ← nothing_of (column columns named.Param)
+  param ← decimal_or_zero 255 (column columns named.Param)
   size ← decimal_of 255 (column columns named.Size)
   source ← decimal_of 65535 (column columns named.Source)
   _ ← nothing_of (column columns named.Address)
   _ ← nothing_of (column columns named.Mask)
   lanes ← lanes_of bus (column columns named.Data)
   denied ← flag_of (column columns named.Denied)
-  corrupt ← flag_of (column columns named.Corrupt)
+  corrupt ← flag_or (asks_for_mark opcode denied) (column columns named.Corrupt)
   Ok (record {
     beat = beat.D (record {
       opcode = opcode;
+      param = param;
       size = size;
       source = source;
       denied = denied;

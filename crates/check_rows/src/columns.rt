@@ -1,7 +1,7 @@
 //! The columns of a row that are no numbers.
 ghost use Rattle.std.specs.Prelude.{◌≡◌, ◌<◌, IfOk};
 ghost use Rattle.check_rows.specs.Buses.{IsLinkOf};
-ghost use Rattle.check_rows.specs.Columns.{channel_of, flag_of, index_of, link_of, nothing_of};
+ghost use Rattle.check_rows.specs.Columns.{channel_of, flag_of, flag_or, index_of, link_of, nothing_of};
 
 use crate::buses::Buses;
 use crate::fault::RowFault;
@@ -65,6 +65,18 @@ pub fn read_flag(word: &[u8]) -> Result<bool, RowFault>
         Ok(true)
     } else {
         Err(RowFault::Number)
+    }
+}
+
+/// A flag, or this one if the column is empty.
+#[tactic(auto, unfolding(crate::specs::Columns::flag_or))]
+pub fn read_flag_or(absent: bool, word: &[u8]) -> Result<bool, RowFault>
+    ensures { result ≡ flag_or absent word.now }
+{
+    if word.is_empty() {
+        Ok(absent)
+    } else {
+        read_flag(word)
     }
 }
 

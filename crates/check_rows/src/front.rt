@@ -5,10 +5,10 @@ ghost use Rattle.std.specs.Prelude.{◌≡◌, ◌≤◌, ◌<◌, ◌⊎◌, �
 ghost use Rattle.check_beats.specs.Bus.{bus_bytes};
 ghost use Rattle.check_rows.specs.Buses.{IsLinkOf};
 ghost use Rattle.check_rows.specs.Column.{column_parts};
-ghost use Rattle.check_rows.specs.Columns.{channel_of, flag_of, index_of, link_of};
+ghost use Rattle.check_rows.specs.Columns.{channel_of, flag_of, flag_or, index_of, link_of};
 ghost use Rattle.check_rows.specs.Front.{BeginsWithNumber, FirstIsNumber, FirstSpells};
 ghost use Rattle.check_rows.specs.Lanes.{lanes_of};
-ghost use Rattle.check_rows.specs.Number.{address_of, decimal_of, mask_of};
+ghost use Rattle.check_rows.specs.Number.{address_of, decimal_of, decimal_or_zero, mask_of};
 
 use crate::buses::Buses;
 use crate::columns::{RowChannel, read_flag};
@@ -260,12 +260,45 @@ pub(crate) fn take_flag(text: &[u8]) -> Option<(bool, &[u8])>
     }
 }
 
-/// The flag of a text that is the last column.
+/// The decimal number in the first column of a text, or 0 if that is empty, and what stands behind it.
 #[inline(always)]
-pub(crate) fn last_flag(text: &[u8]) -> Option<bool>
-    ensures flag { IfSome result (λ flag. flag_of text.now ≡ Ok flag) }
+pub(crate) fn take_decimal_or_zero(text: &[u8], most: u64) -> Option<(u64, &[u8])>
+    ensures value { IfSome result (λ it. FirstSpells (decimal_or_zero most) text.now it.0 it.1.now) }
+    ensures small { IfSome result (λ it. it.0 ≤ most) }
+{
+    if let Some(rest) = take_nothing(text) {
+        return Some((0, rest));
+    }
+    match take_decimal(text, most) {
+        Some((number, rest)) => Some((number, rest)),
+        None => None,
+    }
+}
+
+/// The number up to 1 of a text that is the last column, or 0 if that is empty.
+#[inline(always)]
+pub(crate) fn last_mark(text: &[u8]) -> Option<u64>
+    ensures value { IfSome result (λ n. decimal_or_zero 1 text.now ≡ Ok n) }
     ensures last { IfSome result (λ _. column_parts text.now ≡ text.now ∷ []) }
 {
+    if text.is_empty() {
+        return Some(0);
+    }
+    match read_flag(text) {
+        Ok(flag) => Some(flag as u64),
+        Err(_) => None,
+    }
+}
+
+/// The flag of a text that is the last column, or this one if that is empty.
+#[inline(always)]
+pub(crate) fn last_flag_or(absent: bool, text: &[u8]) -> Option<bool>
+    ensures flag { IfSome result (λ flag. flag_or absent text.now ≡ Ok flag) }
+    ensures last { IfSome result (λ _. column_parts text.now ≡ text.now ∷ []) }
+{
+    if text.is_empty() {
+        return Some(absent);
+    }
     match read_flag(text) {
         Ok(flag) => Some(flag),
         Err(_) => None,

@@ -1,7 +1,7 @@
 //! Numbers, as columns spell them.
 ghost use Rattle.std.specs.Prelude.{◌≡◌, ◌≤◌, ◌+◌, ◌*◌, ◌-◌, ◌^◌, ℕ, IfOk};
 ghost use Rattle.check_beats.specs.Bus.{bus_bytes};
-ghost use Rattle.check_rows.specs.Number.{address_of, decimal_of, mask_digits, mask_of};
+ghost use Rattle.check_rows.specs.Number.{address_of, decimal_of, decimal_or_zero, mask_digits, mask_of};
 
 use crate::digit::read_hex;
 use crate::fault::RowFault;
@@ -23,6 +23,19 @@ pub fn read_decimal(word: &[u8], most: u64) -> Result<u64, RowFault>
         Ok(value)
     } else {
         Err(RowFault::Range)
+    }
+}
+
+/// The same, or 0 if the column is empty.
+#[tactic(auto, unfolding(crate::specs::Number::decimal_or_zero))]
+pub fn read_decimal_or_zero(word: &[u8], most: u64) -> Result<u64, RowFault>
+    ensures value { result ≡ decimal_or_zero most word.now }
+    ensures small { IfOk result (λ n. n ≤ most) }
+{
+    if word.is_empty() {
+        Ok(0)
+    } else {
+        read_decimal(word, most)
     }
 }
 

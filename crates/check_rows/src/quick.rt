@@ -12,10 +12,10 @@ ghost use Rattle.check_rows.specs.Row.{ask_of_words, beat_of, reply_of_words, ro
 use crate::buses::Buses;
 use crate::columns::RowChannel;
 use crate::front::{
-    last_flag, take_address, take_channel, take_decimal, take_flag, take_lanes, take_link,
-    take_mask, take_nothing,
+    last_flag_or, last_mark, take_address, take_channel, take_decimal, take_decimal_or_zero,
+    take_flag, take_lanes, take_link, take_mask, take_nothing,
 };
-use crate::row::{MAX_FIELD, MAX_SOURCE, Row};
+use crate::row::{MAX_FIELD, MAX_SOURCE, Row, asks_for_mark};
 use check_beats::{AskHead, Bus, MAX_LANES, ReplyHead};
 use check_watch::Beat;
 
@@ -47,9 +47,9 @@ fn quick_ask(bus: Bus, text: &[u8], lanes: &mut [u8; MAX_LANES]) -> Option<(Beat
     let Some(rest) = take_nothing(rest) else {
         return None;
     };
-    if !rest.is_empty() {
+    let Some(corrupt) = last_mark(rest) else {
         return None;
-    }
+    };
     let beat = AskHead {
         opcode: opcode as u8,
         param: param as u8,
@@ -57,6 +57,7 @@ fn quick_ask(bus: Bus, text: &[u8], lanes: &mut [u8; MAX_LANES]) -> Option<(Beat
         source: source as u16,
         address,
         mask,
+        corrupt: corrupt == 1,
     };
     Some((Beat::A(beat), known))
 }
@@ -69,7 +70,7 @@ fn quick_reply(bus: Bus, text: &[u8], lanes: &mut [u8; MAX_LANES]) -> Option<(Be
     let Some((opcode, rest)) = take_decimal(text, MAX_FIELD) else {
         return None;
     };
-    let Some(rest) = take_nothing(rest) else {
+    let Some((param, rest)) = take_decimal_or_zero(rest, MAX_FIELD) else {
         return None;
     };
     let Some((size, rest)) = take_decimal(rest, MAX_FIELD) else {
@@ -90,11 +91,13 @@ fn quick_reply(bus: Bus, text: &[u8], lanes: &mut [u8; MAX_LANES]) -> Option<(Be
     let Some((denied, rest)) = take_flag(rest) else {
         return None;
     };
-    let Some(corrupt) = last_flag(rest) else {
+    let asked = asks_for_mark(opcode as u8, denied);
+    let Some(corrupt) = last_flag_or(asked, rest) else {
         return None;
     };
     let beat = ReplyHead {
         opcode: opcode as u8,
+        param: param as u8,
         size: size as u8,
         source: source as u16,
         denied,

@@ -4,14 +4,14 @@ ghost use Rattle.csv.specs.Records.{fields_of};
 ghost use Rattle.check_beats.specs.Bus.{bus_bytes};
 ghost use Rattle.check_rows.specs.Buses.{HasBus, IsLinkOf};
 ghost use Rattle.check_rows.specs.Column.{column_parts, column_words};
-ghost use Rattle.check_rows.specs.Row.{ask_of_words, beat_in, beat_of, reply_of_words, row_in, row_of};
+ghost use Rattle.check_rows.specs.Row.{ask_of_words, asks_for_mark, beat_in, beat_of, reply_of_words, row_in, row_of};
 
 use crate::buses::Buses;
 use crate::column::{Column, Columns, columns_of, cut_line};
-use crate::columns::{RowChannel, read_channel, read_flag, read_link, read_nothing};
+use crate::columns::{RowChannel, read_channel, read_flag, read_flag_or, read_link, read_nothing};
 use crate::fault::RowFault;
 use crate::lanes::read_lanes;
-use crate::number::{read_address, read_decimal, read_mask};
+use crate::number::{read_address, read_decimal, read_decimal_or_zero, read_mask};
 use crate::quick::quick_row;
 use check_beats::{AskHead, Bus, MAX_LANES, ReplyHead};
 use check_watch::{Beat, Link};
@@ -65,7 +65,7 @@ fn read_ask(
     let mask = read_mask(bus, Column::Mask.of(columns))?;
     let known = read_lanes(bus, Column::Data.of(columns), lanes)?;
     read_nothing(Column::Denied.of(columns))?;
-    read_nothing(Column::Corrupt.of(columns))?;
+    let corrupt = read_decimal_or_zero(Column::Corrupt.of(columns), 1)?;
     let beat = AskHead {
         opcode: opcode as u8,
         param: param as u8,
@@ -73,8 +73,17 @@ fn read_ask(
         source: source as u16,
         address,
         mask,
+        corrupt: corrupt == 1,
     };
     Ok((Beat::A(beat), known))
+}
+
+/// Whether the standard asks that a beat of a reply is marked corrupt.
+#[inline(always)]
+pub(crate) fn asks_for_mark(opcode: u8, denied: bool) -> bool
+    ensures { result ≡ asks_for_mark opcode denied }
+{
+    denied && opcode == 1
 }
 
 /// The beat of channel D that the columns spell, and which of its lanes are known.
@@ -87,16 +96,18 @@ fn read_reply(
     ensures { beat_in (bus_bytes bus) lanes.new result ≡ reply_of_words (bus_bytes bus) (column_words columns.now) }
 {
     let opcode = read_decimal(Column::Opcode.of(columns), MAX_FIELD)?;
-    read_nothing(Column::Param.of(columns))?;
+    let param = read_decimal_or_zero(Column::Param.of(columns), MAX_FIELD)?;
     let size = read_decimal(Column::Size.of(columns), MAX_FIELD)?;
     let source = read_decimal(Column::Source.of(columns), MAX_SOURCE)?;
     read_nothing(Column::Address.of(columns))?;
     read_nothing(Column::Mask.of(columns))?;
     let known = read_lanes(bus, Column::Data.of(columns), lanes)?;
     let denied = read_flag(Column::Denied.of(columns))?;
-    let corrupt = read_flag(Column::Corrupt.of(columns))?;
+    let asked = asks_for_mark(opcode as u8, denied);
+    let corrupt = read_flag_or(asked, Column::Corrupt.of(columns))?;
     let beat = ReplyHead {
         opcode: opcode as u8,
+        param: param as u8,
         size: size as u8,
         source: source as u16,
         denied,

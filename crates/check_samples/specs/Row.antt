@@ -18,6 +18,10 @@ use Rattle.check_samples.specs.declared.signal.Signal.TheVariants as signal
 abbrev pub known_number : Signal → List ℕ → Result ℕ Signal
 known_number which bits = ok_or (number_of 2 MAX_BITS bits) which
 
+-- the same of a signal that a dump may not have, which has no bits then
+abbrev pub number_if_any : Signal → List ℕ → Result (Option ℕ) Signal
+number_if_any which bits = if length bits == 0 then Ok None else known_number which bits >>= (λ n. Ok (Some n))
+
 -- the hexadecimal digit of at most four bits; x if one is unknown
 abbrev pub digit_by : Option ℕ → ℕ
 digit_by None = 120
@@ -58,7 +62,7 @@ cells_of_reply values taps = do
   size ← known_number signal.DSize (bits_of values taps.size)
   source ← known_number signal.DSource (bits_of values taps.source)
   denied ← known_number signal.DDenied (bits_of values taps.denied)
-  corrupt ← known_number signal.DCorrupt (bits_of values taps.corrupt)
+  corrupt ← number_if_any signal.DCorrupt (bits_of values taps.corrupt)
   Ok (record { opcode = opcode; size = size; source = source; denied = denied; corrupt = corrupt })
 
 -- the columns up to the channel
@@ -80,12 +84,17 @@ unfoldable pub ask_text : ℕ → Link → AskCells → List ℕ → List ℕ �
 ask_text time link cells mask lanes =
     head_text time link 65 ++ ask_numbers cells ++ ask_lanes cells.address mask lanes ++ (44 ∷ 44 ∷ 10 ∷ [])
 
+-- a number that may be absent
+abbrev pub mark_text : Option ℕ → List ℕ
+mark_text None = []
+mark_text (Some number) = decimal number
+
 -- the row of a beat of channel D, with the bits of its data
 abbrev pub reply_numbers : ReplyCells → List ℕ
 reply_numbers cells = cell cells.opcode ++ (44 ∷ []) ++ cell cells.size ++ cell cells.source
 
 abbrev pub reply_lanes : List ℕ → ReplyCells → List ℕ
-reply_lanes lanes cells = (44 ∷ 44 ∷ 44 ∷ hex_text lanes) ++ cell cells.denied ++ cell cells.corrupt
+reply_lanes lanes cells = (44 ∷ 44 ∷ 44 ∷ hex_text lanes) ++ cell cells.denied ++ (44 ∷ mark_text cells.corrupt)
 
 unfoldable pub reply_text : ℕ → Link → ReplyCells → List ℕ → List ℕ
 reply_text time link cells lanes =

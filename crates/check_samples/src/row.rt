@@ -3,7 +3,7 @@ ghost use Rattle.std.specs.Prelude.{[], ◌≡◌, ◌++◌, ◌∷◌, OnOk};
 ghost use Rattle.std.specs.Fmt.{decimal};
 ghost use Rattle.tl_text.specs.Number.{number_of};
 ghost use Rattle.check_samples.specs.Values.{all_before};
-ghost use Rattle.check_samples.specs.Row.{ask_lanes, ask_numbers, ask_text, cells_of_ask, cells_of_reply, digit_of, head_text, hex_text, hexes, known_number, link_text, reply_lanes, reply_numbers, reply_text};
+ghost use Rattle.check_samples.specs.Row.{ask_lanes, ask_numbers, ask_text, cells_of_ask, cells_of_reply, digit_of, head_text, hex_text, hexes, known_number, link_text, mark_text, number_if_any, reply_lanes, reply_numbers, reply_text};
 
 use crate::channel::{AskTaps, ReplyTaps};
 use crate::signal::Signal;
@@ -32,7 +32,7 @@ pub struct ReplyCells {
     size: u64,
     source: u64,
     denied: u64,
-    corrupt: u64,
+    corrupt: Option<u64>,
 }
 
 /// The number that one to 64 bits spell, if each is known.
@@ -62,6 +62,17 @@ fn known_number(signal: Signal, bits: &[u8]) -> Result<u64, Signal>
         Some(number) => Ok(number),
         None => Err(signal),
     }
+}
+
+/// The same of a signal that a dump may not have, which has no bits then.
+fn number_if_any(signal: Signal, bits: &[u8]) -> Result<Option<u64>, Signal>
+    ensures { result ≡ number_if_any signal bits.now }
+{
+    if bits.is_empty() {
+        return Ok(None);
+    }
+    let number = known_number(signal, bits)?;
+    Ok(Some(number))
 }
 
 /// The hexadecimal digit of at most four bits; `x` if one is unknown.
@@ -146,6 +157,17 @@ fn push_number(text: &mut Vec<u8>, number: u64) -> Result<(), AllocError>
     push_decimal(text, number)
 }
 
+/// Appends a comma, and a number if there is one.
+fn push_mark(text: &mut Vec<u8>, mark: Option<u64>) -> Result<(), AllocError>
+    ensures { OnOk result (text.new.items ≡ text.old.items ++ (44 ∷ mark_text mark)) }
+{
+    text.push(b',')?;
+    match mark {
+        Some(number) => push_decimal(text, number),
+        None => Ok(()),
+    }
+}
+
 /// The numbers of a beat of channel A.
 pub(crate) fn ask_cells(values: &Values, taps: &AskTaps) -> Result<AskCells, Signal>
     ensures { result ≡ cells_of_ask (all_before values.now) taps.now }
@@ -173,7 +195,7 @@ pub(crate) fn reply_cells(values: &Values, taps: &ReplyTaps) -> Result<ReplyCell
     let size = known_number(Signal::DSize, values.before(taps.size))?;
     let source = known_number(Signal::DSource, values.before(taps.source))?;
     let denied = known_number(Signal::DDenied, values.before(taps.denied))?;
-    let corrupt = known_number(Signal::DCorrupt, values.before(taps.corrupt))?;
+    let corrupt = number_if_any(Signal::DCorrupt, values.before(taps.corrupt))?;
     Ok(ReplyCells {
         opcode,
         size,
@@ -255,7 +277,7 @@ fn push_reply_lanes(text: &mut Vec<u8>, lanes: &[u8], cells: ReplyCells) -> Resu
     text.extend_from_slice(b",,,")?;
     push_bits(text, lanes)?;
     push_number(text, cells.denied)?;
-    push_number(text, cells.corrupt)
+    push_mark(text, cells.corrupt)
 }
 
 /// Appends the row of a beat of channel D.

@@ -33,6 +33,7 @@ beat_alike ask b beat = (
   (λ s. record {
     fields = record { opcode = s.fields.opcode; param = s.fields.param; size = s.fields.size; source = s.fields.source; address = s.fields.address };
     mask = (mask_alike ask.op ask.size ask.address beat.mask).1 s.mask;
+    clean = refl;
     bytes = λ j given at row. (stands_alike beat.mask beat.lanes (lane_on_bus 8 ask.address ask.size j) given).1 (s.bytes j given at row);
   }),
 )

@@ -28,7 +28,8 @@ use Rattle.tl_script.specs.declared.fault.ScriptKey.TheVariants.{Slots as OldSlo
 use Rattle.tl_script.specs.declared.fault.ScriptFault.{ScriptFault}
 use Rattle.tl_script.specs.declared.fault.ScriptFault.TheVariants.{Missing as OldMissing, WrongType as OldWrongType, NotToml as OldNotToml, TooLong as OldTooLong}
 use Rattle.check_description.specs.File.{Parts, document_of, parts_in, parts_of}
-use Rattle.check_scripts.specs.Instance.{ArePortsOf, DescribesTheSame, IsAbsent, IsPlainMaster, IsPlainPort, NamesTheSame, SaysNothingNew, plain_master}
+use Rattle.check_description.specs.Rules.{by_address_in, rules_in}
+use Rattle.check_scripts.specs.Instance.{ArePortsOf, DescribesTheSame, IsAbsent, IsPlainMaster, IsPlainPort, NamesTheSame, SaysNothingNew, plain_master, strict_rules}
 use Rattle.check_keys.specs.Key.{key_name}
 use Rattle.tl_map.specs.declared.owners.Owner.{Owner}
 use Rattle.check_description.specs.Master.{HasOwners, IsInBlocks, Master, counts_of, said_owners, first_at, has_first, master_of, master_tables, masters_of, stride_at}
@@ -37,9 +38,9 @@ use Rattle.check_description.specs.Port.{Port, port_tables, ports_of, tables_by}
 use Rattle.tl_text.specs.Reading as steps
 use Rattle.check_beats.specs.declared.bus.Bus.TheVariants.{Eight}
 use Rattle.check_keys.specs.Bus.{bus_in_table}
-use Rattle.check_keys.specs.Value.{array_of, number_at, number_if_any, table_of, tables_of, text_if_any, up_to, value_at}
+use Rattle.check_keys.specs.Value.{array_of, flag_at, number_at, number_if_any, table_of, tables_of, text_if_any, up_to, value_at}
 use Rattle.check_keys.specs.declared.fault.Key.{Key}
-use Rattle.check_keys.specs.declared.fault.Key.TheVariants.{Bus, Port as PortKey, Master as MasterKey, Sources}
+use Rattle.check_keys.specs.declared.fault.Key.TheVariants.{Bus, Unaligned, Decode, Port as PortKey, Master as MasterKey, Sources}
 use Rattle.check_keys.specs.declared.fault.SystemFault.{SystemFault}
 use Rattle.check_keys.specs.declared.fault.SystemFault.TheVariants.{Missing, NotToml, TooLong, WrongType}
 use Rattle.tl_map.specs.declared.limits.TheConstants.{MAX_JUDGED_MASTERS, MAX_JUDGED_PORTS, MAX_JUDGED_SOURCES}
@@ -260,11 +261,22 @@ bus_read : (members : Members) → IsAbsent Bus members → bus_in_table Eight m
 unfolding bus_in_table number_if_any
 bus_read members absent = rw absent refl
 
+decode_read : (members : Members) → IsAbsent Decode members → by_address_in members ≡ Ok false
+unfolding by_address_in text_if_any
+decode_read members absent = rw absent refl
+
+rules_read : (members : Members) → IsAbsent Unaligned members → IsAbsent Decode members
+    → rules_in members ≡ Ok strict_rules
+unfolding rules_in flag_at
+rules_read members aligned decode = rw (aligned, decode_read members decode) refl
+
 parts_read : (members : Members) (ports : List Port) (masters : List Master) → bus_in_table Eight members ≡ Ok Eight
+    → rules_in members ≡ Ok strict_rules
     → ports_of Eight members ≡ Ok ports → masters_of Eight members ≡ Ok masters
-    → parts_in members ≡ Ok (record { ports = ports; masters = masters })
+    → parts_in members ≡ Ok (record { rules = strict_rules; ports = ports; masters = masters })
 unfolding parts_in
-parts_read fields ports masters bus_is ports_are masters_are = rw (bus_is, ports_are, masters_are) refl
+parts_read fields ports masters bus_is rules_are ports_are masters_are =
+    rw (bus_is, rules_are, ports_are, masters_are) refl
 
 ports_read : (members : Members) (stores : List Store)
     (read : ReadsValue (get_member (key_name PortKey) members) stores)
@@ -311,7 +323,7 @@ no_names (count ∷ counts) = no_names counts
 -- the parts of a script as those of a system file
 record ReadsScript (bytes : List ℕ) (parts : OldParts) : Type 0 where
   pub ports : List Port
-  pub read : parts_of bytes ≡ Ok (record { ports = ports; masters = map plain_master (old_counts_of parts) })
+  pub read : parts_of bytes ≡ Ok (record { rules = strict_rules; ports = ports; masters = map plain_master (old_counts_of parts) })
   pub slaves : ArePortsOf parts.stores ports
   pub names : filter_map (λ (port : Port). port.name) ports ≡ []
   pub some : 0 < length (old_counts_of parts)
@@ -337,7 +349,8 @@ parts_of_same bytes parts plain ranges counts is =
     record {
       ports = ports.same.ports;
       read = rw document_is (parts_read members ports.same.ports (map plain_master (old_counts_of parts))
-          (bus_read members (plain.bus members document_is)) (ports_read members parts.stores ports) masters);
+          (bus_read members (plain.bus members document_is)) (rules_read members (plain.unaligned members document_is) (plain.decode members document_is))
+          (ports_read members parts.stores ports) masters);
       slaves = ports.same.are;
       names = ports.same.names;
       some = omega (
@@ -358,8 +371,9 @@ names_same bytes script spelled plain =
     let some = read.some in
     let counted = spelled.makes.blocks.counted in
     record {
-      parts = record { ports = read.ports; masters = map plain_master (old_counts_of parts) };
+      parts = record { rules = strict_rules; ports = read.ports; masters = map plain_master (old_counts_of parts) };
       named = read.read;
+      rules = refl;
       slaves = rw stores read.slaves;
       masters = ap (λ counts. map plain_master counts) (sym counts);
       names = rw (read.names, no_names (old_counts_of parts)) refl;
@@ -399,6 +413,7 @@ system_same bytes script parts system spelled plain read makes =
     let counts : counts_in script.owners ≡ old_counts_of spelled.parts =
     counts_are (old_counts_of spelled.parts) script.owners spelled.makes.blocks in
     record {
+      rules = makes.rules ∙ ap (λ (p : Parts). p.rules) same ∙ named.rules;
       slaves = rw ports named.slaves;
       masters = makes.masters ∙ masters;
       owners = one_list (counts_in script.owners) system.owners script.owners blocks.blocks

@@ -1,5 +1,5 @@
 -- What it says that a bus of eight bytes is that of `tl_beats`: these are this project's own words.
-use Rattle.std.specs.Prelude.{◌≡◌, ◌↔◌, ℕ, Bool, List, map}
+use Rattle.std.specs.Prelude.{◌≡◌, ◌↔◌, ℕ, Bool, false, List, map, Some, slice_get}
 use Rattle.tl_types.specs.Request.{Request}
 use Rattle.tl_types.specs.Response.{Response}
 use Rattle.tl_types.specs.declared.operation.AskOp.{AskOp}
@@ -9,7 +9,7 @@ use Rattle.tl_beats.specs.declared.beat.ABeat.{ABeat}
 use Rattle.tl_beats.specs.declared.beat.DBeat.{DBeat}
 use Rattle.check_cells.specs.Pattern.{seen_as}
 use Rattle.check_beats.specs.Bus.{active_mask_on_bus, beat_count_on_bus, lane_on_bus}
-use Rattle.check_beats.specs.Form.{IsLawfulMaskOnBus}
+use Rattle.check_beats.specs.Form.{IsRightMark, IsLawfulMaskOnBus}
 use Rattle.check_beats.specs.Spelling.{AskBeat, ReplyBeat, SpellsAskOnBus, SpellsReplyOnBus}
 
 pub record BusIsThatOfEight : Type 0 where
@@ -25,7 +25,7 @@ MaskIsThatOfEight = (op : AskOp) (size address mask : ℕ) → IsLawfulMaskOnBus
 -- a beat of a request, with its lanes apart
 abbrev pub ask_beat_of : ABeat → AskBeat
 ask_beat_of beat = record {
-  head = record { opcode = beat.opcode; param = beat.param; size = beat.size; source = beat.source; address = beat.address; mask = beat.mask };
+  head = record { opcode = beat.opcode; param = beat.param; size = beat.size; source = beat.source; address = beat.address; mask = beat.mask; corrupt = false };
   lanes = beat.lanes;
 }
 
@@ -36,7 +36,7 @@ all_lanes = 255
 -- a beat of a reply, all of whose lanes are known
 abbrev pub reply_beat_of : DBeat → ReplyBeat
 reply_beat_of beat = record {
-  head = record { opcode = beat.opcode; size = beat.size; source = beat.source; denied = beat.denied; corrupt = beat.corrupt };
+  head = record { opcode = beat.opcode; param = 0; size = beat.size; source = beat.source; denied = beat.denied; corrupt = beat.corrupt };
   known = all_lanes;
   lanes = beat.lanes;
 }
@@ -46,8 +46,14 @@ abbrev pub AskSpelledAlike : Type 0
 AskSpelledAlike =
     (ask : Request) (beats : List ABeat) → SpellsAskOnBus 8 ask (map ask_beat_of beats) ↔ narrow.SpellsAsk ask beats
 
--- and a reply, which is wholly known
+-- the beats are marked corrupt as the standard asks: those that carry bytes of a denied reply are, and no others
+abbrev pub AreMarked : Response → List DBeat → Type 0
+AreMarked reply beats =
+    (b : ℕ) (beat : DBeat) → slice_get beats b ≡ Some beat → IsRightMark reply.op reply.denied beat.corrupt
+
+-- and a reply, which is wholly known, if the beats are marked as the standard asks, which `tl_beats` leaves open
 abbrev pub ReplySpelledAlike : Type 0
 ReplySpelledAlike =
     (reply : Response) (address : ℕ) (beats : List DBeat)
-    → SpellsReplyOnBus 8 (seen_as reply) address (map reply_beat_of beats) ↔ narrow_reply.SpellsReply reply address beats
+    → SpellsReplyOnBus 8 (seen_as reply) address (map reply_beat_of beats)
+    ↔ (narrow_reply.SpellsReply reply address beats × AreMarked reply beats)

@@ -1,5 +1,5 @@
 -- What a script of tlx is as a system file. This project's own.
-use Rattle.std.specs.Prelude.{◌≡◌, ◌<◌, ℕ, List, [], ◌∷◌, length, map, None, Ok}
+use Rattle.std.specs.Prelude.{◌≡◌, false, ◌<◌, ℕ, List, [], ◌∷◌, length, map, None, Ok}
 use Rattle.std.specs.List.{AllByRecursion}
 use Rattle.toml.specs.Data.{Members, get_member}
 use Rattle.tl_map.specs.Blocks.{counts_in}
@@ -7,9 +7,10 @@ use Rattle.tl_ops.specs.Store.{Store}
 use Rattle.tl_script.specs.Script.{Spells}
 use Rattle.tl_script.specs.System.{System, range_of}
 use Rattle.check_beats.specs.declared.bus.Bus.TheVariants.{Eight}
+use Rattle.check_beats.specs.declared.rules.LinkRules.{LinkRules}
 use Rattle.check_keys.specs.Key.{key_name}
 use Rattle.check_keys.specs.declared.fault.Key.{Key}
-use Rattle.check_keys.specs.declared.fault.Key.TheVariants.{Bus, Name, Ranges, Image, Unknown, Sizes, Order, First, Stride}
+use Rattle.check_keys.specs.declared.fault.Key.TheVariants.{Bus, Unaligned, Decode, Name, Ranges, Image, Unknown, Sizes, Order, First, Stride}
 use Rattle.check_description.specs.Laws.{IsPlainMemory, store_at_reset}
 use Rattle.check_description.specs.Port.{Port, port_tables}
 use Rattle.check_description.specs.Description.{Description, Makes}
@@ -39,9 +40,11 @@ pub record IsPlainMaster (members : Members) : Type 0 where
   pub stride : IsAbsent Stride members
   pub bus : IsAbsent Bus members
 
--- the file has no bus, and no table of a port or of a master has such a key
+-- the file says nothing of its links, and no table of a port or of a master has such a key
 pub record SaysNothingNew (bytes : List ℕ) : Type 0 where
   pub bus : (members : Members) → document_of bytes ≡ Ok members → IsAbsent Bus members
+  pub unaligned : (members : Members) → document_of bytes ≡ Ok members → IsAbsent Unaligned members
+  pub decode : (members : Members) → document_of bytes ≡ Ok members → IsAbsent Decode members
   pub ports : (members : Members) (tables : List Members) → document_of bytes ≡ Ok members
       → port_tables members ≡ Ok tables → AllByRecursion IsPlainPort tables
   pub masters : (members : Members) (tables : List Members) → document_of bytes ≡ Ok members
@@ -70,6 +73,10 @@ ArePortsOf (store ∷ stores) (port ∷ ports) = IsPortOf store port × ArePorts
 abbrev pub plain_master : ℕ → Master
 plain_master count = record { name = None; sources = count; first = None; stride = 1; bus = Eight }
 
+-- requests are aligned, and decoders look at all their bytes
+abbrev pub strict_rules : LinkRules
+strict_rules = record { unaligned = false; by_address = false }
+
 -- ---- what is said of them
 
 -- the file names these parts: a port for each slave of the script, and a master for each count of sources, of which there
@@ -77,6 +84,7 @@ plain_master count = record { name = None; sources = count; first = None; stride
 pub record NamesSame (script : System) (bytes : List ℕ) : Type 0 where
   pub parts : Parts
   pub named : parts_of bytes ≡ Ok parts
+  pub rules : parts.rules ≡ strict_rules
   pub slaves : ArePortsOf script.stores parts.ports
   pub masters : parts.masters ≡ map plain_master (counts_in script.owners)
   pub names : names_of parts ≡ []
@@ -87,6 +95,7 @@ NamesTheSame = (bytes : List ℕ) (script : System) → Spells bytes script → 
 
 -- the system has the script's slaves, and its masters have the script's owners
 pub record IsSameSystem (script : System) (system : Description) : Type 0 where
+  pub rules : system.rules ≡ strict_rules
   pub slaves : ArePortsOf script.stores system.ports
   pub masters : system.masters ≡ map plain_master (counts_in script.owners)
   pub owners : system.owners ≡ script.owners

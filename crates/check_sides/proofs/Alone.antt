@@ -4,9 +4,11 @@ use Rattle.std.specs.Prelude.{IsTrue}
 use Rattle.tl_types.specs.Fault.{IsFirstOf}
 use Rattle.tl_map.specs.declared.range.Range.{Range}
 use Rattle.check_beats.specs.Form.{FitsAsk, FitsReply, IsKnown}
+use Rattle.check_beats.specs.Rules.{IsAlignedBy}
 use Rattle.check_beats.specs.State.{ends_reply, first_ask, first_reply}
 use Rattle.check_beats.specs.declared.beat.AskHead.{AskHead}
 use Rattle.check_beats.specs.declared.beat.ReplyHead.{ReplyHead}
+use Rattle.check_beats.specs.declared.rules.LinkRules.{LinkRules}
 use Rattle.check_flight.specs.Flight.{Turn}
 use Rattle.check_flight.specs.PortSlave.{may_be_unknown}
 use Rattle.check_flight.proofs.Known.{stays_answering}
@@ -25,18 +27,19 @@ use Rattle.check_sides.specs.View.{Beyond, IsOwnPort, PortView, captured_in, due
 apart : Ports ≡ Both → ⊥
 apart is = cc
 
-module _ (layout : Layout) (map : List (List Range)) (port : ℕ) (own : IsOwnPort layout map) where
+module _ (layout : Layout) (links : LinkRules) (map : List (List Range)) (port : ℕ) (own : IsOwnPort layout links map) where
   -- every source is the link's
   pub own_source : (source : ℕ) → source < 65536 → HasSource layout (Port port) source
   own_source source small = (source, (refl, own.anybody source small))
 
   pub up_to : (scene : Scene) (beat : AskHead) (known : ℕ) (lanes : List ℕ) (rank : ℕ)
-      → FitsAsk scene.under.bus (first_ask scene.under.asking) beat → IsKnown beat known
-      → beat.source < 65536 → (8 < rank → BeginsFree scene)
-      → (9 < rank → BeginsPlaced layout (Port port) scene beat)
+      → FitsAsk scene.under.bus (first_ask scene.under.asking) beat → IsAlignedBy links beat → IsKnown beat known
+      → beat.source < 65536 → (10 < rank → BeginsFree scene)
+      → (11 < rank → BeginsPlaced layout (Port port) scene beat)
       → AskUpTo layout (Port port) scene beat known lanes rank
-  up_to scene beat known lanes rank fits seen small free placed = record {
+  up_to scene beat known lanes rank fits aligned seen small free placed = record {
     fits = fits;
+    aligned = subst (λ (r : LinkRules). IsAlignedBy r beat) (sym own.rules) aligned;
     known_lanes = seen;
     source = own_source beat.source small;
     free = free;

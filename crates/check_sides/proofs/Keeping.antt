@@ -5,6 +5,7 @@ use Rattle.std.proofs.lemmas.Bool.{eqb-false}
 use Rattle.tl_types.proofs.Lists.{slice_get-set_same, slice_get-set_other}
 use Rattle.tl_map.specs.declared.range.Range.{Range}
 use Rattle.tl_map.specs.Owner.{IsOwned}
+use Rattle.check_beats.specs.declared.rules.LinkRules.{LinkRules}
 use Rattle.check_flight.specs.Side.{bus_at}
 use Rattle.check_watch.specs.declared.beat.Beat.{Beat}
 use Rattle.check_watch.specs.declared.beat.Link.{Link}
@@ -83,8 +84,9 @@ module _ (plan : Plan) (past : List Sighting) (view : View) (port : ℕ) (beat :
   abbrev pub at_alone : Sighting
   at_alone = seen_at (Port port) beat known lanes
 
-  pub own_port : (map : List (List Range)) → plan.layout.ports ≡ map → IsOwnPort (port_plan plan).layout map
-  own_port map ranges = record { watched = refl; anybody = owns_all; ranges = ranges }
+  pub own_port : (links : LinkRules) (map : List (List Range)) → plan.layout.rules ≡ links → plan.layout.ports ≡ map
+      → IsOwnPort (port_plan plan).layout links map
+  own_port links map rules ranges = record { watched = refl; rules = rules; anybody = owns_all; ranges = ranges }
 
   pub kept_here : (link : PortView) → slice_get view.ports port ≡ Some link
       → KeepsPort (port_plan plan) port (port_past port past) link

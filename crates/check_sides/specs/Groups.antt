@@ -49,6 +49,7 @@ abbrev pub port_plan : Plan → Plan
 port_plan plan = record {
   layout = record {
     links = Ports;
+    rules = plan.layout.rules;
     owners = everybody ∷ [];
     ports = plan.layout.ports;
     master_buses = plan.layout.master_buses;

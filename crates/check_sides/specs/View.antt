@@ -9,6 +9,7 @@ use Rattle.check_beats.specs.Bus.{bus_bytes}
 use Rattle.check_beats.specs.State.{Under, nothing_under}
 use Rattle.check_beats.specs.declared.beat.ReplyHead.{ReplyHead}
 use Rattle.check_beats.specs.declared.bus.Bus.{Bus}
+use Rattle.check_beats.specs.declared.rules.LinkRules.{LinkRules}
 use Rattle.check_flight.specs.declared.answer.Answer.{Answer}
 use Rattle.check_flight.specs.Crossing.{Crossing}
 use Rattle.check_flight.specs.Flight.{Flight, Turn, asked, due_by}
@@ -36,9 +37,10 @@ pub record PortView : Type 0 where
   pub flights : List (ℕ × Flight)
   pub slave : PortSlave
 
--- a layout is that of such a link, where the ports have these ranges
-pub record IsOwnPort (layout : Layout) (map : List (List Range)) : Type 0 where
+-- a layout is that of such a link, by these rules of the links, where the ports have these ranges
+pub record IsOwnPort (layout : Layout) (links : LinkRules) (map : List (List Range)) : Type 0 where
   pub watched : layout.links ≡ Ports
+  pub rules : layout.rules ≡ links
   pub anybody : (source : ℕ) → source < 65536 → IsOwned layout.owners source
   pub ranges : layout.ports ≡ map
 

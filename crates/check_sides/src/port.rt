@@ -1,6 +1,7 @@
 //! The judge of one port's link that is judged by itself: which beats are lawful there.
 ghost use Rattle.std.specs.Prelude.{◌≡◌, ◌≤◌, ◌∷◌, ℕ, List, length, false, IsTrue, IfSome, IfNone, option_map};
 ghost use Rattle.tl_map.specs.declared.range.Range.{Range};
+ghost use Rattle.check_beats.specs.declared.rules.LinkRules.{LinkRules};
 ghost use Rattle.check_beats.specs.Bus.{bus_bytes};
 ghost use Rattle.check_beats.specs.Form.{FitsAsk, FitsReply};
 ghost use Rattle.check_beats.specs.State.{ends_reply, first_ask, first_reply};
@@ -17,7 +18,7 @@ ghost use Rattle.check_watch.specs.View.{FitsBeat};
 ghost use Rattle.check_sides.specs.View.{Beyond, IsOwnPort, KeepsPort, captured_in, due_in, fresh_link, port_scene};
 
 use crate::flights::Flights;
-use check_beats::{AskHead, Bus, ReplyHead, UnderWay};
+use check_beats::{AskHead, Bus, LinkRules, ReplyHead, UnderWay};
 use check_cells::Pattern;
 use check_flight::{Answer, PortSlave};
 use check_watch::{Beat, Fault, Reason, Seen, SeenEntry, answer_reason, due_reason, fault_of};
@@ -102,21 +103,22 @@ impl PortLink {
     fn ask_reason(
         &self,
         port: usize,
+        rules: LinkRules,
         map: &AddressMap,
         beat: &AskHead,
         known: u64,
     ) -> Option<Reason>
-        ensures reason { (layout : Layout) (beyond : Beyond) (lanes : List ℕ) → IsOwnPort layout map.now
+        ensures reason { (layout : Layout) (beyond : Beyond) (lanes : List ℕ) → IsOwnPort layout rules map.now
             → IfSome result (IsFirstAskReason layout (Port port)
             (port_scene layout port beyond self.now (A beat.now)) beat.now known lanes) }
-        ensures allowed { (layout : Layout) (beyond : Beyond) (lanes : List ℕ) → IsOwnPort layout map.now
+        ensures allowed { (layout : Layout) (beyond : Beyond) (lanes : List ℕ) → IsOwnPort layout rules map.now
             → IfNone result (IsAllowedAsk layout (Port port)
             (port_scene layout port beyond self.now (A beat.now)) beat.now known lanes) }
         ensures fits { IfNone result
             (FitsAsk self.now.under.bus (first_ask self.now.under.asking) beat.now) }
     {
         let source = beat.source;
-        if let Some(fault) = self.under.ask_fault(beat, known) {
+        if let Some(fault) = self.under.ask_fault(rules, beat, known) {
             return Some(Reason::Form(fault));
         }
         if !self.under.begins_ask() {
@@ -125,7 +127,7 @@ impl PortLink {
         if !self.flights.flight(source).is_idle() {
             return Some(Reason::SourceBusy);
         }
-        if map.route_bytes(beat.address, beat.size) != port {
+        if map.route_bytes(beat.address, rules.decoded_size(beat.size)) != port {
             return Some(Reason::WrongPort);
         }
         None
@@ -158,11 +160,11 @@ impl PortLink {
         lanes: &[u8],
     ) -> Option<Reason>
         requires lanes { self.now.under.bus ≤ length lanes.now }
-        ensures reason { (layout : Layout) (beyond : Beyond) (map : List (List Range))
-            → IsOwnPort layout map → IfSome result (IsFirstReplyReason layout (Port port)
+        ensures reason { (layout : Layout) (beyond : Beyond) (rules : LinkRules) (map : List (List Range))
+            → IsOwnPort layout rules map → IfSome result (IsFirstReplyReason layout (Port port)
             (port_scene layout port beyond self.now (D beat.now)) beat.now known lanes.now) }
-        ensures allowed { (layout : Layout) (beyond : Beyond) (map : List (List Range))
-            → IsOwnPort layout map → IfNone result (IsAllowedReply layout (Port port)
+        ensures allowed { (layout : Layout) (beyond : Beyond) (rules : LinkRules) (map : List (List Range))
+            → IsOwnPort layout rules map → IfNone result (IsAllowedReply layout (Port port)
             (port_scene layout port beyond self.now (D beat.now)) beat.now known lanes.now) }
         ensures fits { IfNone result (FitsReply (first_reply self.now.under.replying) beat.now) }
     {
@@ -185,22 +187,23 @@ impl PortLink {
     pub(crate) fn reason(
         &self,
         port: usize,
+        rules: LinkRules,
         map: &AddressMap,
         beat: &Beat,
         known: u64,
         lanes: &[u8],
     ) -> Option<Reason>
         requires lanes { self.now.under.bus ≤ length lanes.now }
-        ensures reason { (plan : Plan) (past : List Sighting) → IsOwnPort plan.layout map.now
+        ensures reason { (plan : Plan) (past : List Sighting) → IsOwnPort plan.layout rules map.now
             → KeepsPort plan port past self.now
             → IfSome result (IsFirstReason plan past (seen_at (Port port) beat.now known lanes.now)) }
-        ensures allowed { (plan : Plan) (past : List Sighting) → IsOwnPort plan.layout map.now
+        ensures allowed { (plan : Plan) (past : List Sighting) → IsOwnPort plan.layout rules map.now
             → KeepsPort plan port past self.now
             → IfNone result (IsLawfulGroup plan (seen_at (Port port) beat.now known lanes.now ∷ past)) }
         ensures fits { IfNone result (FitsBeat self.now.under beat.now) }
     {
         match beat {
-            Beat::A(beat) => self.ask_reason(port, map, beat, known),
+            Beat::A(beat) => self.ask_reason(port, rules, map, beat, known),
             Beat::D(beat) => self.reply_reason(port, beat, known, lanes),
         }
     }

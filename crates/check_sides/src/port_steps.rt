@@ -16,7 +16,7 @@ ghost use Rattle.check_sides.specs.Steps.{IsAloneStep, IsAloneTake, MayNeedAlone
 ghost use Rattle.check_sides.specs.View.{Beyond, IsAfter, IsOwnPort, KeepsPort, MayNeedToAnswer, answered_in};
 
 use crate::port::PortLink;
-use check_beats::{AskHead, ReplyHead};
+use check_beats::{AskHead, LinkRules, ReplyHead};
 use check_watch::{Beat, Ended, Seen, StepError};
 use std::alloc::{AllocError, Global};
 use tl_map::AddressMap;
@@ -164,20 +164,21 @@ impl PortLink {
         &mut self,
         alloc: Global,
         port: usize,
+        rules: LinkRules,
         map: &AddressMap,
         beat: &Beat,
         known: u64,
         lanes: &[u8],
     ) -> Result<Option<Ended>, AllocError>
         requires lanes { self.old.under.bus ≤ length lanes.now }
-        ensures taken { (plan : Plan) (past : List Sighting) → IsOwnPort plan.layout map.now
+        ensures taken { (plan : Plan) (past : List Sighting) → IsOwnPort plan.layout rules map.now
             → KeepsPort plan port past self.old
             → IsAloneTake plan port past (seen_at (Port port) beat.now known lanes.now) self.new result }
         ensures none { IfOk result (λ end. IfNone end (self.new ≡ self.old)) }
         ensures err { OnErr result (self.new ≡ self.old) }
         ensures bus { self.new.under.bus ≡ self.old.under.bus }
     {
-        if let Some(_reason) = self.reason(port, map, beat, known, lanes) {
+        if let Some(_reason) = self.reason(port, rules, map, beat, known, lanes) {
             return Ok(None);
         }
         let ended = self.admit(alloc, port, beat, known, lanes)?;
@@ -189,19 +190,20 @@ impl PortLink {
         &mut self,
         alloc: Global,
         port: usize,
+        rules: LinkRules,
         map: &AddressMap,
         beat: &Beat,
         known: u64,
         lanes: &[u8],
     ) -> Result<Seen, StepError>
         requires lanes { self.old.under.bus ≤ length lanes.now }
-        ensures judged { (plan : Plan) (past : List Sighting) → IsOwnPort plan.layout map.now
+        ensures judged { (plan : Plan) (past : List Sighting) → IsOwnPort plan.layout rules map.now
             → KeepsPort plan port past self.old
             → IsAloneStep plan port past (seen_at (Port port) beat.now known lanes.now) self.new result }
         ensures err { OnErr result (self.new ≡ self.old) }
         ensures bus { self.new.under.bus ≡ self.old.under.bus }
     {
-        if let Some(reason) = self.reason(port, map, beat, known, lanes) {
+        if let Some(reason) = self.reason(port, rules, map, beat, known, lanes) {
             return Err(StepError::Unlawful(self.fault(port, beat, known, lanes, reason)));
         }
         let seen = self.seen(port, beat, known, lanes);

@@ -31,8 +31,9 @@ impl Watch {
         ensures layout { self.new.layout ≡ self.old.layout }
     {
         self.sized();
+        let rules = self.shared.rules();
         let map = self.shared.map();
-        self.ports[port].step(alloc, port, map, beat, known, lanes)
+        self.ports[port].step(alloc, port, rules, map, beat, known, lanes)
     }
 
     /// Takes one beat more at a port's link that is judged by itself, if it is lawful: what it ends.
@@ -55,8 +56,9 @@ impl Watch {
         ensures layout { self.new.layout ≡ self.old.layout }
     {
         self.sized();
+        let rules = self.shared.rules();
         let map = self.shared.map();
-        self.ports[port].take(alloc, port, map, beat, known, lanes)
+        self.ports[port].take(alloc, port, rules, map, beat, known, lanes)
     }
 
     /// Judges one beat more at a link that is judged with others.

@@ -1,13 +1,15 @@
 //! The judge of what crossed the links of a crossbar.
-ghost use Rattle.std.specs.Prelude.{◌≡◌, ◌↔◌, ◌+◌, [], length, IsTrue, IfOk, IfSome, IfNone, true, false};
+ghost use Rattle.std.specs.Prelude.{◌≡◌, ◌≤◌, ◌↔◌, ◌+◌, ℕ, [], length, IsTrue, IfOk, IfSome, IfNone, true, false};
 ghost use Rattle.check_beats.specs.Bus.{bus_bytes};
+ghost use Rattle.tl_types.specs.declared.limits.TheConstants.{MAX_SIZE};
 ghost use Rattle.check_watch.specs.declared.beat.Link.TheVariants.{Port};
+ghost use Rattle.check_watch.specs.Plan.{RoutesAt};
 ghost use Rattle.check_sides.specs.Groups.{is_alone};
 ghost use Rattle.check_sides.specs.Plan.{Plan, IsPlan, HasLink, IsWatched, bus_of};
 ghost use Rattle.check_sides.specs.View.{IsSized, Keeps, fresh_links};
 
 use crate::port::PortLink;
-use check_beats::Bus;
+use check_beats::{Bus, LinkRules};
 use check_flight::PortSlave;
 use check_watch::{GroupWatch, Link, Links};
 use std::alloc::{AllocError, Global};
@@ -57,12 +59,13 @@ fn links_of(
 }
 
 impl Watch {
-    /// The judge of a crossbar with these ports and sources, before any beat. There is a slave for each port, the error
+    /// The judge of a crossbar with these rules, ports and sources, before any beat. There is a slave for each port, the error
     /// port's last, as it is at reset; a bus for each master's link, and one for each port's. With `Links::Each` the same
     /// slaves are given a second time, for the ports' side; otherwise that list is not looked at.
     pub fn new(
         alloc: Global,
         links: Links,
+        rules: LinkRules,
         map: AddressMap,
         sources: SourceOwners,
         master_buses: Vec<Bus>,
@@ -76,6 +79,7 @@ impl Watch {
         requires own { links ≡ Links.Each → own.items ≡ slaves.items }
         ensures layout { IfOk result (λ watch. watch.layout ≡ record {
           links = links;
+          rules = rules;
           owners = sources;
           ports = map;
           master_buses = master_buses.items;
@@ -86,6 +90,7 @@ impl Watch {
         ensures keeps { (plan : Plan) → IsPlan plan
             → plan.layout ≡ record {
               links = links;
+              rules = rules;
               owners = sources;
               ports = map;
               master_buses = master_buses.items;
@@ -94,7 +99,16 @@ impl Watch {
             → plan.resets ≡ slaves.items → IfOk result (Keeps plan []) }
     {
         let ports = links_of(alloc, &port_buses, own)?;
-        let shared = GroupWatch::new(alloc, links, map, sources, master_buses, port_buses, slaves)?;
+        let shared = GroupWatch::new(
+            alloc,
+            links,
+            rules,
+            map,
+            sources,
+            master_buses,
+            port_buses,
+            slaves,
+        )?;
         Ok(Watch { shared, ports })
     }
 
@@ -133,6 +147,14 @@ impl Watch {
         ensures { result.now ≡ self.now.layout.ports }
     {
         self.shared.map()
+    }
+
+    /// The port to which the address map sends requests of this address and size.
+    pub fn route(&self, address: u64, size: u8) -> usize
+        requires { size ≤ MAX_SIZE }
+        ensures { (port : ℕ) → (result ≡ port) ↔ RoutesAt self.now.layout address size port }
+    {
+        self.shared.route(address, size)
     }
 
     /// The bus of a link.

@@ -1,12 +1,12 @@
 -- What a name of a system file finds among the signals that a dump declares. This project's own.
-use Rattle.std.specs.Prelude.{◌≡◌, ◌≢◌, ℕ, ◌+◌, ◌-◌, not, nat_lt, List, map, codes, Option, None, Some, option_map, MatchResult, Result, Ok, Err, if◌then◌else◌}
+use Rattle.std.specs.Prelude.{◌≡◌, ◌≢◌, ℕ, ◌+◌, ◌-◌, Bool, ◌&&◌, not, nat_lt, List, map, codes, Option, None, Some, option_map, MatchResult, Result, Ok, Err, if◌then◌else◌}
 use Rattle.std.specs.List.{list_any}
 use Rattle.std.specs.Str.{bytes_eq}
 use Rattle.check_vcd.specs.Codes.{coded_in}
 use Rattle.check_vcd.specs.Header.{Var}
 use Rattle.check_vcd.specs.declared.codes.Coded.{Coded}
 use Rattle.check_keys.specs.Nearest.{nearest}
-use Rattle.check_signals.specs.Wanted.{bits_fit, count_of}
+use Rattle.check_signals.specs.Wanted.{bits_fit, count_of, may_be_absent}
 use Rattle.check_signals.specs.Wires.{Wire, first_of, wires_called}
 use Rattle.check_signals.specs.declared.signal_fault.SignalOwner.{SignalOwner}
 use Rattle.check_signals.specs.declared.signal_fault.SignalFault.{SignalFault}
@@ -52,6 +52,14 @@ digit_in name = if bytes_eq name (codes "0") then Some 48 else if bytes_eq name 
 -- all bits of a constant of so many
 abbrev pub constant_of : ℕ → ℕ → Source
 constant_of digit count = record { kept = Constant digit count; from = 0; to = count }
+
+-- no bits of a constant: a design has no such signal
+abbrev pub left_out : Source
+left_out = record { kept = Constant 48 1; from = 0; to = 0 }
+
+-- the name is `-`, which says so of a signal that may be absent
+abbrev pub is_left_out : WantedSignal → Bool
+is_left_out asked = may_be_absent asked.wanted && bytes_eq asked.name (codes "-")
 
 -- ---- a signal
 
@@ -105,7 +113,7 @@ source_by vars asked (Some digit) = Ok (constant_of digit (count_of asked.wanted
 source_by vars asked None = signal_in vars asked
 
 unfoldable pub source_in : List Var → WantedSignal → Result Source SearchFault
-source_in vars asked = source_by vars asked (digit_in asked.name)
+source_in vars asked = if is_left_out asked then Ok left_out else source_by vars asked (digit_in asked.name)
 
 -- ---- what calls answer
 

@@ -1,17 +1,25 @@
 -- How many bits the signals of a link have, as the format of captures has its columns. This project's own.
-use Rattle.std.specs.Prelude.{ℕ, ◌*◌, ◌==◌, nat_le, Bool}
+use Rattle.std.specs.Prelude.{ℕ, ◌*◌, ◌==◌, nat_le, Bool, false, true}
 use Rattle.check_samples.specs.declared.signal.Signal.{Signal}
 use Rattle.check_samples.specs.declared.signal.Signal.TheVariants as signal
 use Rattle.check_signals.specs.declared.wanted.Wanted.{Wanted}
-use Rattle.check_signals.specs.declared.wanted.Wanted.TheVariants.{Exactly, AtMost}
+use Rattle.check_signals.specs.declared.wanted.Wanted.TheVariants.{Exactly, AtMost, Optional}
 
 abbrev pub bits_fit : Wanted → ℕ → Bool
 bits_fit (Exactly count) bits = bits == count
 bits_fit (AtMost count) bits = nat_le bits count
+bits_fit (Optional count) bits = nat_le bits count
 
 abbrev pub count_of : Wanted → ℕ
 count_of (Exactly count) = count
 count_of (AtMost count) = count
+count_of (Optional count) = count
+
+-- a design may leave the signal out
+abbrev pub may_be_absent : Wanted → Bool
+may_be_absent (Exactly count) = false
+may_be_absent (AtMost count) = false
+may_be_absent (Optional count) = true
 
 -- at a link whose bus has so many bytes
 abbrev pub wanted_of : Signal → ℕ → Wanted
@@ -31,4 +39,4 @@ wanted_of signal.DSize bus = AtMost 8
 wanted_of signal.DSource bus = AtMost 16
 wanted_of signal.DData bus = Exactly (8 * bus)
 wanted_of signal.DDenied bus = AtMost 1
-wanted_of signal.DCorrupt bus = AtMost 1
+wanted_of signal.DCorrupt bus = Optional 1

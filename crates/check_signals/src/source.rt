@@ -1,7 +1,7 @@
 //! What a name of a system file finds among the signals that a dump declares.
 ghost use Rattle.std.specs.Prelude.{◌≡◌, ◌≢◌, ◌≤◌, IfOk, map, option_map};
 ghost use Rattle.check_vcd.specs.Header.{var_view};
-ghost use Rattle.check_signals.specs.Source.{Finds, asked_view, constant_of, digit_in, fault_view, measured, missing as missing_in, signal_in, source_in, source_view, too_wide, width_of, within};
+ghost use Rattle.check_signals.specs.Source.{Finds, asked_view, constant_of, digit_in, fault_view, is_left_out, left_out, measured, missing as missing_in, signal_in, source_in, source_view, too_wide, width_of, within};
 ghost use Rattle.check_signals.specs.Source.{Twice as TwiceIn};
 ghost use Rattle.check_signals.specs.Wires.{IsInside, wire_view};
 ghost use Rattle.check_signals.specs.declared.signal_fault.SignalFault.TheVariants.{Memory};
@@ -61,6 +61,24 @@ fn constant_of<'a>(digit: u8, count: u64) -> Source<'a>
         from: 0,
         to: count,
     }
+}
+
+/// No bits of a constant.
+fn left_out<'a>() -> Source<'a>
+    ensures { source_view result ≡ left_out }
+{
+    Source {
+        kept: Kept::Constant(b'0', 1),
+        from: 0,
+        to: 0,
+    }
+}
+
+/// Whether a name says that the design has no such signal.
+fn is_left_out(asked: WantedSignal<'_>) -> bool
+    ensures { result ≡ is_left_out (asked_view asked.entry) }
+{
+    asked.wanted.may_be_absent() && asked.name == b"-".as_slice()
 }
 
 /// How many bits the values of an identifier have: those of the first signal that has it.
@@ -206,6 +224,9 @@ pub(crate) fn source_in<'a>(
 ) -> Result<Source<'a>, SignalFault>
     ensures { Finds source_view result (source_in (map var_view vars.now) (asked_view asked.entry)) }
 {
+    if is_left_out(asked) {
+        return Ok(left_out());
+    }
     match digit_in(asked.name) {
         Some(digit) => Ok(constant_of(digit, asked.wanted.count())),
         None => signal_in(alloc, vars, asked),

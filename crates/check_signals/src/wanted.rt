@@ -1,7 +1,7 @@
 //! How many bits the signals of a link have.
 ghost use Rattle.std.specs.Prelude.{◌≡◌};
 ghost use Rattle.check_beats.specs.Bus.{bus_bytes};
-ghost use Rattle.check_signals.specs.Wanted.{bits_fit, wanted_of, count_of};
+ghost use Rattle.check_signals.specs.Wanted.{bits_fit, count_of, may_be_absent, wanted_of};
 
 use check_beats::Bus;
 use check_samples::Signal;
@@ -11,6 +11,8 @@ use check_samples::Signal;
 pub enum Wanted {
     Exactly(u64),
     AtMost(u64),
+    /// The same of a signal that a design may leave out.
+    Optional(u64),
 }
 
 impl Wanted {
@@ -20,8 +22,15 @@ impl Wanted {
     {
         match self {
             Wanted::Exactly(count) => bits == count,
-            Wanted::AtMost(count) => bits <= count,
+            Wanted::AtMost(count) | Wanted::Optional(count) => bits <= count,
         }
+    }
+
+    /// Whether a design may leave the signal out.
+    pub fn may_be_absent(self) -> bool
+        ensures { result ≡ may_be_absent self }
+    {
+        matches!(self, Wanted::Optional(_))
     }
 
     /// The count of bits that it speaks of.
@@ -29,7 +38,7 @@ impl Wanted {
         ensures { result ≡ count_of self }
     {
         match self {
-            Wanted::Exactly(count) | Wanted::AtMost(count) => count,
+            Wanted::Exactly(count) | Wanted::AtMost(count) | Wanted::Optional(count) => count,
         }
     }
 }
@@ -46,11 +55,8 @@ pub fn wanted_of(signal: Signal, bus: Bus) -> Wanted
         }
         Signal::ASource | Signal::DSource => Wanted::AtMost(16),
         Signal::AAddress => Wanted::AtMost(64),
-        Signal::AValid
-        | Signal::AReady
-        | Signal::DValid
-        | Signal::DReady
-        | Signal::DDenied
-        | Signal::DCorrupt => Wanted::AtMost(1),
+        Signal::AValid | Signal::AReady | Signal::DValid | Signal::DReady | Signal::DDenied =>
+            Wanted::AtMost(1),
+        Signal::DCorrupt => Wanted::Optional(1),
     }
 }

@@ -19,6 +19,7 @@ port_buses ports = map (λ (port : Port). port.bus) ports
 abbrev pub layout_of : Terms → Description → Layout
 layout_of terms system = record {
   links = terms.links;
+  rules = system.rules;
   owners = system.owners;
   ports = ranges_of system.ports;
   master_buses = master_buses system.masters;

@@ -212,6 +212,7 @@ pub fn begin(
     let watch = Watch::new(
         alloc,
         terms.links,
+        parts.rules,
         parts.addresses,
         parts.sources,
         buses.masters,

@@ -10,7 +10,7 @@ use Rattle.check_sides.specs.Groups.{is_alone, plan_at, past_at, shared_past, po
 use Rattle.check_sides.specs.Lawful.{IsLawful}
 use Rattle.check_sides.specs.Plan.{Plan, IsPlan}
 use Rattle.check_sides.proofs.Grouping.{apart_from, in_group, of_group}
-use Rattle.check_text_laws.specs.Groups.{EachGroupKeepsRules, AreAllSeenWhole, AreAllWatched}
+use Rattle.check_text_laws.specs.Groups.{EachGroupKeepsRules, AreAllCompliant, AreAllWatched}
 use Rattle.check_text_laws.proofs.Parts.{alone_port, master_shared, port_part, shared_part, together}
 use Rattle.check_text_laws.proofs.Watched.{port_is_plan, port_watched, shared_watched}
 
@@ -30,32 +30,32 @@ always_keeps plan past is watched lawful link = go (is_alone plan.layout.links l
         (port_watched plan (link_number link) past watched)
         (port_part plan (apart_from plan.layout.links link so) (link_number link) past lawful))
 
-pub seen_whole : (plan : Plan) (past : List Sighting) → IsLawful plan past → AreAllSeenWhole plan past
-seen_whole plan past lawful link = go (is_alone plan.layout.links link) refl
+pub all_compliant : (plan : Plan) (past : List Sighting) → IsLawful plan past → AreAllCompliant plan past
+all_compliant plan past lawful link = go (is_alone plan.layout.links link) refl
   where
     go : (b : Bool) → is_alone plan.layout.links link ≡ b
-        → group.AreSeenWhole (plan_at plan link) (past_at plan.layout.links link past)
+        → group.AreCompliant (plan_at plan link) (past_at plan.layout.links link past)
     go false so =
-        of_group plan past link (λ p l. group.AreSeenWhole p l) false so
-        (group_whole.seen_whole plan (shared_past plan.layout.links past) (shared_part plan past lawful))
+        of_group plan past link (λ p l. group.AreCompliant p l) false so
+        (group_whole.all_compliant plan (shared_past plan.layout.links past) (shared_part plan past lawful))
     go true so =
-        of_group plan past link (λ p l. group.AreSeenWhole p l) true so
-        (group_whole.seen_whole (port_plan plan) (port_past (link_number link) past)
+        of_group plan past link (λ p l. group.AreCompliant p l) true so
+        (group_whole.all_compliant (port_plan plan) (port_past (link_number link) past)
         (port_part plan (apart_from plan.layout.links link so) (link_number link) past lawful))
 
 pub rules_make_lawful : (plan : Plan) (past : List Sighting) → IsPlan plan → AreAllWatched plan.layout past
-    → AreAllSeenWhole plan past → EachGroupKeepsRules plan past → IsLawful plan past
+    → AreAllCompliant plan past → EachGroupKeepsRules plan past → IsLawful plan past
 rules_make_lawful plan past is watched seen always =
     together plan past (record {
       shared = group_back.rules_make_lawful plan (shared_past plan.layout.links past)
           is (shared_watched plan past watched)
-          (in_group plan past (Master 0) (λ p l. group.AreSeenWhole p l) false
+          (in_group plan past (Master 0) (λ p l. group.AreCompliant p l) false
           (master_shared plan.layout.links 0) (seen (Master 0)))
           (in_group plan past (Master 0) (λ p l. group.AlwaysKeepsRules p l) false
           (master_shared plan.layout.links 0) (always (Master 0)));
       ports = λ are port. group_back.rules_make_lawful (port_plan plan) (port_past port past) (port_is_plan plan is)
           (port_watched plan port past watched)
-          (in_group plan past (Port port) (λ p l. group.AreSeenWhole p l) true
+          (in_group plan past (Port port) (λ p l. group.AreCompliant p l) true
           (alone_port plan.layout.links port are) (seen (Port port)))
           (in_group plan past (Port port) (λ p l. group.AlwaysKeepsRules p l) true
           (alone_port plan.layout.links port are) (always (Port port)));

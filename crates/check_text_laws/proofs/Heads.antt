@@ -3,8 +3,9 @@ use Rattle.std.proofs.Common.{◌≡◌, ◌≢◌, ◌∙◌, ◌⊎◌, inl, i
 use Rattle.std.specs.Prelude.{nat_lt}
 use Rattle.std.specs.List.{AllByRecursion}
 use Rattle.tl_types.specs.Request.{Request}
-use Rattle.tl_map.specs.Map.{IsLawfulAddressMap, RoutesBytes}
+use Rattle.tl_map.specs.Map.{IsLawfulAddressMap}
 use Rattle.tl_map.proofs.Routing.{one_port}
+use Rattle.check_beats.specs.Rules.{decoded_size}
 use Rattle.check_beats.specs.Message.{op_of}
 use Rattle.check_flight.specs.Crossing.{Crossing}
 use Rattle.check_flight.specs.Crossing.Crossing.{Waiting, Crossed, Given}
@@ -12,7 +13,7 @@ use Rattle.check_flight.specs.Flight.{Turn}
 use Rattle.check_flight.specs.Flight.Turn.{Idle, Asking, Asked}
 use Rattle.check_watch.specs.Lawful.{IsLawfulGroup as IsGroupLawful}
 use Rattle.check_watch.specs.Past.{State, state}
-use Rattle.check_watch.specs.Plan.{IsPlan, Plan, LinkSide, Sighting}
+use Rattle.check_watch.specs.Plan.{IsPlan, Plan, LinkSide, Sighting, RoutesAt}
 use Rattle.check_watch.specs.Plan.LinkSide.{AtMasters, AtPorts}
 use Rattle.check_watch.specs.declared.beat.Link.TheVariants.{Port}
 use Rattle.check_watch_laws.specs.Crossed.{AreWatched as AreGroupWatched}
@@ -145,7 +146,7 @@ module _ (plan : Plan) (is_plan : IsPlan plan) (map : IsLawfulAddressMap plan.la
 
   -- a port's link has requests of the port alone
   routed : (number : ℕ) → (s.flights AtPorts wide).turn ≡ Asked number ask
-      → RoutesBytes plan.layout.ports ask.address ask.size number
+      → RoutesAt plan.layout ask.address ask.size number
   routed number is =
       let step = in_step p past lawful AtPorts wide in
       last_of_all (IsInPlace p.layout) step.done (record { link = Port number; ask = ask })
@@ -160,7 +161,7 @@ module _ (plan : Plan) (is_plan : IsPlan plan) (map : IsLawfulAddressMap plan.la
           → port_for p (link_on sd number) ask ≡ port → plan.route ask.address ask.size ≡ port
       go AtMasters number is goes = goes
       go AtPorts number is goes =
-          one_port plan.layout.ports map ask.address ask.size (plan.route ask.address ask.size) number
+          one_port plan.layout.ports map ask.address (decoded_size plan.layout.rules ask.size) (plan.route ask.address ask.size) number
           (is_plan.route ask.address ask.size) (routed number is) ∙ goes
 
   pub head : IsHead port (found wide flights) ask

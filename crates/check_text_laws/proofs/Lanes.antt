@@ -8,10 +8,10 @@ use Rattle.check_beats.specs.declared.bus.Bus.{Bus}
 use Rattle.check_rows.specs.Buses.{bus_of_link}
 use Rattle.check_rows.specs.Lanes.{SeenLanes, all_of, byte_or_zero, lane_at, lanes_of, seen_of, shown_by, zeros}
 use Rattle.check_rows.specs.Column.{column}
-use Rattle.check_rows.specs.Columns.{channel_of, flag_of, link_of, nothing_of}
-use Rattle.check_rows.specs.Number.{address_of, decimal_of, mask_of}
+use Rattle.check_rows.specs.Columns.{channel_of, flag_of, flag_or, link_of, nothing_of}
+use Rattle.check_rows.specs.Number.{address_of, decimal_of, decimal_or_zero, mask_of}
 use Rattle.tl_text.specs.Reading.{◌>>=◌}
-use Rattle.check_rows.specs.Row.{SeenBeat, SeenRow, ask_of_words, beat_of, reply_of_words, row_of}
+use Rattle.check_rows.specs.Row.{SeenBeat, SeenRow, ask_of_words, asks_for_mark, beat_of, reply_of_words, row_of}
 use Rattle.check_rows.specs.declared.columns.RowChannel.{RowChannel}
 use Rattle.check_rows.specs.declared.columns.RowChannel.TheVariants as channel
 use Rattle.check_rows.specs.declared.column.Column.TheVariants as named
@@ -93,7 +93,7 @@ ask_counted bus columns seen is =
     let mask = step (mask_of bus (column columns named.Mask)) _ seen address.2 in
     let lanes = step (lanes_of bus (column columns named.Data)) _ seen mask.2 in
     let denied = step (nothing_of (column columns named.Denied)) _ seen lanes.2 in
-    let corrupt = step (nothing_of (column columns named.Corrupt)) _ seen denied.2 in
+    let corrupt = step (decimal_or_zero 1 (column columns named.Corrupt)) _ seen denied.2 in
     seen_counted bus _ seen (lanes_counted bus (column columns named.Data) lanes.0 lanes.1) corrupt.2
 
 reply_counted : (bus : ℕ) (columns : List (List ℕ)) (seen : SeenBeat) → reply_of_words bus columns ≡ Ok seen
@@ -101,14 +101,14 @@ reply_counted : (bus : ℕ) (columns : List (List ℕ)) (seen : SeenBeat) → re
 unfolding reply_of_words
 reply_counted bus columns seen is =
     let opcode = step (decimal_of 255 (column columns named.Opcode)) _ seen is in
-    let param = step (nothing_of (column columns named.Param)) _ seen opcode.2 in
+    let param = step (decimal_or_zero 255 (column columns named.Param)) _ seen opcode.2 in
     let size = step (decimal_of 255 (column columns named.Size)) _ seen param.2 in
     let source = step (decimal_of 65535 (column columns named.Source)) _ seen size.2 in
     let address = step (nothing_of (column columns named.Address)) _ seen source.2 in
     let mask = step (nothing_of (column columns named.Mask)) _ seen address.2 in
     let lanes = step (lanes_of bus (column columns named.Data)) _ seen mask.2 in
     let denied = step (flag_of (column columns named.Denied)) _ seen lanes.2 in
-    let corrupt = step (flag_of (column columns named.Corrupt)) _ seen denied.2 in
+    let corrupt = step (flag_or (asks_for_mark opcode.0 denied.0) (column columns named.Corrupt)) _ seen denied.2 in
     seen_counted bus _ seen (lanes_counted bus (column columns named.Data) lanes.0 lanes.1) corrupt.2
 
 beat_counted : (bus : ℕ) (channel : RowChannel) (columns : List (List ℕ)) (seen : SeenBeat)

@@ -23,7 +23,7 @@ use Rattle.check_text.specs.Capture.{IsVerdict}
 use Rattle.check_text.specs.Rows.{HasRows, SpellAll}
 use Rattle.check_text.specs.declared.fault.Verdict.TheVariants.{Incomplete, Lawful, Unlawful as Not}
 use Rattle.check_text_laws.specs.Groups.{AreAllWatched}
-use Rattle.check_text_laws.proofs.GroupRules.{always_keeps, rules_make_lawful, seen_whole}
+use Rattle.check_text_laws.proofs.GroupRules.{always_keeps, rules_make_lawful, all_compliant}
 use Rattle.check_text_laws.proofs.Lanes.{lanes_of_row_are}
 use Rattle.check_text_laws.specs.Rules.{FileKeepsRules, BreaksRules, CaptureKeepsRules, CaptureBreaksRules, CaptureLeaves, HaveLanes}
 
@@ -86,7 +86,7 @@ file_keeps plan file is have lawful =
       crossing = lawful.crossing;
       keeps = always_keeps plan (sightings_of plan.layout lawful.crossed) is
           (seen_watched plan.layout lawful.crossed crossed) lawful.lawful;
-      whole = seen_whole plan (sightings_of plan.layout lawful.crossed) lawful.lawful;
+      whole = all_compliant plan (sightings_of plan.layout lawful.crossed) lawful.lawful;
     }
 
 pub rules_make_lawful_file : (plan : Plan) (file : List SeenRow) → IsPlan plan → HaveLanes plan.layout file
@@ -122,7 +122,7 @@ unlawful_breaks plan file found is have first =
       before = first.before;
       crossing = first.crossing;
       kept = always_keeps plan before is watched first.is.lawful;
-      whole = seen_whole plan before first.is.lawful;
+      whole = all_compliant plan before first.is.lawful;
       broken = λ whole keeps. first.is.unlawful
           (rules_make_lawful plan (row.sighting ∷ before) is
           (record { link = link.0; watched = link.1; lanes = here.0 }, watched) whole keeps);

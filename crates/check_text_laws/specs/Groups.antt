@@ -23,6 +23,7 @@ abbrev pub EachGroupKeepsRules : Plan → List Sighting → Type 0
 EachGroupKeepsRules plan past =
     (link : Link) → group.AlwaysKeepsRules (plan_at plan link) (past_at plan.layout.links link past)
 
--- each lane that carries a byte, and has to be known, was known
-abbrev pub AreAllSeenWhole : Plan → List Sighting → Type 0
-AreAllSeenWhole plan past = (link : Link) → group.AreSeenWhole (plan_at plan link) (past_at plan.layout.links link past)
+-- each request has an address that is a multiple of its size, if that is asked; and each lane that carries a byte, and has
+-- to be known, was known
+abbrev pub AreAllCompliant : Plan → List Sighting → Type 0
+AreAllCompliant plan past = (link : Link) → group.AreCompliant (plan_at plan link) (past_at plan.layout.links link past)

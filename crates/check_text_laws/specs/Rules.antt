@@ -13,7 +13,7 @@ use Rattle.check_records.specs.Text.{TextPlace}
 use Rattle.check_text.specs.Capture.{Begins, IsCapture}
 use Rattle.check_text.specs.Rows.{IsTimeOver}
 use Rattle.check_text.specs.Buses.{LinkBuses}
-use Rattle.check_text_laws.specs.Groups.{EachGroupKeepsRules, AreAllSeenWhole}
+use Rattle.check_text_laws.specs.Groups.{EachGroupKeepsRules, AreAllCompliant}
 
 -- each row has a lane for each byte of its link's bus
 abbrev pub HaveLanes : Layout → List SeenRow → Type 0
@@ -25,7 +25,7 @@ pub record FileKeepsRules (plan : Plan) (file : List SeenRow) : Type 0 where
   pub crossed : List SeenRow
   pub crossing : IsCrossing file crossed
   pub keeps : EachGroupKeepsRules plan (sightings_of plan.layout crossed)
-  pub whole : AreAllSeenWhole plan (sightings_of plan.layout crossed)
+  pub whole : AreAllCompliant plan (sightings_of plan.layout crossed)
 
 -- up to the row that is named the rules are kept at each moment, and with it they are not, or a lane of it that carries a
 -- byte, and has to be known, was not
@@ -36,8 +36,8 @@ pub record BreaksRules (plan : Plan) (file : List SeenRow) (named : Row) : Type 
   pub before : List SeenRow
   pub crossing : IsCrossing file (after ++ row ∷ before)
   pub kept : EachGroupKeepsRules plan (sightings_of plan.layout before)
-  pub whole : AreAllSeenWhole plan (sightings_of plan.layout before)
-  pub broken : AreAllSeenWhole plan (row.sighting ∷ sightings_of plan.layout before)
+  pub whole : AreAllCompliant plan (sightings_of plan.layout before)
+  pub broken : AreAllCompliant plan (row.sighting ∷ sightings_of plan.layout before)
       → EachGroupKeepsRules plan (row.sighting ∷ sightings_of plan.layout before) → ⊥
 
 -- from a place on a text is a capture, its rows keep the rules, and so many they are; if it is asked, no request is left

@@ -7,7 +7,7 @@ ghost use Rattle.check_watch.specs.declared.links.Links.TheVariants.{Each};
 ghost use Rattle.check_sides.specs.Groups.{plan_at, past_at, shared_past, port_plan, port_past};
 ghost use Rattle.check_sides.specs.Lawful.{IsLawful};
 ghost use Rattle.check_sides.specs.Plan.{Plan, IsPlan};
-ghost use Rattle.check_text_laws.specs.Groups.{EachGroupKeepsRules, AreAllSeenWhole, AreAllWatched};
+ghost use Rattle.check_text_laws.specs.Groups.{EachGroupKeepsRules, AreAllCompliant, AreAllWatched};
 
 /// A list is lawful exactly if the beats of the group of each link are.
 pub fn each_group_is_lawful()
@@ -37,11 +37,11 @@ pub fn a_beginning_is_lawful()
 pub fn lawful_beats_keep_the_rules()
     ensures rules { (plan : Plan) (past : List Sighting) → IsPlan plan → AreAllWatched plan.layout past → IsLawful plan past
         → EachGroupKeepsRules plan past }
-    ensures lanes { (plan : Plan) (past : List Sighting) → IsLawful plan past → AreAllSeenWhole plan past }
+    ensures alone { (plan : Plan) (past : List Sighting) → IsLawful plan past → AreAllCompliant plan past }
 {}
 
 /// And the way back: beats of which each group keeps these rules at each moment are lawful.
 pub fn beats_that_keep_the_rules_are_lawful()
-    ensures { (plan : Plan) (past : List Sighting) → IsPlan plan → AreAllWatched plan.layout past → AreAllSeenWhole plan past
+    ensures { (plan : Plan) (past : List Sighting) → IsPlan plan → AreAllWatched plan.layout past → AreAllCompliant plan past
         → EachGroupKeepsRules plan past → IsLawful plan past }
 {}

@@ -3,13 +3,14 @@ use Rattle.std.proofs.Common.{◌≡◌, ◌∙◌, ap, Some, None, ℕ, ◌<◌
 use Rattle.std.specs.Prelude.{IsTrue}
 use Rattle.tl_types.specs.Request.{Request}
 use Rattle.tl_types.specs.declared.operation.AskOp.{AskOp}
-use Rattle.tl_map.specs.Map.{RoutesBytes}
 use Rattle.check_beats.specs.Form.{FitsAsk, IsKnown, IsLawfulMaskOnBus, HasAskFormFault}
+use Rattle.check_beats.specs.Rules.{IsAlignedBy}
 use Rattle.check_beats.specs.State.{ask_of, ends_ask, first_ask}
 use Rattle.check_beats.specs.declared.beat.AskHead.{AskHead}
 use Rattle.check_beats.specs.declared.beat.ReplyHead.{ReplyHead}
+use Rattle.check_beats.specs.declared.rules.LinkRules.{LinkRules}
 use Rattle.check_beats.specs.declared.fault.FormFault.{FormFault}
-use Rattle.check_beats.specs.declared.fault.FormFault.TheVariants.{Changed, Opcode, Size, Mask, CorruptFlag, UnknownData as UnknownLanes}
+use Rattle.check_beats.specs.declared.fault.FormFault.TheVariants.{Changed, Opcode, Param, Size, Unaligned, Mask, CorruptFlag, UnknownData as UnknownLanes}
 use Rattle.check_flight.specs.Flight.{asked, Turn}
 use Rattle.check_flight.specs.Flight.Turn.{Idle, Asking, Asked}
 use Rattle.check_flight.specs.Side.{flight_at}
@@ -21,7 +22,7 @@ use Rattle.check_watch.specs.declared.fault.Reason.TheVariants.{Form, NoSuchSour
 use Rattle.check_watch.specs.Allowed.{IsSent, BeginsFree, BeginsPlaced, EndsSent, IsAllowedAsk}
 use Rattle.check_watch.specs.Faults.{HasAskReason, IsFirstAskReason, reason_rank}
 use Rattle.check_watch.specs.Past.{port_in, port_of}
-use Rattle.check_watch.specs.Plan.{Layout, Plan, HasSource, IsWideAt, wide_of}
+use Rattle.check_watch.specs.Plan.{RoutesAt, Layout, Plan, HasSource, IsWideAt, wide_of}
 use Rattle.check_watch.specs.Scene.{Scene}
 use Rattle.check_watch.specs.View.{GroupView, SuitsGroup, under_in, flight_in, crossing_at, scene_in}
 use Rattle.check_watch.proofs.Codes.{same_op}
@@ -34,14 +35,14 @@ wide_is plan view (Port p) source wide suits is = is.0
 
 -- the port that a judge finds is that of the plan
 pub port_is : (plan : Plan) (view : GroupView) (address size port : ℕ) → SuitsGroup plan view
-    → ((other : ℕ) → (port ≡ other) ↔ RoutesBytes view.layout.ports address size other)
+    → ((other : ℕ) → (port ≡ other) ↔ RoutesAt view.layout address size other)
     → port ≡ plan.route address size
 port_is plan view address size port suits routes =
     (routes (plan.route address size)).1 (rw suits.layout (suits.lawful.route address size))
 
 pub port_found : (plan : Plan) (view : GroupView) (link : Link) (turn : Turn) (beat : AskHead) (port : ℕ) → SuitsGroup plan view
     → ((number other : ℕ) → link ≡ Master number → (port ≡ other)
-    ↔ RoutesBytes view.layout.ports beat.address beat.size other)
+    ↔ RoutesAt view.layout beat.address beat.size other)
     → ((number : ℕ) → link ≡ Port number → port ≡ number)
     → port ≡ port_of plan link turn (A beat)
 port_found plan view (Master m) turn beat port suits master at_port =
@@ -58,7 +59,7 @@ asked_is (Asked at other) ask is = (at, ap (λ r. Asked at r) (cc))
 pub port_asked : (plan : Plan) (view : GroupView) (link : Link) (turn : Turn) (ask : Request) (beat : ReplyHead) (port : ℕ)
     → SuitsGroup plan view → asked turn ≡ Some ask
     → ((number other : ℕ) → link ≡ Master number → (port ≡ other)
-    ↔ RoutesBytes view.layout.ports ask.address ask.size other)
+    ↔ RoutesAt view.layout ask.address ask.size other)
     → ((number : ℕ) → link ≡ Port number → port ≡ number)
     → port ≡ port_of plan link turn (D beat)
 port_asked plan view (Port p) turn ask beat port suits is master at_port = at_port p refl
@@ -93,32 +94,35 @@ mask_same : (bus : ℕ) (op other : AskOp) (size address mask : ℕ) → op ≡ 
 mask_same bus op other size address mask is lawful =
     subst (λ (o : AskOp). IsLawfulMaskOnBus bus o size address mask) is lawful
 
-no_form_fault : (bus : ℕ) (begun : Option AskHead) (beat : AskHead) (known : ℕ) → FitsAsk bus begun beat
-    → IsKnown beat known → (fault : FormFault) → HasAskFormFault bus begun beat known fault → ⊥
-no_form_fault bus begun beat known fits lanes Changed has = has fits.same
-no_form_fault bus begun beat known fits lanes Opcode has = has fits.formed.op fits.formed.code
-no_form_fault bus begun beat known fits lanes Size has = omega (arith, fits.formed.in_limit, has)
-no_form_fault bus begun beat known fits lanes Mask has =
+no_form_fault : (bus : ℕ) (links : LinkRules) (begun : Option AskHead) (beat : AskHead) (known : ℕ) → FitsAsk bus begun beat
+    → IsAlignedBy links beat → IsKnown beat known → (fault : FormFault) → HasAskFormFault bus links begun beat known fault → ⊥
+no_form_fault bus links begun beat known fits aligned lanes Changed has = has fits.same
+no_form_fault bus links begun beat known fits aligned lanes Opcode has = has fits.formed.op fits.formed.code
+no_form_fault bus links begun beat known fits aligned lanes Param has = has
+no_form_fault bus links begun beat known fits aligned lanes Size has = omega (arith, fits.formed.in_limit, has)
+no_form_fault bus links begun beat known fits aligned lanes Unaligned has = has aligned
+no_form_fault bus links begun beat known fits aligned lanes Mask has =
     has.2 (mask_same bus fits.formed.op has.0 beat.size beat.address beat.mask
     (same_op fits.formed.op has.0 beat.opcode beat.param fits.formed.code has.1) fits.formed.mask)
-no_form_fault bus begun beat known fits lanes CorruptFlag has = has
-no_form_fault bus begun beat known fits lanes UnknownLanes has = has.1 (lanes has.0)
+no_form_fault bus links begun beat known fits aligned lanes CorruptFlag has = absurd (cc (has, fits.formed.clean))
+no_form_fault bus links begun beat known fits aligned lanes UnknownLanes has = has.1 (lanes has.0)
 
 -- what is known of a beat once the reasons before this place are ruled out
 pub record AskUpTo (layout : Layout) (link : Link) (scene : Scene) (beat : AskHead) (known : ℕ) (lanes : List ℕ)
     (rank : ℕ) : Type 0 where
   pub fits : FitsAsk scene.under.bus (first_ask scene.under.asking) beat
+  pub aligned : IsAlignedBy layout.rules beat
   pub known_lanes : IsKnown beat known
   pub source : HasSource layout link beat.source
-  pub free : 8 < rank → BeginsFree scene
-  pub placed : 9 < rank → BeginsPlaced layout link scene beat
-  pub sent : 15 < rank → EndsSent layout link scene beat lanes
+  pub free : 10 < rank → BeginsFree scene
+  pub placed : 11 < rank → BeginsPlaced layout link scene beat
+  pub sent : 17 < rank → EndsSent layout link scene beat lanes
 
 module _ (layout : Layout) (link : Link) (scene : Scene) (beat : AskHead) (known : ℕ) (lanes : List ℕ) where
   none_before_ask : (rank : ℕ) → AskUpTo layout link scene beat known lanes rank
       → (other : Reason) → reason_rank other < rank → HasAskReason layout link scene beat known lanes other → ⊥
   none_before_ask rank up (Form f) lower has =
-      no_form_fault scene.under.bus (first_ask scene.under.asking) beat known up.fits up.known_lanes f has
+      no_form_fault scene.under.bus layout.rules (first_ask scene.under.asking) beat known up.fits up.aligned up.known_lanes f has
   none_before_ask rank up NoSuchSource lower has = has up.source
   none_before_ask rank up SourceBusy lower has = has (up.free lower)
   none_before_ask rank up WrongPort lower has = has (up.placed lower)
@@ -136,9 +140,10 @@ module _ (layout : Layout) (link : Link) (scene : Scene) (beat : AskHead) (known
   first_ask_reason reason has up =
       record { applies = has; first = none_before_ask (reason_rank reason) up }
 
-  pub allowed_ask : AskUpTo layout link scene beat known lanes 18 → IsAllowedAsk layout link scene beat known lanes
+  pub allowed_ask : AskUpTo layout link scene beat known lanes 20 → IsAllowedAsk layout link scene beat known lanes
   allowed_ask up = record {
     fits = up.fits;
+    aligned = up.aligned;
     known_lanes = up.known_lanes;
     source = up.source;
     free = up.free (omega arith);
@@ -150,7 +155,8 @@ module _ (layout : Layout) (link : Link) (scene : Scene) (beat : AskHead) (known
   pub no_ask_reason : IsAllowedAsk layout link scene beat known lanes
       → (reason : Reason) → HasAskReason layout link scene beat known lanes reason → ⊥
   no_ask_reason allowed (Form f) has =
-      no_form_fault scene.under.bus (first_ask scene.under.asking) beat known allowed.fits allowed.known_lanes f has
+      no_form_fault scene.under.bus layout.rules (first_ask scene.under.asking) beat known allowed.fits allowed.aligned
+      allowed.known_lanes f has
   no_ask_reason allowed NoSuchSource has = has allowed.source
   no_ask_reason allowed SourceBusy has = has allowed.free
   no_ask_reason allowed WrongPort has = has allowed.placed

@@ -3,11 +3,11 @@ use Rattle.std.proofs.Common.{◌≡◌, ℕ, ◌<◌, ◌≤◌, ◌⊎◌, inl
 use Rattle.std.specs.Prelude.{IsTrue, IsSome}
 use Rattle.tl_types.specs.Fault.{IsFirstOf}
 use Rattle.tl_types.specs.declared.operation.ReplyOp.{ReplyOp}
-use Rattle.check_beats.specs.Form.{FitsReply, HasReplyFormFault, IsLawfulFlag}
+use Rattle.check_beats.specs.Form.{FitsReply, HasReplyFormFault, IsRightMark}
 use Rattle.check_beats.specs.State.{ends_reply, first_reply}
 use Rattle.check_beats.specs.declared.beat.ReplyHead.{ReplyHead}
 use Rattle.check_beats.specs.declared.fault.FormFault.{FormFault}
-use Rattle.check_beats.specs.declared.fault.FormFault.TheVariants.{Changed, Opcode, Size, Mask, CorruptFlag, UnknownData as UnknownLanes}
+use Rattle.check_beats.specs.declared.fault.FormFault.TheVariants.{Changed, Opcode, Param, Size, Unaligned, Mask, CorruptFlag, UnknownData as UnknownLanes}
 use Rattle.check_flight.specs.declared.answer.Answer.{Answer}
 use Rattle.check_flight.specs.Flight.{Turn}
 use Rattle.check_flight.specs.Flight.Turn.{Idle, Asking, Asked}
@@ -33,15 +33,17 @@ no_form_fault : (begun : Option ReplyHead) (beat : ReplyHead) → FitsReply begu
     → HasReplyFormFault begun beat fault → ⊥
 no_form_fault begun beat fits Changed has = has fits.same
 no_form_fault begun beat fits Opcode has = has fits.formed.op fits.formed.code
+no_form_fault begun beat fits Param has = has fits.formed.param
 no_form_fault begun beat fits Size has = omega (arith, fits.formed.in_limit, has)
+no_form_fault begun beat fits Unaligned has = has
 no_form_fault begun beat fits Mask has = has
 no_form_fault begun beat fits CorruptFlag has =
     let is = same_reply_op fits.formed.op has.0 beat.opcode fits.formed.code has.1 in
-    has.2 (subst (λ (o : ReplyOp). IsLawfulFlag o beat.denied beat.corrupt) is fits.formed.flag)
+    has.2 (subst (λ (o : ReplyOp). IsRightMark o beat.denied beat.corrupt) is fits.formed.flag)
 no_form_fault begun beat fits UnknownLanes has = has
 
 module _ (number : ℕ) (turn : Turn) (bus : ℕ) (unknown : Bool) (beat : ReplyHead) (known : ℕ) where
-  answer_rank : (reason : Reason) → HasAnswerReason number turn bus unknown beat known reason → reason_rank reason ≤ 14
+  answer_rank : (reason : Reason) → HasAnswerReason number turn bus unknown beat known reason → reason_rank reason ≤ 16
   answer_rank (Form f) has = absurd has
   answer_rank NoSuchSource has = absurd has
   answer_rank SourceBusy has = absurd has
@@ -104,7 +106,7 @@ module _ (layout : Layout) (link : Link) (scene : Scene) (beat : ReplyHead) (kno
   answer_applies NotGiven has = absurd has
   answer_applies WrongReply has = absurd has
 
-  none_before_answer : (rank : ℕ) → rank ≤ 14
+  none_before_answer : (rank : ℕ) → rank ≤ 16
       → ((other : Reason) → reason_rank other < rank → HasHere other → ⊥)
       → (other : Reason) → reason_rank other < rank → HasReplyReason layout link scene beat known lanes other → ⊥
   none_before_answer rank small none (Form f) lower has = no_form_fault (first_reply scene.under.replying) beat fits f has
@@ -176,10 +178,12 @@ module _ (layout : Layout) (link : Link) (scene : Scene) (beat : ReplyHead) (kno
   none_before_end answers reason ends WrongReply lower has =
       let rank = at_most reason in omega (arith, lower, rank)
     where
-      at_most : (r : Reason) → reason_rank r ≤ 17
+      at_most : (r : Reason) → reason_rank r ≤ 19
       at_most (Form Changed) = omega arith
       at_most (Form Opcode) = omega arith
+      at_most (Form Param) = omega arith
       at_most (Form Size) = omega arith
+      at_most (Form Unaligned) = omega arith
       at_most (Form Mask) = omega arith
       at_most (Form CorruptFlag) = omega arith
       at_most (Form UnknownLanes) = omega arith
@@ -229,10 +233,12 @@ pub no_form_before : (layout : Layout) (link : Link) (scene : Scene) (beat : Rep
     → HasReplyFormFault (first_reply scene.under.replying) beat fault → ⊥
 no_form_before layout link scene beat known lanes fault first has = first.first (Form fault) (small fault) has
   where
-    small : (f : FormFault) → reason_rank (Form f) < 17
+    small : (f : FormFault) → reason_rank (Form f) < 19
     small Changed = omega arith
     small Opcode = omega arith
+    small Param = omega arith
     small Size = omega arith
+    small Unaligned = omega arith
     small Mask = omega arith
     small CorruptFlag = omega arith
     small UnknownLanes = omega arith

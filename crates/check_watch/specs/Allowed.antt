@@ -4,9 +4,9 @@ use Rattle.std.specs.Prelude.{◌≡◌, ℕ, Bool, true, false, List, Option, N
 use Rattle.tl_types.specs.Operation.{reply_op_of}
 use Rattle.tl_types.specs.Request.{Request}
 use Rattle.tl_types.specs.Wire.{reply_opcode_of}
-use Rattle.tl_map.specs.Map.{RoutesBytes}
 use Rattle.check_cells.specs.Pattern.{Pattern, FitsPattern}
 use Rattle.check_beats.specs.Form.{FitsAsk, FitsReply, IsKnown, IsKnownReply}
+use Rattle.check_beats.specs.Rules.{IsAlignedBy}
 use Rattle.check_beats.specs.State.{first_ask, first_reply, ends_ask, ends_reply, ask_of}
 use Rattle.check_beats.specs.declared.beat.AskHead.{AskHead}
 use Rattle.check_beats.specs.declared.beat.ReplyHead.{ReplyHead}
@@ -19,7 +19,7 @@ use Rattle.check_flight.specs.PortSlave.{may_be_unknown}
 use Rattle.check_watch.specs.declared.beat.Link.{Link}
 use Rattle.check_watch.specs.declared.beat.Link.TheVariants.{Master, Port}
 use Rattle.check_watch.specs.declared.links.Links.TheVariants.{Both}
-use Rattle.check_watch.specs.Plan.{Layout, HasSource, link_number, are_both}
+use Rattle.check_watch.specs.Plan.{RoutesAt, Layout, HasSource, link_number, are_both}
 use Rattle.check_watch.specs.Scene.{Scene, captured, is_given}
 
 -- ---- requests
@@ -27,7 +27,7 @@ use Rattle.check_watch.specs.Scene.{Scene, captured, is_given}
 -- the address map has the bytes of the request with the port of this link
 abbrev pub IsPlaced : Layout → Link → AskHead → Type 0
 IsPlaced layout (Master m) beat = Unit {0}
-IsPlaced layout (Port p) beat = RoutesBytes layout.ports beat.address beat.size p
+IsPlaced layout (Port p) beat = RoutesAt layout beat.address beat.size p
 
 -- the request in flight has ended, and is this one but for the source
 abbrev pub IsAskedAs : Turn → Request → Type 0
@@ -63,8 +63,10 @@ EndsSent layout link scene beat lanes =
 -- a beat of a request is lawful
 pub record IsAllowedAsk (layout : Layout) (link : Link) (scene : Scene) (beat : AskHead) (known : ℕ) (lanes : List ℕ)
     : Type 0 where
-  -- it is one of the message under way, and each lane that carries a byte is known
+  -- it is one of the message under way, its address is a multiple of its size if that is asked, and each lane that carries
+  -- a byte is known
   pub fits : FitsAsk scene.under.bus (first_ask scene.under.asking) beat
+  pub aligned : IsAlignedBy layout.rules beat
   pub known_lanes : IsKnown beat known
   pub source : HasSource layout link beat.source
   pub free : BeginsFree scene

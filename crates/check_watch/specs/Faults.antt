@@ -25,7 +25,7 @@ use Rattle.check_watch.specs.Allowed.{BeginsFree, BeginsPlaced, EndsSent, OfAske
 -- a beat of a request is not lawful for this reason
 abbrev pub HasAskReason : Layout → Link → Scene → AskHead → ℕ → List ℕ → Reason → Type 0
 HasAskReason layout link scene beat known lanes (Form fault) =
-    HasAskFormFault scene.under.bus (first_ask scene.under.asking) beat known fault
+    HasAskFormFault scene.under.bus layout.rules (first_ask scene.under.asking) beat known fault
 HasAskReason layout link scene beat known lanes NoSuchSource = HasSource layout link beat.source → ⊥
 HasAskReason layout link scene beat known lanes SourceBusy = BeginsFree scene → ⊥
 HasAskReason layout link scene beat known lanes WrongPort = BeginsPlaced layout link scene beat → ⊥
@@ -105,17 +105,17 @@ HasReplyReason layout link scene beat known lanes WrongReply = EndsWith layout l
 -- the place of a reason in the order in which they are tried
 abbrev pub reason_rank : Reason → ℕ
 reason_rank (Form fault) = form_rank fault
-reason_rank NoSuchSource = 7
-reason_rank SourceBusy = 8
-reason_rank WrongPort = 9
-reason_rank NoRequest = 10
-reason_rank EarlyReply = 11
-reason_rank WrongSize = 12
-reason_rank WrongOpcode = 13
-reason_rank UnknownData = 14
-reason_rank NotSent = 15
-reason_rank NotGiven = 16
-reason_rank WrongReply = 17
+reason_rank NoSuchSource = 9
+reason_rank SourceBusy = 10
+reason_rank WrongPort = 11
+reason_rank NoRequest = 12
+reason_rank EarlyReply = 13
+reason_rank WrongSize = 14
+reason_rank WrongOpcode = 15
+reason_rank UnknownData = 16
+reason_rank NotSent = 17
+reason_rank NotGiven = 18
+reason_rank WrongReply = 19
 
 abbrev pub IsFirstAskReason : Layout → Link → Scene → AskHead → ℕ → List ℕ → Reason → Type 0
 IsFirstAskReason layout link scene beat known lanes = IsFirstOf (HasAskReason layout link scene beat known lanes) reason_rank

@@ -159,7 +159,7 @@ pub fn judge_ask(
         (scene_in plan watch.now link (A beat.now)) beat.now known lanes.now) }
     ensures place { IfOk result (IsPlace watch.now link (A beat.now)) }
 {
-    if let Some(fault) = watch.link(link).ask_fault(beat, known) {
+    if let Some(fault) = watch.link(link).ask_fault(watch.rules(), beat, known) {
         return Err(Reason::Form(fault));
     }
     let Some(source) = watch.wide(link, beat.source) else {

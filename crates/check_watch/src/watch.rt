@@ -2,7 +2,6 @@
 ghost use Rattle.std.specs.Prelude.{◌≡◌, ◌<◌, ◌≤◌, ◌↔◌, ◌+◌, ℕ, [], length, Some, IsTrue, IfOk, IfSome, option_map};
 ghost use Rattle.tl_types.specs.declared.limits.TheConstants.{MAX_SIZE};
 ghost use Rattle.tl_map.specs.Owner.{IsOwned};
-ghost use Rattle.tl_map.specs.Map.{RoutesBytes};
 ghost use Rattle.check_beats.specs.Bus.{bus_bytes};
 ghost use Rattle.check_beats.specs.State.{ends_reply, first_reply};
 ghost use Rattle.check_beats.specs.Form.{FitsReply};
@@ -11,13 +10,13 @@ ghost use Rattle.check_flight.specs.Side.{flight_at};
 ghost use Rattle.check_watch.specs.declared.beat.Beat.TheVariants.{D};
 ghost use Rattle.check_beats.specs.declared.beat.ReplyHead.{ReplyHead};
 ghost use Rattle.check_watch.specs.Past.{port_of, slave_at};
-ghost use Rattle.check_watch.specs.Plan.{Plan, IsPlan, HasLink, IsWideAt, IsGroupLink, are_both, bus_of, crosses_at_port};
+ghost use Rattle.check_watch.specs.Plan.{Plan, IsPlan, RoutesAt, HasLink, IsWideAt, IsGroupLink, are_both, bus_of, crosses_at_port};
 ghost use Rattle.check_watch.specs.Scene.{takes_effect, is_given, must_by};
 ghost use Rattle.check_watch.specs.View.{GroupView, IsSized, wides_in, SuitsGroup, KeepsGroup, own_side, under_in, flight_in, crossing_at, is_answering_in, due_in, captured_in};
 
 use crate::beat::Link;
 use crate::links::Links;
-use check_beats::{Bus, ReplyHead, UnderWay};
+use check_beats::{Bus, LinkRules, ReplyHead, UnderWay};
 use check_cells::Pattern;
 use check_flight::{Answer, Crossing, Flight, FlightPlace, Order, PortSlave, Side};
 use std::alloc::{AllocError, Global};
@@ -29,6 +28,7 @@ use tl_types::MAX_SIZE;
 #[derive(Drop)]
 pub struct GroupWatch {
     links: Links,
+    rules: LinkRules,
     map: AddressMap,
     sources: SourceOwners,
     master_buses: Vec<Bus>,
@@ -47,6 +47,7 @@ impl Model for GroupWatch {
     ghost view = { λ w. record {
       layout = record {
         links = w.links;
+        rules = w.rules;
         owners = w.sources;
         ports = w.map;
         master_buses = w.master_buses.items;
@@ -61,6 +62,7 @@ impl Model for GroupWatch {
     ghost invariant = { λ w. IsSized (record {
       layout = record {
         links = w.links;
+        rules = w.rules;
         owners = w.sources;
         ports = w.map;
         master_buses = w.master_buses.items;
@@ -97,11 +99,12 @@ fn fresh_crossings(alloc: Global, count: usize) -> Result<Vec<Crossing>, AllocEr
 }
 
 impl GroupWatch {
-    /// The judge of a crossbar with these ports and sources, before any beat. There is a slave for each port, the error
+    /// The judge of a crossbar with these rules, ports and sources, before any beat. There is a slave for each port, the error
     /// port's last, as it is at reset; a bus for each master's link, and one for each port's.
     pub fn new(
         alloc: Global,
         links: Links,
+        rules: LinkRules,
         map: AddressMap,
         sources: SourceOwners,
         master_buses: Vec<Bus>,
@@ -113,6 +116,7 @@ impl GroupWatch {
         requires ports { length port_buses.items ≡ length map }
         ensures layout { IfOk result (λ watch. watch.layout ≡ record {
           links = links;
+          rules = rules;
           owners = sources;
           ports = map;
           master_buses = master_buses.items;
@@ -122,6 +126,7 @@ impl GroupWatch {
         ensures keeps { (plan : Plan) → IsPlan plan
             → plan.layout ≡ record {
               links = links;
+              rules = rules;
               owners = sources;
               ports = map;
               master_buses = master_buses.items;
@@ -138,6 +143,7 @@ impl GroupWatch {
         let crossings = fresh_crossings(alloc, wides)?;
         Ok(GroupWatch {
             links,
+            rules,
             map,
             sources,
             master_buses,
@@ -169,6 +175,13 @@ impl GroupWatch {
         ensures { result ≡ self.now.layout.links }
     {
         self.links
+    }
+
+    /// What the links may do beyond the standard.
+    pub fn rules(&self) -> LinkRules
+        ensures { result ≡ self.now.layout.rules }
+    {
+        self.rules
     }
 
     /// The wide sources of the masters.
@@ -269,17 +282,27 @@ impl GroupWatch {
         }
     }
 
+    /// The port to which the address map sends requests of this address and size.
+    pub fn route(&self, address: u64, size: u8) -> usize
+        requires { size ≤ MAX_SIZE }
+        ensures port { (port : ℕ) → (result ≡ port) ↔ RoutesAt self.now.layout address size port }
+        ensures in_ports { result < length self.now.slaves }
+    {
+        self.map.route_bytes(address, self.rules.decoded_size(size))
+    }
+
     /// The port that requests at a link go to, of this address and size.
     pub(crate) fn port(&self, link: Link, address: u64, size: u8) -> usize
         requires known { HasLink self.now.layout link }
         requires in_limit { size ≤ MAX_SIZE }
         ensures master { (number port : ℕ) → link ≡ Link.Master number
-            → (result ≡ port) ↔ RoutesBytes self.now.layout.ports address size port }
+            → (result ≡ port) ↔ RoutesAt self.now.layout address size port }
         ensures port { (number : ℕ) → link ≡ Link.Port number → result ≡ number }
         ensures in_ports { result < length self.now.slaves }
     {
+        self.sized();
         match link {
-            Link::Master(_) => self.map.route_bytes(address, size),
+            Link::Master(_) => self.route(address, size),
             Link::Port(port) => port,
         }
     }
@@ -303,9 +326,9 @@ impl GroupWatch {
     /// Whether the address map has bytes with the port of a link.
     pub(crate) fn is_at_port(&self, port: usize, address: u64, size: u8) -> bool
         requires { size ≤ MAX_SIZE }
-        ensures { IsTrue result ↔ RoutesBytes self.now.layout.ports address size port }
+        ensures { IsTrue result ↔ RoutesAt self.now.layout address size port }
     {
-        self.map.route_bytes(address, size) == port
+        self.route(address, size) == port
     }
 
     /// Whether both sides are watched.

@@ -24,7 +24,7 @@ use Rattle.check_watch.specs.Scene.{captured, is_given}
 use Rattle.check_watch.proofs.InFlight.{ask_at, reply_at}
 use Rattle.check_watch_laws.specs.Crossed.{AreWatched, asking_at, begun_at, replying_at, asks_over}
 use Rattle.check_watch_laws.specs.Memories.{port_for, reset_of}
-use Rattle.check_watch_laws.specs.Rules.{KeepsRules, AlwaysKeepsRules, IsSeenWhole, AreSeenWhole}
+use Rattle.check_watch_laws.specs.Rules.{KeepsRules, AlwaysKeepsRules, IsCompliant, AreCompliant}
 use Rattle.check_watch_laws.proofs.BackCross.{sent_back}
 use Rattle.check_watch_laws.proofs.BackForm.{ask_fits, reply_fits}
 use Rattle.check_watch_laws.proofs.BackReplies.{memory_back, given_back}
@@ -73,7 +73,7 @@ module _ (plan : Plan) (is_plan : IsPlan plan) (past : List Sighting) (watched :
       (s.crossings beat.source) (s.flights AtPorts beat.source).turn stands
 
   pub ask_allowed : (beat : AskHead) → KeepsRules plan (ask_at link known lanes beat ∷ past)
-      → IsSeenWhole plan past (ask_at link known lanes beat) (A beat)
+      → IsCompliant plan past (ask_at link known lanes beat) (A beat)
       → IsAllowedAsk plan.layout link (scene_of plan s link (A beat)) beat known lanes
   ask_allowed beat rules seen =
       let fits = ask_fits plan.layout past link known lanes beat (heads link) (rules.messages.links link) in
@@ -81,7 +81,8 @@ module _ (plan : Plan) (is_plan : IsPlan plan) (past : List Sighting) (watched :
       let asking_is = ap (λ (u : Under). u.asking) (under_is link) in
       record {
         fits = subst (λ (u : Under). FitsAsk u.bus (first_ask u.asking) beat) (sym (under_is link)) fits;
-        known_lanes = seen;
+        aligned = seen.0;
+        known_lanes = seen.1;
         source = rules.messages.known.0;
         free = λ empty. free_back plan past lawful link known lanes beat heads fits.same
             (rules.messages.sources (side_of link) (wide_of plan link beat.source)) (sym asking_is ∙ empty);
@@ -163,7 +164,7 @@ module _ (plan : Plan) (is_plan : IsPlan plan) (past : List Sighting) (watched :
           (λ port. due_by_rules plan (reply_at link known lanes beat ∷ past) port rules)
 
   pub reply_allowed : (beat : ReplyHead) → KeepsRules plan (reply_at link known lanes beat ∷ past)
-      → IsSeenWhole plan past (reply_at link known lanes beat) (D beat)
+      → IsCompliant plan past (reply_at link known lanes beat) (D beat)
       → IsAllowedReply plan.layout link (scene_of plan s link (D beat)) beat known lanes
   reply_allowed beat rules seen =
       let wide = wide_of plan link beat.source in
@@ -196,14 +197,14 @@ module _ (plan : Plan) (is_plan : IsPlan plan) (past : List Sighting) (watched :
       }
 
 pub rules_make_lawful : (plan : Plan) (past : List Sighting) → IsPlan plan → AreWatched plan.layout past
-    → AreSeenWhole plan past → AlwaysKeepsRules plan past → IsLawfulGroup plan past
+    → AreCompliant plan past → AlwaysKeepsRules plan past → IsLawfulGroup plan past
 rules_make_lawful plan [] is watched seen always = tt
 rules_make_lawful plan (x ∷ past) is watched seen always =
     go (rules_make_lawful plan past is watched.1 seen.0
     (λ later earlier so. always (x ∷ later) earlier (ap (λ l. x ∷ l) so))) x.beat (always [] (x ∷ past) refl) seen.1
   where
     go : IsLawfulGroup plan past → (beat : Beat) → KeepsRules plan (record x { beat = beat } ∷ past)
-        → IsSeenWhole plan past (record x { beat = beat }) beat
+        → IsCompliant plan past (record x { beat = beat }) beat
         → IsLawfulGroup plan past × IsAllowed plan (scene_of plan (state plan past) x.link beat) (record x { beat = beat })
     go lawful (A beat) rules seen = (
       lawful,

@@ -70,6 +70,7 @@ spelled_fits n ask kept beats b rest heads is =
         in_limit = subst (λ k. k ≤ MAX_SIZE) (sym fields.size) is.0.in_limit;
         mask = subst (λ k. IsLawfulMaskOnBus n ask.op k b.head.address b.head.mask) (sym fields.size)
             (subst (λ a. IsLawfulMaskOnBus n ask.op ask.size a b.head.mask) (sym fields.address) here.mask);
+        clean = here.clean;
       };
       same = same_as_first n ask kept beats b rest heads is;
     }
@@ -88,6 +89,7 @@ same_reply_as_first n reply (Some v) (f ∷ more) b rest heads is = λ h at.
     let fields = ((is 0).1.each (length (f ∷ more)) b (slice_at (f ∷ more) b rest)).fields in
     record {
       opcode = fields.opcode ∙ sym front.opcode ∙ first.opcode;
+      param = fields.param ∙ sym front.param ∙ first.param;
       size = fields.size ∙ sym front.size ∙ first.size;
       source = fields.source ∙ sym front.source ∙ first.source;
       denied = denied_same b.head.denied f.head.denied (sym fields.denied ∙ front.denied) ∙ first.denied;
@@ -103,6 +105,7 @@ reply_spelled_fits n reply kept beats b rest heads is =
       formed = record {
         op = (reply 0).op;
         code = sym fields.opcode;
+        param = fields.param;
         in_limit = subst (λ k. k ≤ MAX_SIZE) (sym fields.size) (is 0).0.in_limit;
         flag = here.corrupt;
       };

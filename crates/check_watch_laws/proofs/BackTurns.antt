@@ -3,7 +3,6 @@ use Rattle.std.proofs.Common.{◌≡◌, ◌∙◌, ℕ, suc, ◌+◌, ◌-◌, 
 use Rattle.std.specs.Prelude.{slice_range}
 use Rattle.std.specs.List.{AllByRecursion}
 use Rattle.tl_types.specs.Request.{Request}
-use Rattle.tl_map.specs.Map.{RoutesBytes}
 use Rattle.check_beats.specs.Form.{Continues, SameFields, SameReplyFields}
 use Rattle.check_beats.specs.Laws.{begun, begun_reply}
 use Rattle.check_beats.specs.Spelling.{AskBeat, ReplyBeat}
@@ -18,7 +17,7 @@ use Rattle.check_watch.specs.declared.beat.Link.TheVariants.{Master, Port}
 use Rattle.check_watch.specs.Allowed.{IsPlaced}
 use Rattle.check_watch.specs.Lawful.{IsLawfulGroup}
 use Rattle.check_watch.specs.Past.{state}
-use Rattle.check_watch.specs.Plan.{Plan, Sighting, LinkSide, side_of, link_number, wide_of, is_link, bus_of}
+use Rattle.check_watch.specs.Plan.{Plan, Sighting, LinkSide, side_of, link_number, wide_of, is_link, bus_of, RoutesAt}
 use Rattle.check_watch.specs.Plan.LinkSide.{AtMasters, AtPorts}
 use Rattle.check_watch.proofs.InFlight.{ask_at, reply_at, of_own}
 use Rattle.check_watch_laws.specs.Crossed.{AskSeen, ReplySeen, ask_beat, reply_beat, more_asks, asks_over, asking_at, begun_at, replying_at, begun_replies_at, ask_ended, reply_ended, asks, replies, next_answered}
@@ -220,7 +219,7 @@ placed_back plan past (Port p) known lanes beat heads messages empty =
     go (ends_ask (bus_of plan.layout (Port p)) (asking_at plan.layout (Port p) past) beat) refl
   where
     go : (ends : Bool) → ends_ask (bus_of plan.layout (Port p)) (asking_at plan.layout (Port p) past) beat ≡ ends
-        → RoutesBytes plan.layout.ports beat.address beat.size p
+        → RoutesAt plan.layout beat.address beat.size p
     go false e =
         let b = ask_beat (bus_of plan.layout (Port p)) beat lanes in
         let begun_is : begun_at plan.layout (Port p) (ask_at (Port p) known lanes beat ∷ past) ≡ b ∷ [] =

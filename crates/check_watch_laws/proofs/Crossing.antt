@@ -9,6 +9,7 @@ use Rattle.tl_map.specs.Map.{PortHolds, RoutesBytes}
 use Rattle.tl_map.proofs.Kept.{one_owner}
 use Rattle.tl_map.proofs.Overlaps.{port_within}
 use Rattle.check_cells.specs.Pattern.{Pattern}
+use Rattle.check_beats.specs.Rules.{decoded_size}
 use Rattle.check_beats.specs.State.{Under, ends_ask, ends_reply, ask_of, reply_of}
 use Rattle.check_beats.specs.declared.beat.AskHead.{AskHead}
 use Rattle.check_beats.specs.declared.beat.ReplyHead.{ReplyHead}
@@ -24,7 +25,7 @@ use Rattle.check_watch.specs.declared.links.Links.TheVariants.{Both}
 use Rattle.check_watch.specs.Allowed.{IsAskedAs, IsMust, IsAllowedAsk, IsAllowedReply}
 use Rattle.check_watch.specs.Lawful.{IsLawfulGroup, IsAllowed}
 use Rattle.check_watch.specs.Past.{State, port_in, scene_of, state, state_after}
-use Rattle.check_watch.specs.Plan.{Plan, IsPlan, Sighting, LinkSide, side_of, link_number, is_of, are_both, bus_of, HasLink, HasSource, seen_at}
+use Rattle.check_watch.specs.Plan.{Plan, IsPlan, Sighting, LinkSide, side_of, link_number, is_of, are_both, bus_of, HasLink, HasSource, seen_at, RoutesAt}
 use Rattle.check_watch.specs.Plan.LinkSide.{AtMasters, AtPorts}
 use Rattle.check_watch.specs.Scene.{ask_by, turn_by, captured, flight_after, is_given, given_by}
 use Rattle.check_watch.proofs.InFlight.{ask_at, reply_at}
@@ -375,10 +376,10 @@ module _ (plan : Plan) (is_plan : IsPlan plan) (both : plan.layout.links ≡ Bot
         (ap (λ (u : Under). ask_of u.bus u.asking beat lanes) (links_are plan past (Port p)) ∙ ask_is (Port p) beat)
         sent.0 in
         let found = asked_as (s.flights AtMasters took).turn ask asked in
-        let placed : RoutesBytes plan.layout.ports beat.address beat.size p =
+        let placed : RoutesAt plan.layout beat.address beat.size p =
         beat_placed plan s (asks_placed_so plan past lawful) (Port p) known lanes beat allowed in
         let within : plan.route beat.address beat.size < length plan.layout.ports =
-        goes_out_by plan.layout.ports beat.address beat.size p (plan.route beat.address beat.size) has placed
+        goes_out_by plan.layout.ports beat.address (decoded_size plan.layout.rules beat.size) p (plan.route beat.address beat.size) has placed
         (is_plan.route beat.address beat.size) in
         let place = same_place found.1 ask ask.source found.3 in
         let address : found.1.address ≡ beat.address = place.0 in

@@ -2,7 +2,6 @@
 use Rattle.std.proofs.Common.{◌≡◌, ◌∙◌, ℕ, Bool, true, false, if◌then◌else◌, List, [], ◌∷◌, ◌++◌, Option, Some, None, unwrap_or, take, refl, ap, sym, subst, append-nil}
 use Rattle.std.specs.List.{AllByRecursion}
 use Rattle.tl_types.specs.Request.{Request}
-use Rattle.tl_map.specs.Map.{RoutesBytes}
 use Rattle.check_beats.specs.Form.{SameFields}
 use Rattle.check_beats.specs.State.{AskBegun, first_ask, ask_of, ends_ask}
 use Rattle.check_beats.specs.declared.beat.AskHead.{AskHead}
@@ -14,7 +13,7 @@ use Rattle.check_watch.specs.declared.beat.Link.TheVariants.{Master, Port}
 use Rattle.check_watch.specs.Allowed.{IsPlaced, IsAllowedAsk}
 use Rattle.check_watch.specs.Lawful.{IsLawfulGroup, IsAllowed}
 use Rattle.check_watch.specs.Past.{State, state, scene_of, state_after}
-use Rattle.check_watch.specs.Plan.{Plan, Layout, Sighting, LinkSide, side_of, link_number, source_of, is_link, is_of, bus_of, HasSource}
+use Rattle.check_watch.specs.Plan.{Plan, Layout, Sighting, LinkSide, side_of, link_number, source_of, is_link, is_of, bus_of, HasSource, RoutesAt}
 use Rattle.check_watch.specs.Scene.{under_after}
 use Rattle.check_watch.proofs.InFlight.{ask_at, reply_at}
 use Rattle.check_watch_laws.specs.Crossed.{asking_at, ask_ended, asks}
@@ -44,8 +43,8 @@ pub placed_as : (layout : Layout) (link : Link) (first beat : AskHead) → SameF
     → IsPlaced layout link first → IsPlaced layout link beat
 placed_as layout (Master m) first beat same is = tt
 placed_as layout (Port p) first beat same is =
-    subst (λ size. RoutesBytes layout.ports beat.address size p) (sym same.size)
-    (subst (λ address. RoutesBytes layout.ports address first.size p) (sym same.address) is)
+    subst (λ size. RoutesAt layout beat.address size p) (sym same.size)
+    (subst (λ address. RoutesAt layout address first.size p) (sym same.address) is)
 
 module _ (plan : Plan) (s : State) (placed : AsksPlaced plan s) (link : Link) (known : ℕ) (lanes : List ℕ) where
   -- each beat of a request is placed, since its first one is

@@ -26,7 +26,7 @@ use Rattle.check_watch_laws.specs.Memories.{AreEntries, entries_of, exchanges_at
 use Rattle.check_watch_laws.specs.Moments.{IsDueAt, RequestMoment, dues_of, entry_due, moments, slave_then}
 use Rattle.check_watch_laws.specs.Moments.Act.{Accepts, Answers}
 use Rattle.check_watch_laws.specs.Whenever.{AlwaysKeepsRulesWhenever, AreFresh, IsDoneWhenever, answer_given, given_in, seen_answer, seen_in}
-use Rattle.check_watch_laws.specs.Rules.{AreSeenWhole}
+use Rattle.check_watch_laws.specs.Rules.{AreCompliant}
 use Rattle.check_watch_laws.proofs.Back.{rules_make_lawful}
 use Rattle.check_watch_laws.proofs.Told.{dues_none, dues_cons}
 
@@ -203,7 +203,7 @@ whenever_is_due plan past port slave all any fresh done =
 -- ---- all beats
 
 pub whenever_is_lawful : (plan : Plan) (past : List Sighting) → IsPlan plan → AreFresh plan
-    → AreWatched plan.layout past → AreSeenWhole plan past → AlwaysKeepsRulesWhenever plan past → IsLawfulGroup plan past
+    → AreWatched plan.layout past → AreCompliant plan past → AlwaysKeepsRulesWhenever plan past → IsLawfulGroup plan past
 whenever_is_lawful plan past is fresh watched seen always =
     rules_make_lawful plan past is watched seen (λ later earlier so.
     let rules = always later earlier so in

@@ -15,7 +15,7 @@ use Rattle.check_watch.specs.Plan.{Plan, Sighting, side_of, link_number, wide_of
 use Rattle.check_watch.specs.Scene.{accepted, answered}
 use Rattle.check_watch_laws.specs.Crossed.{AskSeen}
 use Rattle.check_watch_laws.specs.Memories.{port_for, reset_of}
-use Rattle.check_watch_laws.specs.Rules.{IsSeenWhole, AreSeenWhole}
+use Rattle.check_watch_laws.specs.Rules.{IsCompliant, AreCompliant}
 use Rattle.check_watch_laws.proofs.Done.{reply_goes}
 use Rattle.check_watch_laws.proofs.Flights.{in_step}
 use Rattle.check_watch_laws.proofs.Links.{links_are}
@@ -56,13 +56,13 @@ abbrev ask_in : Request → List AskSeen → Request
 ask_in other [] = other
 ask_in other (seen ∷ more) = seen.ask
 
-pub seen_whole : (plan : Plan) (past : List Sighting) → IsLawfulGroup plan past → AreSeenWhole plan past
-seen_whole plan [] lawful = tt
-seen_whole plan (x ∷ past) lawful = (seen_whole plan past lawful.0, go x.beat lawful.1)
+pub all_compliant : (plan : Plan) (past : List Sighting) → IsLawfulGroup plan past → AreCompliant plan past
+all_compliant plan [] lawful = tt
+all_compliant plan (x ∷ past) lawful = (all_compliant plan past lawful.0, go x.beat lawful.1)
   where
     go : (beat : Beat) → IsAllowed plan (scene_of plan (state plan past) x.link beat)
-        (record x { beat = beat }) → IsSeenWhole plan past (record x { beat = beat }) beat
-    go (A beat) allowed = allowed.known_lanes
+        (record x { beat = beat }) → IsCompliant plan past (record x { beat = beat }) beat
+    go (A beat) allowed = (allowed.aligned, allowed.known_lanes)
     go (D beat) allowed = λ ask next.
         let s = state plan past in
         let wide = wide_of plan x.link beat.source in

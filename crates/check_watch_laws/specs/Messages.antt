@@ -6,14 +6,13 @@ use Rattle.std.specs.List.{flat_map, AllByRecursion}
 use Rattle.tl_types.specs.Operation.{reply_op_of}
 use Rattle.tl_types.specs.Request.{Request}
 use Rattle.tl_types.specs.Wire.{reply_opcode_of}
-use Rattle.tl_map.specs.Map.{Routes, RoutesBytes}
 use Rattle.check_cells.specs.Pattern.{Pattern}
 use Rattle.check_beats.specs.Laws.{channel, IsSpelled, CanEnd, reply_channel, IsReplySpelled, ReplyCanEndSo}
 use Rattle.check_beats.specs.Spelling.{AskBeat, ReplyBeat}
 use Rattle.check_beats.specs.declared.beat.ReplyHead.{ReplyHead}
 use Rattle.check_watch.specs.declared.beat.Link.{Link}
 use Rattle.check_watch.specs.declared.beat.Link.TheVariants.{Port}
-use Rattle.check_watch.specs.Plan.{Plan, Layout, Sighting, LinkSide, side_of, link_number, source_of, wide_of, is_link, bus_of, HasSource}
+use Rattle.check_watch.specs.Plan.{Plan, Layout, Sighting, LinkSide, side_of, link_number, source_of, wide_of, is_link, bus_of, HasSource, RoutesAt}
 use Rattle.check_watch_laws.specs.Crossed.{AskSeen, ReplySeen, asks_over, replies_over, begun_at, ended_at, begun_replies_at, ended_replies_at, asks, replies, exchanges, next_answered}
 
 -- ---- a link
@@ -106,7 +105,7 @@ replies_of_source plan link wide whole =
 
 -- a request at a port's link is one that the address map has with the port
 abbrev pub IsInPlace : Layout → AskSeen → Type 0
-IsInPlace layout seen = (port : ℕ) → seen.link ≡ Port port → Routes layout.ports seen.ask port
+IsInPlace layout seen = (port : ℕ) → seen.link ≡ Port port → RoutesAt layout seen.ask.address seen.ask.size port
 
 -- what lawful beats say of messages
 pub record AreMessages (plan : Plan) (past : List Sighting) : Type 0 where
@@ -125,4 +124,4 @@ pub record AreMessages (plan : Plan) (past : List Sighting) : Type 0 where
   pub placed : (side : LinkSide) (wide : ℕ) → AllByRecursion (IsInPlace plan.layout) (asks plan side wide past)
   pub begun_placed : (port : ℕ) (first : AskBeat) (more : List AskBeat)
       → begun_at plan.layout (Port port) past ≡ first ∷ more
-      → RoutesBytes plan.layout.ports first.head.address first.head.size port
+      → RoutesAt plan.layout first.head.address first.head.size port

@@ -3,6 +3,7 @@ use Rattle.std.specs.Prelude.{◌≡◌, ◌≢◌, ℕ, List, [], ◌∷◌, �
 use Rattle.tl_types.specs.Request.{Request}
 use Rattle.check_cells.specs.Pattern.{Pattern}
 use Rattle.check_beats.specs.Form.{IsKnown}
+use Rattle.check_beats.specs.Rules.{IsAlignedBy}
 use Rattle.check_flight.specs.declared.order.Order.TheVariants.{Any}
 use Rattle.check_flight.specs.PortSlave.{may_be_unknown}
 use Rattle.check_watch.specs.declared.beat.Beat.{Beat}
@@ -32,19 +33,20 @@ pub record KeepsRules (plan : Plan) (past : List Sighting) : Type 0 where
 abbrev pub AlwaysKeepsRules : Plan → List Sighting → Type 0
 AlwaysKeepsRules plan past = (later earlier : List Sighting) → later ++ earlier ≡ past → KeepsRules plan earlier
 
--- ---- what was seen of beats
+-- ---- what is asked of each beat alone
 
--- each lane of a beat that carries a byte was known: of a request, and of a reply if its port's slave may leave none
--- unknown. Which lanes of a reply carry one is told by the request that it answers
-abbrev pub IsSeenWhole : Plan → List Sighting → Sighting → Beat → Type 0
-IsSeenWhole plan past x (A beat) = IsKnown beat x.known
-IsSeenWhole plan past x (D beat) =
+-- the address of a request is a multiple of its size, if that is asked; and each lane of a beat that carries a byte was
+-- known: of a request, and of a reply if its port's slave may leave none unknown. Which lanes of a reply carry one is told by
+-- the request that it answers
+abbrev pub IsCompliant : Plan → List Sighting → Sighting → Beat → Type 0
+IsCompliant plan past x (A beat) = IsAlignedBy plan.layout.rules beat × IsKnown beat x.known
+IsCompliant plan past x (D beat) =
     (ask : Request)
     → next_answered plan (side_of x.link) (wide_of plan x.link beat.source) past
     ≡ record { link = x.link; ask = ask } ∷ []
     → HasKnownLanes (bus_of plan.layout x.link) (may_be_unknown (reset_of plan (port_for plan x.link ask))) ask beat
     x.known
 
-abbrev pub AreSeenWhole : Plan → List Sighting → Type 0
-AreSeenWhole plan [] = Unit {0}
-AreSeenWhole plan (x ∷ past) = AreSeenWhole plan past × IsSeenWhole plan past x x.beat
+abbrev pub AreCompliant : Plan → List Sighting → Type 0
+AreCompliant plan [] = Unit {0}
+AreCompliant plan (x ∷ past) = AreCompliant plan past × IsCompliant plan past x x.beat

@@ -14,7 +14,7 @@ ghost use Rattle.check_watch_laws.specs.Crossings.{MessagesCross};
 ghost use Rattle.check_watch_laws.specs.Memories.{IsDoneAt, asks_done, order_at, replay_slave, reset_of};
 ghost use Rattle.check_watch_laws.specs.Messages.{AreMessages};
 ghost use Rattle.check_watch_laws.specs.Moments.{IsDueAt, moments, slave_after_all};
-ghost use Rattle.check_watch_laws.specs.Rules.{AlwaysKeepsRules, AreSeenWhole};
+ghost use Rattle.check_watch_laws.specs.Rules.{AlwaysKeepsRules, AreCompliant};
 ghost use Rattle.check_watch_laws.specs.Whenever.{AlwaysKeepsRulesWhenever, AreFresh, IsDoneWhenever};
 
 /// Each channel of a link carries whole messages one after the other, and a beginning of one more; each reply answers a
@@ -53,7 +53,7 @@ pub fn requests_may_be_done_whenever()
         → order_at plan port ≡ Any → (reset_of plan port).contests ≡ [] → IsDoneWhenever plan past port slave all
         → (history : List (Request × Pattern)) × IsDueAt plan past port history }
     ensures lawful { (plan : Plan) (past : List Sighting) → IsPlan plan → AreFresh plan
-        → AreWatched plan.layout past → AreSeenWhole plan past → AlwaysKeepsRulesWhenever plan past
+        → AreWatched plan.layout past → AreCompliant plan past → AlwaysKeepsRulesWhenever plan past
         → IsLawfulGroup plan past }
 {}
 
@@ -65,15 +65,16 @@ pub fn messages_cross()
 {}
 
 /// What `lawful` means: at each moment the beats so far are whole messages that come in turn, the replies fit what the
-/// slaves may reply, and messages cross; and each lane that carries a byte, and has to be known, was known.
+/// slaves may reply, and messages cross; each request has an address that is a multiple of its size, if that is asked; and each
+/// lane that carries a byte, and has to be known, was known.
 pub fn lawful_beats_keep_the_rules()
     ensures rules { (plan : Plan) (past : List Sighting) → IsPlan plan → AreWatched plan.layout past → IsLawfulGroup plan past
         → AlwaysKeepsRules plan past }
-    ensures lanes { (plan : Plan) (past : List Sighting) → IsLawfulGroup plan past → AreSeenWhole plan past }
+    ensures alone { (plan : Plan) (past : List Sighting) → IsLawfulGroup plan past → AreCompliant plan past }
 {}
 
 /// And the way back: beats that keep these rules at each moment are lawful.
 pub fn beats_that_keep_the_rules_are_lawful()
-    ensures { (plan : Plan) (past : List Sighting) → IsPlan plan → AreWatched plan.layout past → AreSeenWhole plan past
+    ensures { (plan : Plan) (past : List Sighting) → IsPlan plan → AreWatched plan.layout past → AreCompliant plan past
         → AlwaysKeepsRules plan past → IsLawfulGroup plan past }
 {}

@@ -1,17 +1,20 @@
 -- The text of a beat is a row.
-use Rattle.std.proofs.Common.{◌≡◌, ◌∙◌, ℕ, ◌+◌, ◌-◌, ◌^◌, ◌<◌, ◌≤◌, ◌==◌, false, List, [], ◌∷◌, length, Option, None, Some, Result, Ok, Err, arith, refl, ap, subst, ok_or}
+use Rattle.std.proofs.Common.{◌≡◌, ◌∙◌, ℕ, ◌+◌, ◌-◌, ◌^◌, ◌<◌, ◌≤◌, ◌==◌, Bool, true, false, List, [], ◌∷◌, length, Option, None, Some, Result, Ok, Err, arith, refl, ap, subst, if◌then◌else◌, ok_or}
+use Rattle.std.specs.Prelude.{⊤}
+use Rattle.std.proofs.lemmas.Bool.Decides.{nat_tests}
 use Rattle.std.specs.Fmt.{decimal, digits}
 use Rattle.std.specs.Str.Parse.{digits_value}
 use Rattle.tl_text.specs.Number.{number_of}
 use Rattle.check_beats.specs.declared.bus.Bus.{Bus}
 use Rattle.check_watch.specs.declared.beat.Link.{Link}
+use Rattle.check_rows.proofs.FrontLemmas.{flag-given, no-flag}
 use Rattle.check_rows.specs.Buses.{IsLinkOf, bus_of_link}
-use Rattle.check_rows.specs.Columns.{flag_of}
+use Rattle.check_rows.specs.Columns.{flag_of, flag_or}
 use Rattle.check_rows.specs.Number.{decimal_of}
-use Rattle.check_rows.specs.Row.{ask_of_words, reply_of_words, row_of}
+use Rattle.check_rows.specs.Row.{ask_of_words, asks_for_mark, reply_of_words, row_of}
 use Rattle.check_rows.specs.declared.columns.RowChannel.TheVariants as channel
 use Rattle.check_samples.specs.Digits.{bits_of}
-use Rattle.check_samples.specs.Row.{ask_text, cells_of_ask, cells_of_reply, hex_text, known_number, link_text, reply_text}
+use Rattle.check_samples.specs.Row.{ask_text, cells_of_ask, cells_of_reply, hex_text, known_number, link_text, mark_text, number_if_any, reply_text}
 use Rattle.tl_text.specs.Reading.{◌>>=◌}
 use Rattle.check_samples.specs.Rows.{row_at, row_by}
 use Rattle.check_samples.specs.declared.channel.AskTaps.{AskTaps}
@@ -25,13 +28,13 @@ use Rattle.check_samples.specs.declared.row.TheConstants.{MAX_BITS}
 use Rattle.check_samples.specs.declared.signal.Signal.{Signal}
 use Rattle.check_samples.specs.declared.signal.Signal.TheVariants as signal
 use Rattle.check_wave_laws.specs.Rows.{IsRow}
-use Rattle.check_wave_laws.specs.Seen.{AskFits, BeatFits, ReplyFits, ask_in, beat_in, lanes_in, number_in, reply_in, row_of_channel}
+use Rattle.check_wave_laws.specs.Seen.{AskFits, BeatFits, ReplyFits, ask_in, beat_in, flag_by, lanes_in, number_in, reply_in, row_of_channel}
 use Rattle.check_wave_laws.specs.Seen.{row_on_line as row_shown}
 use Rattle.check_wave_laws.proofs.Buses.{IsBus, bus-of}
 use Rattle.check_wave_laws.proofs.Columns.{ask-line, ask-spelled, ask_words, channel-a, channel-d, link-read, reply-line, reply-spelled, reply_words, row-spelled, word-link}
 use Rattle.check_wave_laws.proofs.Lanes.{lanes-read, mask-read}
 use Rattle.check_wave_laws.proofs.Numbers.{HasNumber, address-read, decimal-read, flag-read, has-number, number-below}
-use Rattle.check_wave_laws.proofs.Words.{AreWords, joined, parts-joined, plain-joined, word-bits, word-decimal, word-hex}
+use Rattle.check_wave_laws.proofs.Words.{AreWords, IsWord, joined, parts-joined, plain-joined, word-bits, word-decimal, word-hex}
 
 -- ---- the numbers of a beat
 
@@ -50,17 +53,42 @@ record AskNumbers (values : List (List ℕ)) (taps : AskTaps) (cells : AskCells)
   address : HasNumber (bits_of values taps.address) cells.address
   mask : HasNumber (bits_of values taps.mask) (number_in values taps.mask)
 
+-- the bits spell the number, if there is one, or there are none
+abbrev HasMark : List ℕ → Option ℕ → Type 0
+HasMark [] None = ⊤
+HasMark [] (Some n) = ⊥
+HasMark (bit ∷ bits) None = ⊥
+HasMark (bit ∷ bits) (Some n) = HasNumber (bit ∷ bits) n
+
+known-mark : (which : Signal) (bits : List ℕ) (mark : Option ℕ) → number_if_any which bits ≡ Ok mark → HasMark bits mark
+known-mark which [] None is = tt
+known-mark which [] (Some n) is = absurd (cc)
+known-mark which (bit ∷ bits) mark is = some (length (bit ∷ bits) == 0) refl mark is
+  where
+    go : (r : Result ℕ Signal) → known_number which (bit ∷ bits) ≡ r → (mark : Option ℕ)
+        → (r >>= (λ n. Ok (Some n))) ≡ Ok mark → HasMark (bit ∷ bits) mark
+    go (Err e) x mark y = absurd (cc)
+    go (Ok n) x None y = absurd (cc)
+    go (Ok n) x (Some m) y = let same : n ≡ m = cc in
+        subst (λ (k : ℕ). HasNumber (bit ∷ bits) k) same (known-number which (bit ∷ bits) n x)
+
+    some : (none : Bool) → (length (bit ∷ bits) == 0) ≡ none → (mark : Option ℕ)
+        → (if none then Ok None else known_number which (bit ∷ bits) >>= (λ n. Ok (Some n))) ≡ Ok mark
+        → HasMark (bit ∷ bits) mark
+    some true x mark y = absurd (grind (arith, nat_tests))
+    some false x mark y = go (known_number which (bit ∷ bits)) refl mark y
+
 record ReplyNumbers (values : List (List ℕ)) (taps : ReplyTaps) (cells : ReplyCells) : Type 0 where
   opcode : HasNumber (bits_of values taps.opcode) cells.opcode
   size : HasNumber (bits_of values taps.size) cells.size
   source : HasNumber (bits_of values taps.source) cells.source
   denied : HasNumber (bits_of values taps.denied) cells.denied
-  corrupt : HasNumber (bits_of values taps.corrupt) cells.corrupt
+  corrupt : HasMark (bits_of values taps.corrupt) cells.corrupt
 
 abbrev ask-made : ℕ → ℕ → ℕ → ℕ → ℕ → AskCells
 ask-made o p z s a = record { opcode = o; param = p; size = z; source = s; address = a }
 
-abbrev reply-made : ℕ → ℕ → ℕ → ℕ → ℕ → ReplyCells
+abbrev reply-made : ℕ → ℕ → ℕ → ℕ → Option ℕ → ReplyCells
 reply-made o z s n c = record { opcode = o; size = z; source = s; denied = n; corrupt = c }
 
 ask-parts : (o p z s a m : Result ℕ Signal) (cells : AskCells)
@@ -83,7 +111,7 @@ ask-parts (Ok o) (Ok p) (Ok z) (Err e) a m cells is = absurd (cc)
 ask-parts (Ok o) (Ok p) (Ok z) (Ok s) (Err e) m cells is = absurd (cc)
 ask-parts (Ok o) (Ok p) (Ok z) (Ok s) (Ok a) (Err e) cells is = absurd (cc)
 
-reply-parts : (o z s n c : Result ℕ Signal) (cells : ReplyCells)
+reply-parts : (o z s n : Result ℕ Signal) (c : Result (Option ℕ) Signal) (cells : ReplyCells)
     → (o >>= (λ o. z >>= (λ z. s >>= (λ s. n >>= (λ n. c >>= (λ c. Ok (reply-made o z s n c))))))) ≡ Ok cells
     → (o ≡ Ok cells.opcode) × (z ≡ Ok cells.size) × (s ≡ Ok cells.source) × (n ≡ Ok cells.denied)
     × (c ≡ Ok cells.corrupt)
@@ -123,13 +151,13 @@ reply-numbers : (values : List (List ℕ)) (taps : ReplyTaps) (cells : ReplyCell
 reply-numbers values taps cells is =
     let parts = reply-parts (known_number signal.DOpcode (bits_of values taps.opcode))
     (known_number signal.DSize (bits_of values taps.size)) (known_number signal.DSource (bits_of values taps.source))
-    (known_number signal.DDenied (bits_of values taps.denied)) (known_number signal.DCorrupt (bits_of values taps.corrupt)) cells is in
+    (known_number signal.DDenied (bits_of values taps.denied)) (number_if_any signal.DCorrupt (bits_of values taps.corrupt)) cells is in
     record {
       opcode = known-number signal.DOpcode (bits_of values taps.opcode) cells.opcode parts.0;
       size = known-number signal.DSize (bits_of values taps.size) cells.size parts.1;
       source = known-number signal.DSource (bits_of values taps.source) cells.source parts.2;
       denied = known-number signal.DDenied (bits_of values taps.denied) cells.denied parts.3;
-      corrupt = known-number signal.DCorrupt (bits_of values taps.corrupt) cells.corrupt parts.4;
+      corrupt = known-mark signal.DCorrupt (bits_of values taps.corrupt) cells.corrupt parts.4;
     }
 
 -- ---- the columns of a beat
@@ -145,6 +173,20 @@ flag-of : (bits : List ℕ) (n : ℕ) → HasNumber bits n → length bits ≤ 1
     → flag_of (decimal n) ≡ Ok (digits_value 2 bits == 1)
 flag-of bits n has fits =
     flag-read n (number-below bits n 1 has fits) ∙ ap (λ (m : ℕ). Ok (m == 1)) has.value
+
+mark-of : (absent : Bool) (bits : List ℕ) (mark : Option ℕ) → HasMark bits mark → length bits ≤ 1
+    → flag_or absent (mark_text mark) ≡ Ok (flag_by absent bits)
+mark-of absent [] None has fits = no-flag absent
+mark-of absent [] (Some n) has fits = elim has [ ]
+mark-of absent (bit ∷ bits) None has fits = elim has [ ]
+mark-of absent (bit ∷ bits) (Some n) has fits =
+    flag-given absent (decimal n) (digits_value 2 (bit ∷ bits) == 1) (flag-of (bit ∷ bits) n has fits)
+
+word-mark : (bits : List ℕ) (mark : Option ℕ) → HasMark bits mark → IsWord (mark_text mark)
+word-mark [] None has = tt
+word-mark [] (Some n) has = elim has [ ]
+word-mark (bit ∷ bits) None has = elim has [ ]
+word-mark (bit ∷ bits) (Some n) has = word-decimal n has.small
 
 ask-columns : (bus time : ℕ) (link : Link) (values : List (List ℕ)) (taps : AskTaps) (cells : AskCells)
     → IsBus bus → AskNumbers values taps cells → AskFits bus values taps
@@ -169,15 +211,18 @@ reply-columns : (bus time : ℕ) (link : Link) (values : List (List ℕ)) (taps 
     → reply_of_words bus (decimal time ∷ reply_words link cells (bits_of values taps.data)) ≡ Ok (reply_in bus values taps)
 reply-columns bus time link values taps cells of has fits =
     reply-spelled bus (decimal time) (link_text link) (68 ∷ []) (decimal cells.opcode) (decimal cells.size)
-    (decimal cells.source) (hex_text (bits_of values taps.data)) (decimal cells.denied) (decimal cells.corrupt)
+    (decimal cells.source) (hex_text (bits_of values taps.data)) (decimal cells.denied) (mark_text cells.corrupt)
     (number_in values taps.opcode) (number_in values taps.size) (number_in values taps.source)
-    (number_in values taps.denied == 1) (number_in values taps.corrupt == 1) (lanes_in bus values taps.data)
+    (number_in values taps.denied == 1)
+    (flag_by (asks_for_mark (number_in values taps.opcode) (number_in values taps.denied == 1)) (bits_of values taps.corrupt))
+    (lanes_in bus values taps.data)
     (small-read (bits_of values taps.opcode) cells.opcode 8 255 has.opcode fits.opcode refl)
     (small-read (bits_of values taps.size) cells.size 8 255 has.size fits.size refl)
     (small-read (bits_of values taps.source) cells.source 16 65535 has.source fits.source refl)
     (lanes-read bus (bits_of values taps.data) of.some fits.data_bits)
     (flag-of (bits_of values taps.denied) cells.denied has.denied fits.denied)
-    (flag-of (bits_of values taps.corrupt) cells.corrupt has.corrupt fits.corrupt)
+    (mark-of (asks_for_mark (number_in values taps.opcode) (number_in values taps.denied == 1)) (bits_of values taps.corrupt)
+    cells.corrupt has.corrupt fits.corrupt)
 
 -- ---- the row of a beat
 
@@ -243,7 +288,10 @@ reply-words masters ports time link values taps cells at has = (
                   tt,
                   (
                     word-bits (bits_of values taps.data),
-                    (word-decimal cells.denied has.denied.small, (word-decimal cells.corrupt has.corrupt.small, tt)),
+                    (
+                      word-decimal cells.denied has.denied.small,
+                      (word-mark (bits_of values taps.corrupt) cells.corrupt has.corrupt, tt),
+                    ),
                   ),
                 ),
               ),
@@ -298,7 +346,7 @@ reply-row masters ports line time link values taps cells at has fits =
           ap (row_of masters ports line) (parts-joined (decimal time) words are)
           ∙ row-spelled masters ports line time link channel.D (reply_in bus values taps) (decimal time)
           (link_text link) (68 ∷ []) (decimal cells.opcode) [] (decimal cells.size) (decimal cells.source) [] []
-          (hex_text lanes) (decimal cells.denied) (decimal cells.corrupt)
+          (hex_text lanes) (decimal cells.denied) (mark_text cells.corrupt)
           (decimal-read (2 ^ 64 - 1) time at.in_time (omega (arith, at.in_time)))
           (link-read masters ports link at.few_masters at.few_ports at.has_link) channel-d
           (reply-columns bus time link values taps cells (bus-of masters ports link at.has_link) has fits);

@@ -7,15 +7,15 @@ use Rattle.check_watch.specs.declared.beat.Beat.TheVariants as beat
 use Rattle.check_watch.specs.declared.beat.Link.{Link}
 use Rattle.check_watch.specs.declared.beat.Link.TheVariants.{Master, Port}
 use Rattle.check_rows.specs.Buses.{IsLinkOf, bus_of_link}
-use Rattle.check_rows.specs.Columns.{channel_of, flag_of, link_of, nothing_of}
+use Rattle.check_rows.specs.Columns.{channel_of, flag_of, flag_or, link_of, nothing_of}
 use Rattle.check_rows.specs.Lanes.{SeenLanes, lanes_of}
-use Rattle.check_rows.specs.Number.{address_of, decimal_of, mask_of}
+use Rattle.check_rows.specs.Number.{address_of, decimal_of, decimal_or_zero, mask_of}
 use Rattle.tl_text.specs.Reading.{◌>>=◌}
-use Rattle.check_rows.specs.Row.{SeenBeat, ask_of_words, beat_of, reply_of_words, row_of}
+use Rattle.check_rows.specs.Row.{SeenBeat, ask_of_words, asks_for_mark, beat_of, reply_of_words, row_of}
 use Rattle.check_rows.specs.declared.columns.RowChannel.{RowChannel}
 use Rattle.check_rows.specs.declared.columns.RowChannel.TheVariants as channel
 use Rattle.check_rows.specs.declared.fault.RowFault.{RowFault}
-use Rattle.check_samples.specs.Row.{ask_text, hex_text, link_text, reply_text}
+use Rattle.check_samples.specs.Row.{ask_text, hex_text, link_text, mark_text, reply_text}
 use Rattle.check_samples.specs.declared.row.AskCells.{AskCells}
 use Rattle.check_samples.specs.declared.row.ReplyCells.{ReplyCells}
 use Rattle.check_wave_laws.specs.Seen.{row_on_line}
@@ -33,7 +33,7 @@ ask_words link cells mask lanes =
 abbrev pub reply_words : Link → ReplyCells → List ℕ → List (List ℕ)
 reply_words link cells lanes =
     link_text link ∷ (68 ∷ []) ∷ decimal cells.opcode ∷ [] ∷ decimal cells.size ∷ decimal cells.source ∷ [] ∷ []
-    ∷ hex_text lanes ∷ decimal cells.denied ∷ decimal cells.corrupt ∷ []
+    ∷ hex_text lanes ∷ decimal cells.denied ∷ mark_text cells.corrupt ∷ []
 
 -- texts one after the other, and some of them together
 regrouped : (t h i n o p q x y z e : List ℕ)
@@ -83,7 +83,7 @@ pub reply-line : (time : ℕ) (link : Link) (cells : ReplyCells) (lanes : List �
 unfolding reply_text
 reply-line time link cells lanes =
     reply-joined (decimal time) (link_text link) (decimal cells.opcode) (decimal cells.size) (decimal cells.source)
-    (hex_text lanes) (decimal cells.denied) (decimal cells.corrupt)
+    (hex_text lanes) (decimal cells.denied) (mark_text cells.corrupt)
 
 -- ---- links and channels
 
@@ -117,21 +117,21 @@ pub ask-spelled : (bus : ℕ) (t l c wo wp wz ws wa wm wd : List ℕ) (o p z s a
     → address_of wa ≡ Ok a → mask_of bus wm ≡ Ok m → lanes_of bus wd ≡ Ok lanes
     → ask_of_words bus (t ∷ l ∷ c ∷ wo ∷ wp ∷ wz ∷ ws ∷ wa ∷ wm ∷ wd ∷ [] ∷ [] ∷ [])
     ≡ Ok (record {
-      beat = beat.A (record { opcode = o; param = p; size = z; source = s; address = a; mask = m });
+      beat = beat.A (record { opcode = o; param = p; size = z; source = s; address = a; mask = m; corrupt = false });
       lanes = lanes;
     })
-unfolding ask_of_words field_at nothing_of
+unfolding ask_of_words field_at decimal_or_zero nothing_of
 ask-spelled bus t l c wo wp wz ws wa wm wd o p z s a m lanes eo ep ez es ea em ed = rw (eo, ep, ez, es, ea, em, ed) refl
 
 pub reply-spelled : (bus : ℕ) (t l c wo wz ws wd wn wc : List ℕ) (o z s : ℕ) (n k : Bool) (lanes : SeenLanes)
     → decimal_of 255 wo ≡ Ok o → decimal_of 255 wz ≡ Ok z → decimal_of 65535 ws ≡ Ok s → lanes_of bus wd ≡ Ok lanes
-    → flag_of wn ≡ Ok n → flag_of wc ≡ Ok k
+    → flag_of wn ≡ Ok n → flag_or (asks_for_mark o n) wc ≡ Ok k
     → reply_of_words bus (t ∷ l ∷ c ∷ wo ∷ [] ∷ wz ∷ ws ∷ [] ∷ [] ∷ wd ∷ wn ∷ wc ∷ [])
     ≡ Ok (record {
-      beat = beat.D (record { opcode = o; size = z; source = s; denied = n; corrupt = k });
+      beat = beat.D (record { opcode = o; param = 0; size = z; source = s; denied = n; corrupt = k });
       lanes = lanes;
     })
-unfolding reply_of_words field_at nothing_of
+unfolding reply_of_words field_at decimal_or_zero nothing_of
 reply-spelled bus t l c wo wz ws wd wn wc o z s n k lanes eo ez es ed en ec = rw (eo, ez, es, ed, en, ec) refl
 
 pub row-spelled : (masters ports : List Bus) (line time : ℕ) (link : Link) (which : RowChannel) (seen : SeenBeat)

@@ -14,6 +14,7 @@ use Rattle.check_signals.specs.declared.fault.KeyFault.{KeyFault}
 use Rattle.check_signals.specs.declared.fault.KeyFault.TheVariants as key_fault
 use Rattle.check_beats.specs.declared.bus.Bus.{Bus}
 use Rattle.check_beats.specs.declared.bus.Bus.TheVariants.{Eight}
+use Rattle.check_beats.specs.declared.rules.LinkRules.{LinkRules}
 use Rattle.check_keys.specs.Bus.{bus_in_table}
 use Rattle.check_keys.specs.Key as system_key
 use Rattle.tl_text.specs.Reading.{◌>>=◌, each}
@@ -25,6 +26,7 @@ use Rattle.check_keys.specs.declared.fault.SystemFault.TheVariants as fault
 use Rattle.check_description.specs.Port.{Port, port_of, port_tables, ports_of, tables_by}
 use Rattle.check_description.specs.Description.{Description, Makes}
 use Rattle.check_description.specs.File.{Parts, document_of, parts_in, parts_of}
+use Rattle.check_description.specs.Rules.{rules_in}
 use Rattle.check_description.specs.Master.{Master, has_first, master_of, master_tables, masters_of}
 use Rattle.check_description.specs.declared.read.TheConstants.{MAX_SYSTEM}
 
@@ -118,16 +120,16 @@ record Divided (members : Members) (parts : Parts) : Type 0 where
 
 parts-are : (members : Members) (parts : Parts) → parts_in members ≡ Ok parts → Divided members parts
 unfolding parts_in
-parts-are members parts is = go (bus_in_table Eight members) is
+parts-are members parts is = go (bus_in_table Eight members) (rules_in members) is
   where
-    by : (bus : Bus) (p : Result (List Port) SystemFault) (m : Result (List Master) SystemFault)
+    by : (bus : Bus) (rules : LinkRules) (p : Result (List Port) SystemFault) (m : Result (List Master) SystemFault)
         → ports_of bus members ≡ p → masters_of bus members ≡ m
-        → (p >>= (λ of_ports. m >>= (λ of_masters. Ok (record { ports = of_ports; masters = of_masters })))) ≡ Ok parts
+        → (p >>= (λ of_ports. m >>= (λ of_masters. Ok (record { rules = rules; ports = of_ports; masters = of_masters })))) ≡ Ok parts
         → Divided members parts
-    by bus (Err e) m x y w = absurd (cc)
-    by bus (Ok p) (Err e) x y w = absurd (cc)
-    by bus (Ok p) (Ok m) x y w =
-        let made : Parts = record { ports = p; masters = m } in
+    by bus rules (Err e) m x y w = absurd (cc)
+    by bus rules (Ok p) (Err e) x y w = absurd (cc)
+    by bus rules (Ok p) (Ok m) x y w =
+        let made : Parts = record { rules = rules; ports = p; masters = m } in
         let same : made ≡ parts = cc in
         record {
           bus = bus;
@@ -135,12 +137,13 @@ parts-are members parts is = go (bus_in_table Eight members) is
           masters = y ∙ ap (λ (n : Parts). Ok n.masters) same;
         }
 
-    go : (b : Result Bus SystemFault)
-        → (b >>= (λ bus. ports_of bus members >>= (λ of_ports. masters_of bus members
-        >>= (λ of_masters. Ok (record { ports = of_ports; masters = of_masters }))))) ≡ Ok parts
+    go : (b : Result Bus SystemFault) (r : Result LinkRules SystemFault)
+        → (b >>= (λ bus. r >>= (λ rules. ports_of bus members >>= (λ of_ports. masters_of bus members
+        >>= (λ of_masters. Ok (record { rules = rules; ports = of_ports; masters = of_masters })))))) ≡ Ok parts
         → Divided members parts
-    go (Err e) w = absurd (cc)
-    go (Ok bus) w = by bus (ports_of bus members) (masters_of bus members) refl refl w
+    go (Err e) r w = absurd (cc)
+    go (Ok bus) (Err e) w = absurd (cc)
+    go (Ok bus) (Ok rules) w = by bus rules (ports_of bus members) (masters_of bus members) refl refl w
 
 -- ---- the values at a key
 

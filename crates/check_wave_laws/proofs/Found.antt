@@ -1,6 +1,6 @@
 -- What the names of a system find has no more bits than its columns have room for.
 use Rattle.std.proofs.Common.{◌≡◌, ℕ, zero, suc, ◌+◌, ◌-◌, ◌<◌, ◌≤◌, nat_le, nat_lt, Bool, true, false, ◌&&◌, not, cond, List, [], ◌∷◌, ◌++◌, map, Option, Some, None, Result, Ok, Err, Contains, ◌∙◌, ap, arith, refl, slice_get, subst}
-use Rattle.std.specs.Prelude.{⊤}
+use Rattle.std.specs.Prelude.{⊤, codes}
 use Rattle.std.specs.List.{cons_option, list_any}
 use Rattle.std.specs.Option.{option_and_then}
 use Rattle.std.specs.Str.{bytes_eq}
@@ -15,14 +15,14 @@ use Rattle.check_vcd.specs.declared.range.Span.{Span}
 use Rattle.check_samples.specs.declared.signal.Signal.{Signal}
 use Rattle.check_samples.specs.declared.signal.Signal.TheVariants as signal
 use Rattle.check_signals.specs.Found.{LinkSources, NamedLink, NamesOf, asked_by, signals_asked, link_at, link_sources, links_from, named_before, names_at, numbered, owner_of, sources_of, width_in}
-use Rattle.check_signals.specs.Source.{WantedSignal, Changing, Constant, SearchFault, Kept, Source, Twice, alone, constant_of, digit_in, measured, missing, source_by, source_in, too_wide, width_of, within}
-use Rattle.check_signals.specs.Wanted.{bits_fit, count_of, wanted_of}
+use Rattle.check_signals.specs.Source.{WantedSignal, Changing, Constant, SearchFault, Kept, Source, Twice, alone, constant_of, digit_in, left_out, measured, missing, source_by, source_in, too_wide, width_of, within}
+use Rattle.check_signals.specs.Wanted.{bits_fit, count_of, may_be_absent, wanted_of}
 use Rattle.check_signals.specs.Wires.{Wire, first_of, places_in, sought, wire_at, wire_by, wire_of, wires, wires_called}
 use Rattle.check_signals.specs.declared.keys.TheConstants.{SIGNALS}
 use Rattle.check_signals.specs.declared.signal_fault.SignalOwner.{SignalOwner}
 use Rattle.check_signals.specs.declared.source.TheConstants.{MAX_WIDTH}
 use Rattle.check_signals.specs.declared.wanted.Wanted.{Wanted}
-use Rattle.check_signals.specs.declared.wanted.Wanted.TheVariants.{Exactly, AtMost}
+use Rattle.check_signals.specs.declared.wanted.Wanted.TheVariants.{Exactly, AtMost, Optional}
 use Rattle.check_signals.specs.declared.wires.Places.{Places}
 use Rattle.check_wave_laws.proofs.Buses.{link-there}
 
@@ -61,10 +61,12 @@ each-has {A} P (y ∷ ys) x all (suc k, inside, is) = each-has P ys x all.1 (k, 
 abbrev HasBits : Wanted → ℕ → Type 0
 HasBits (Exactly count) bits = bits ≡ count
 HasBits (AtMost count) bits = bits ≤ count
+HasBits (Optional count) bits = bits ≤ count
 
 bits-fit : (wanted : Wanted) (bits : ℕ) → bits_fit wanted bits ≡ true → HasBits wanted bits
 bits-fit (Exactly count) bits is = grind (arith, nat_tests)
 bits-fit (AtMost count) bits is = grind (arith, nat_tests)
+bits-fit (Optional count) bits is = grind (arith, nat_tests)
 
 -- the values of an identifier have its width, and a constant has a digit
 abbrev pub KeptFits : List Var → Kept → Type 0
@@ -84,6 +86,15 @@ constant-fits vars (Exactly count) digit some =
     record { kept = some; from = omega arith; inside = omega arith; bits = omega arith }
 constant-fits vars (AtMost count) digit some =
     record { kept = some; from = omega arith; inside = omega arith; bits = omega arith }
+constant-fits vars (Optional count) digit some =
+    record { kept = some; from = omega arith; inside = omega arith; bits = omega arith }
+
+-- a signal that a design leaves out has no bits
+left-out-fits : (vars : List Var) (wanted : Wanted) → may_be_absent wanted ≡ true → SourceFits vars wanted left_out
+left-out-fits vars (Exactly count) is = absurd (cc)
+left-out-fits vars (AtMost count) is = absurd (cc)
+left-out-fits vars (Optional count) is =
+    record { kept = omega arith; from = omega arith; inside = omega arith; bits = omega arith }
 
 -- the signal of a wire has its bits
 abbrev WireFits : Wire → Type 0
@@ -186,7 +197,8 @@ alone-fits vars asked some (Some wire) s fits is =
 pub source-fits : (vars : List Var) (asked : WantedSignal) (s : Source) → 0 < count_of asked.wanted
     → source_in vars asked ≡ Ok s → SourceFits vars asked.wanted s
 unfolding source_in
-source-fits vars asked s some is = go (digit_in asked.name) is
+source-fits vars asked s some is =
+    absent (may_be_absent asked.wanted) (bytes_eq asked.name (codes "-")) refl is
   where
     go : (d : Option ℕ) → source_by vars asked d ≡ Ok s → SourceFits vars asked.wanted s
     go (Some digit) e =
@@ -196,6 +208,15 @@ source-fits vars asked s some is = go (digit_in asked.name) is
         let looked = sought vars asked.name in
         alone-fits vars asked (wires_called vars asked.name) (first_of (wires_called vars asked.name)) s
         (λ wire is. first-fits looked.0 looked.1 vars wire is) e
+
+    absent : (m n : Bool) → may_be_absent asked.wanted ≡ m
+        → cond (m && n) (Ok left_out) (source_by vars asked (digit_in asked.name)) ≡ Ok s
+        → SourceFits vars asked.wanted s
+    absent true true may e =
+        let same : left_out ≡ s = cc in
+        subst (SourceFits vars asked.wanted) same (left-out-fits vars asked.wanted may)
+    absent true false may e = go (digit_in asked.name) e
+    absent false n may e = go (digit_in asked.name) e
 
 -- ---- the names of a link
 

@@ -1,6 +1,6 @@
 -- What the signals of a beat show, in the terms of captures. It is this project's own; the order of bits and lanes is that
 -- of the TileLink specification ("Signal descriptions").
-use Rattle.std.specs.Prelude.{ℕ, ◌-◌, ◌*◌, ◌≡◌, ◌≤◌, ◌==◌, List, drop, length, map, take, Option}
+use Rattle.std.specs.Prelude.{ℕ, ◌-◌, ◌*◌, ◌≡◌, ◌≤◌, ◌==◌, Bool, false, List, [], ◌∷◌, drop, length, map, take, Option}
 use Rattle.std.specs.List.{range_with_len}
 use Rattle.std.specs.Str.Parse.{digits_value}
 use Rattle.tl_text.specs.Number.{number_of}
@@ -10,7 +10,7 @@ use Rattle.check_watch.specs.declared.beat.Beat.TheVariants as beat
 use Rattle.check_watch.specs.declared.beat.Link.{Link}
 use Rattle.check_rows.specs.Buses.{bus_of_link}
 use Rattle.check_rows.specs.Lanes.{SeenLanes, seen_of}
-use Rattle.check_rows.specs.Row.{SeenBeat, SeenRow}
+use Rattle.check_rows.specs.Row.{SeenBeat, SeenRow, asks_for_mark}
 use Rattle.check_samples.specs.Digits.{bits_of}
 use Rattle.check_samples.specs.declared.channel.AskTaps.{AskTaps}
 use Rattle.check_samples.specs.declared.channel.BeatTaps.{BeatTaps}
@@ -40,19 +40,26 @@ ask_in bus values taps = record {
     source = number_in values taps.source;
     address = number_in values taps.address;
     mask = number_in values taps.mask;
+    corrupt = false;
   });
   lanes = lanes_in bus values taps.data;
 }
 
--- and of channel D
+-- the flag that one bit is, or this one if a design has no such signal
+abbrev pub flag_by : Bool → List ℕ → Bool
+flag_by absent [] = absent
+flag_by absent (bit ∷ bits) = digits_value 2 (bit ∷ bits) == 1
+
+-- and of channel D. If there is no `d_corrupt`, a beat is marked as the standard asks
 abbrev pub reply_in : ℕ → List (List ℕ) → ReplyTaps → SeenBeat
 reply_in bus values taps = record {
   beat = beat.D (record {
     opcode = number_in values taps.opcode;
+    param = 0;
     size = number_in values taps.size;
     source = number_in values taps.source;
     denied = number_in values taps.denied == 1;
-    corrupt = number_in values taps.corrupt == 1;
+    corrupt = flag_by (asks_for_mark (number_in values taps.opcode) (number_in values taps.denied == 1)) (bits_of values taps.corrupt);
   });
   lanes = lanes_in bus values taps.data;
 }

@@ -63,20 +63,23 @@ flag_of n = if n == 0 then Some false else if n == 1 then Some true else None
 abbrev pub link_of : ℕ → ℕ → Option Link
 link_of side number = if side == 0 then Some (Master number) else if side == 1 then Some (Port number) else None
 
--- the beat of a request, and that of a reply by its flags
-abbrev pub ask_beat : WireBeat → Beat
-ask_beat w = A (record {
+-- the beat of a request, and that of a reply, by its flags
+abbrev pub ask_beat : WireBeat → Option Bool → Option Beat
+ask_beat w (Some corrupt) = Some (A (record {
   opcode = w.opcode;
   param = w.param;
   size = w.size;
   source = w.source;
   address = w.address;
   mask = w.mask;
-})
+  corrupt = corrupt;
+}))
+ask_beat w None = None
 
 abbrev pub reply_beat : WireBeat → Option Bool → Option Bool → Option Beat
 reply_beat w (Some denied) (Some corrupt) = Some (D (record {
   opcode = w.opcode;
+  param = w.param;
   size = w.size;
   source = w.source;
   denied = denied;
@@ -87,8 +90,10 @@ reply_beat w None corrupt = None
 
 -- the beat that a struct stands for, if its numbers have a meaning
 abbrev pub beat_of : WireBeat → Option Beat
-beat_of w = if w.channel == 0 then Some (ask_beat w) else if w.channel == 1 then reply_beat w (flag_of w.denied)
-    (flag_of w.corrupt) else None
+beat_of w =
+    if w.channel == 0 then ask_beat w (flag_of w.corrupt)
+    else if w.channel == 1 then reply_beat w (flag_of w.denied) (flag_of w.corrupt)
+    else None
 
 -- a beat that was seen at a link, with all lanes of the struct
 abbrev pub seen_with : WireBeat → Option Link → Option Beat → Option Sighting

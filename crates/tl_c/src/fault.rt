@@ -33,7 +33,7 @@ pub(crate) const NO_BYTE: u32 = 25;
 pub(crate) const NO_LINK: u32 = 30;
 
 /// Requests are left without a whole reply.
-pub(crate) const INCOMPLETE: u32 = 48;
+pub(crate) const INCOMPLETE: u32 = 50;
 
 pub(crate) const NO_PORT: u32 = 60;
 
@@ -112,10 +112,12 @@ fn form_number(fault: FormFault) -> u32
     match fault {
         FormFault::Changed => 31,
         FormFault::Opcode => 32,
-        FormFault::Size => 33,
-        FormFault::Mask => 34,
-        FormFault::CorruptFlag => 35,
-        FormFault::UnknownData => 36,
+        FormFault::Param => 33,
+        FormFault::Size => 34,
+        FormFault::Unaligned => 35,
+        FormFault::Mask => 36,
+        FormFault::CorruptFlag => 37,
+        FormFault::UnknownData => 38,
     }
 }
 
@@ -126,17 +128,17 @@ pub(crate) fn beat_number(fault: &Fault) -> u32
 {
     match fault {
         Fault::Form(fault) => form_number(*fault),
-        Fault::NoSuchSource => 37,
-        Fault::SourceBusy => 38,
-        Fault::WrongPort => 39,
-        Fault::NoRequest => 40,
-        Fault::EarlyReply => 41,
-        Fault::WrongSize => 42,
-        Fault::WrongOpcode => 43,
-        Fault::UnknownData => 44,
-        Fault::NotSent => 45,
-        Fault::NotGiven => 46,
-        Fault::WrongReply(_, _) => 47,
+        Fault::NoSuchSource => 39,
+        Fault::SourceBusy => 40,
+        Fault::WrongPort => 41,
+        Fault::NoRequest => 42,
+        Fault::EarlyReply => 43,
+        Fault::WrongSize => 44,
+        Fault::WrongOpcode => 45,
+        Fault::UnknownData => 46,
+        Fault::NotSent => 47,
+        Fault::NotGiven => 48,
+        Fault::WrongReply(_, _) => 49,
     }
 }
 
@@ -180,21 +182,23 @@ pub(crate) fn words(number: u32) -> &'static str {
         NO_LINK => "no such link",
         31 => "field changed",
         32 => "unknown opcode",
-        33 => "size out of range",
-        34 => "wrong mask",
-        35 => "wrong corrupt flag",
-        36 => "unknown data",
-        37 => "no such source",
-        38 => "source in flight",
-        39 => "not this port's address",
-        40 => "reply without request",
-        41 => "reply before its request ended",
-        42 => "size of another request",
-        43 => "opcode of another operation",
-        44 => "unknown data",
-        45 => "no master sent this request",
-        46 => "the port gave no such reply",
-        47 => "wrong reply",
+        33 => "wrong param",
+        34 => "size out of range",
+        35 => "unaligned address",
+        36 => "wrong mask",
+        37 => "wrong corrupt flag",
+        38 => "unknown data",
+        39 => "no such source",
+        40 => "source in flight",
+        41 => "not this port's address",
+        42 => "reply without request",
+        43 => "reply before its request ended",
+        44 => "size of another request",
+        45 => "opcode of another operation",
+        46 => "unknown data",
+        47 => "no master sent this request",
+        48 => "the port gave no such reply",
+        49 => "wrong reply",
         INCOMPLETE => "requests without reply",
         other => call_words(other),
     }

@@ -19,7 +19,7 @@ pub fn faults_in_numbers()
     ensures size { SIZE ≡ 21 }
     ensures no_byte { NO_BYTE ≡ 25 }
     ensures no_link { NO_LINK ≡ 30 }
-    ensures incomplete { INCOMPLETE ≡ 48 }
+    ensures incomplete { INCOMPLETE ≡ 50 }
     ensures no_port { NO_PORT ≡ 60 }
     ensures no_image { NO_IMAGE ≡ 61 }
     ensures long_image { LONG_IMAGE ≡ 62 }
@@ -36,5 +36,5 @@ pub fn room_in_numbers()
 
 /// The version of the header, `TLX_VERSION`.
 pub fn version_in_numbers()
-    ensures { VERSION ≡ 4 }
+    ensures { VERSION ≡ 5 }
 {}

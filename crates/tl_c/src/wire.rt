@@ -2,7 +2,7 @@
 ghost use Rattle.std.specs.Prelude.{◌≡◌, ◌≢◌, ◌≤◌, ◌↔◌, drop, option_map};
 ghost use Rattle.check_watch.specs.Plan.{seen_at};
 ghost use Rattle.tl_types.specs.Wire.{IsCodeOf};
-ghost use Rattle.tl_c.specs.Wire.{IsWireAnswer, IsWireAsk, IsTooLarge, NamesNone, beat_of, flag_of, link_of, reply_beat, shown_by_struct};
+ghost use Rattle.tl_c.specs.Wire.{ask_beat, IsWireAnswer, IsWireAsk, IsTooLarge, NamesNone, beat_of, flag_of, link_of, reply_beat, shown_by_struct};
 
 use crate::fault::{NO_OPERATION, OK, SIZE};
 use check_beats::{AskHead, MAX_LANES, ReplyHead};
@@ -136,6 +136,22 @@ fn link_of(side: u8, number: usize) -> Option<Link>
     }
 }
 
+/// The beat of a request of a struct, if its flag has a meaning.
+fn ask_beat(wire: &WireBeat) -> Option<Beat>
+    ensures { result ≡ ask_beat wire.now (flag_of wire.now.corrupt) }
+{
+    let corrupt = flag_of(wire.corrupt)?;
+    Some(Beat::A(AskHead {
+        opcode: wire.opcode,
+        param: wire.param,
+        size: wire.size,
+        source: wire.source,
+        address: wire.address,
+        mask: wire.mask,
+        corrupt,
+    }))
+}
+
 /// The beat of a reply of a struct, if its flags have a meaning.
 fn reply_beat(wire: &WireBeat) -> Option<Beat>
     ensures { result ≡ reply_beat wire.now (flag_of wire.now.denied) (flag_of wire.now.corrupt) }
@@ -144,6 +160,7 @@ fn reply_beat(wire: &WireBeat) -> Option<Beat>
     let corrupt = flag_of(wire.corrupt)?;
     Some(Beat::D(ReplyHead {
         opcode: wire.opcode,
+        param: wire.param,
         size: wire.size,
         source: wire.source,
         denied,
@@ -156,14 +173,7 @@ fn beat_of(wire: &WireBeat) -> Option<Beat>
     ensures { result ≡ beat_of wire.now }
 {
     if wire.channel == 0 {
-        Some(Beat::A(AskHead {
-            opcode: wire.opcode,
-            param: wire.param,
-            size: wire.size,
-            source: wire.source,
-            address: wire.address,
-            mask: wire.mask,
-        }))
+        ask_beat(wire)
     } else if wire.channel == 1 {
         reply_beat(wire)
     } else {

@@ -1,8 +1,7 @@
 -- The request that begins with a beat, as it is kept.
-use Rattle.std.proofs.Common.{◌≡◌, ◌∙◌, ◌%◌, ◌^◌, false, List, sym, ap, subst}
+use Rattle.std.proofs.Common.{◌≡◌, ◌∙◌, ◌%◌, ◌^◌, false, sym, ap, subst}
 use Rattle.std.specs.Prelude.{◌==◌, not}
-use Rattle.tl_map.specs.declared.range.Range.{Range}
-use Rattle.tl_map.specs.Map.{RoutesBytes}
+use Rattle.check_watch.specs.Plan.{RoutesAt}
 use Rattle.check_sides.specs.Plan.{Layout}
 use Rattle.check_coverage.specs.Flights.{master_of}
 use Rattle.check_coverage.proofs.coverage.begun.Goals as goal
@@ -12,10 +11,10 @@ returns c = λ plan suits.
     let beat = c.args.beat.now in
     let master : c.master_of.result ≡ master_of plan.layout.owners c.args.wide =
     c.master_of.ensures ∙ ap (λ o. master_of o c.args.wide) (c.sources.ensures ∙ ap (λ (l : Layout). l.owners) suits.layout) in
-    let port : c.route_bytes.result ≡ plan.route beat.address beat.size =
-    (c.route_bytes.ensures.port (plan.route beat.address beat.size)).1
-    (subst (λ (ports : List (List Range)). RoutesBytes ports beat.address beat.size (plan.route beat.address beat.size))
-    (sym (c.map.ensures ∙ ap (λ (l : Layout). l.ports) suits.layout)) (suits.lawful.route beat.address beat.size)) in
+    let port : c.route.result ≡ plan.route beat.address beat.size =
+    (c.route.ensures (plan.route beat.address beat.size)).1
+    (subst (λ (l : Layout). RoutesAt l beat.address beat.size (plan.route beat.address beat.size)) (sym suits.layout)
+    (suits.lawful.route beat.address beat.size)) in
     let span : c.width-span.result ≡ 2 ^ beat.size = c.width-span.ensures.value in
     λ i. record {
       wide = c.args.wide;

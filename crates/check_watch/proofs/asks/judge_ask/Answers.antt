@@ -24,6 +24,7 @@ returns-then-not-begins_free-clause-reason c plan suits =
     first_ask_reason view.layout link (scene_in plan view link (A beat)) beat known lanes SourceBusy
     (λ yes. let no = free.1 yes in absurd (cc)) (record {
       fits = fits;
+      aligned = rw (← c.rules.ensures) c.in_default.ensures.aligned;
       known_lanes = c.in_default.ensures.known;
       source = (wide, at);
       free = λ lower. absurd (omega (arith, lower));
@@ -47,6 +48,7 @@ returns-then-not-begins_placed-clause-reason c plan suits =
     first_ask_reason view.layout link (scene_in plan view link (A beat)) beat known lanes WrongPort
     (λ yes. let no = c.begins_placed.ensures.1 yes in absurd (cc)) (record {
       fits = fits;
+      aligned = rw (← c.rules.ensures) c.in_default.ensures.aligned;
       known_lanes = c.in_default.ensures.known;
       source = (wide, at);
       free = λ lower. free.0 c.if-not-begins_free.false;
@@ -71,6 +73,7 @@ returns-then-not-ends_sent-clause-reason c plan suits =
     first_ask_reason view.layout link (scene_in plan view link (A beat)) beat known lanes NotSent
     (λ yes. let no = sent.1 yes in absurd (cc)) (record {
       fits = fits;
+      aligned = rw (← c.rules.ensures) c.in_default.ensures.aligned;
       known_lanes = c.in_default.ensures.known;
       source = (wide, at);
       free = λ lower. free.0 c.if-not-begins_free.false;
@@ -94,6 +97,7 @@ returns-clause-allowed c plan suits =
     let sent = sent_here plan view link beat lanes wide c.ends_sent.result suits at c.ends_sent.ensures in
     allowed_ask view.layout link (scene_in plan view link (A beat)) beat known lanes (record {
       fits = fits;
+      aligned = rw (← c.rules.ensures) c.in_default.ensures.aligned;
       known_lanes = c.in_default.ensures.known;
       source = (wide, at);
       free = λ lower. free.0 c.if-not-begins_free.false;

@@ -1,9 +1,9 @@
 use Rattle.check_watch_laws.proofs.Rules.{always_keeps}
-use Rattle.check_watch_laws.proofs.Whole.{seen_whole}
+use Rattle.check_watch_laws.proofs.Whole.{all_compliant}
 use Rattle.check_watch_laws.proofs.laws.lawful_beats_keep_the_rules.Goals as goal
 
 pub returns-clause-rules : goal.returns-clause-rules
 returns-clause-rules c = always_keeps
 
-pub returns-clause-lanes : goal.returns-clause-lanes
-returns-clause-lanes c = seen_whole
+pub returns-clause-alone : goal.returns-clause-alone
+returns-clause-alone c = all_compliant

@@ -2,9 +2,15 @@
 //!
 //! A capture cannot spell them, and who calls the judge may give them. `examples/verdicts` has all other beats.
 use crate::tests::parts::state::expect_text;
-use check_beats::{AskHead, Bus, FormFault, ReplyHead, UnderWay};
+use check_beats::{AskHead, Bus, FormFault, LinkRules, ReplyHead, UnderWay};
 use check_cells::Pattern;
 use std::process::Abort;
+
+/// Links that keep to the standard.
+const STRICT: LinkRules = LinkRules {
+    unaligned: false,
+    by_address: false,
+};
 
 /// The lanes of the widest bus.
 const LANES: [u8; 64] = [0x33; 64];
@@ -18,6 +24,7 @@ fn put_of(opcode: u8, size: u8, address: u64, mask: u64) -> AskHead {
         source: 3,
         address,
         mask,
+        corrupt: false,
     }
 }
 
@@ -25,6 +32,7 @@ fn put_of(opcode: u8, size: u8, address: u64, mask: u64) -> AskHead {
 fn reply_of(size: u8) -> ReplyHead {
     ReplyHead {
         opcode: 1,
+        param: 0,
         size,
         source: 3,
         denied: false,
@@ -49,7 +57,7 @@ const MASKS: [Row; 7] = [
 fn try_first(rt: &impl Abort, row: &Row) {
     let (bus, opcode, size, address, mask) = *row;
     let link = UnderWay::new(bus);
-    let fault = link.ask_fault(&put_of(opcode, size, address, mask), u64::MAX);
+    let fault = link.ask_fault(STRICT, &put_of(opcode, size, address, mask), u64::MAX);
     assert!(rt; fault == Some(FormFault::Mask));
 }
 
@@ -57,10 +65,10 @@ fn try_first(rt: &impl Abort, row: &Row) {
 fn try_second(rt: &impl Abort, opcode: u8, mask: u64) {
     let mut link = UnderWay::new(Bus::Four);
     let first = put_of(opcode, 3, 8, 0xf);
-    assert!(rt; link.ask_fault(&first, u64::MAX).is_none());
+    assert!(rt; link.ask_fault(STRICT, &first, u64::MAX).is_none());
     assert!(rt; link.bus().bytes() <= LANES.len());
     link.take_ask(&first, &LANES);
-    let fault = link.ask_fault(&put_of(opcode, 3, 8, mask), u64::MAX);
+    let fault = link.ask_fault(STRICT, &put_of(opcode, 3, 8, mask), u64::MAX);
     assert!(rt; fault == Some(FormFault::Mask));
 }
 
@@ -77,7 +85,7 @@ fn a_mask_has_no_bit_past_the_bus(rt: HostRuntime) {
 fn a_known_bit_past_the_bus_is_that_of_no_lane(rt: HostRuntime) {
     let link = UnderWay::new(Bus::One);
     let put = put_of(0, 8, 0, 1);
-    assert!(&rt; link.ask_fault(&put, 0b10) == Some(FormFault::UnknownData));
+    assert!(&rt; link.ask_fault(STRICT, &put, 0b10) == Some(FormFault::UnknownData));
     let first = reply_of(3);
     assert!(&rt; link.reply_fault(&first).is_none());
     assert!(&rt; !link.is_known_reply(&first, 0, 0b10));

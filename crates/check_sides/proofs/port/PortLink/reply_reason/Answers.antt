@@ -13,7 +13,7 @@ use Rattle.check_sides.proofs.Alone.{answer_first, end_first, reply_allowed}
 use Rattle.check_sides.proofs.port.PortLink.reply_reason.Goals as goal
 
 pub returns-in-Some-answer_reason-clause-reason : goal.returns-in-Some-answer_reason-clause-reason
-returns-in-Some-answer_reason-clause-reason c layout beyond map own =
+returns-in-Some-answer_reason-clause-reason c layout beyond links map own =
     let view = c.args.self.now in
     let port = c.args.port in
     let beat = c.args.beat.now in
@@ -21,13 +21,13 @@ returns-in-Some-answer_reason-clause-reason c layout beyond map own =
     let reason = c.in-Some-answer_reason.reason in
     let small : beat.source < 65536 = omega arith in
     let fits : FitsReply (first_reply view.under.replying) beat = rw (← c.self.view_is) c.in_default.ensures.fits in
-    answer_first layout map port own beyond view beat known c.args.lanes.now fits small reason
+    answer_first layout links map port own beyond view beat known c.args.lanes.now fits small reason
     (subst (λ (v : PortView). IsFirstOf (HasAnswerReason port (flight_in v beat.source).turn v.under.bus
     (may_be_unknown v.slave) beat known) reason_rank reason) c.self.view_is
     (rw (← c.flight-flight.ensures, ← c.may_be_unknown-unknown.ensures) c.in-Some-answer_reason.ensures.reason))
 
 pub returns-clause-reason : goal.returns-clause-reason
-returns-clause-reason c layout beyond map own =
+returns-clause-reason c layout beyond links map own =
     let view = c.args.self.now in
     let port = c.args.port in
     let beat = c.args.beat.now in
@@ -42,11 +42,11 @@ returns-clause-reason c layout beyond map own =
     let ends : IsTrue (ends_reply view.under.bus view.under.replying beat) =
     rw (← c.self.view_is) (sym c.ends_reply.ensures ∙ c.if-not-ends_reply.false) in
     if_some c.end_reason.result
-    (λ (reason : Reason). end_first layout map port own beyond view beat known c.args.lanes.now fits small answers ends reason)
+    (λ (reason : Reason). end_first layout links map port own beyond view beat known c.args.lanes.now fits small answers ends reason)
     (c.end_reason.ensures.reason beyond.crossing)
 
 pub returns-clause-allowed : goal.returns-clause-allowed
-returns-clause-allowed c layout beyond map own =
+returns-clause-allowed c layout beyond links map own =
     let view = c.args.self.now in
     let port = c.args.port in
     let beat = c.args.beat.now in
@@ -59,5 +59,5 @@ returns-clause-allowed c layout beyond map own =
     (IsAnswer v.under.bus (may_be_unknown v.slave) beat known)) c.self.view_is
     (rw (← c.flight-flight.ensures, ← c.may_be_unknown-unknown.ensures) c.in_default-answer_reason.ensures.none) in
     if_none c.end_reason.result
-    (λ must. reply_allowed layout map port own beyond view beat known c.args.lanes.now fits small answers (λ ends. must))
+    (λ must. reply_allowed layout links map port own beyond view beat known c.args.lanes.now fits small answers (λ ends. must))
     (c.end_reason.ensures.none beyond.crossing)

@@ -39,6 +39,7 @@ made_of c = record {
 keeps_by : (c : goal.In_ok-shared) (plan : Plan) → IsPlan plan
     → plan.layout ≡ record {
       links = c.args.links;
+      rules = c.args.rules;
       owners = c.args.sources;
       ports = c.args.map;
       master_buses = c.args.master_buses.items;

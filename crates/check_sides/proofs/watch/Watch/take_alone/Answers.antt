@@ -36,7 +36,8 @@ returns-clause-taken c plan past keeps =
     subst (λ (l : Layout). is_alone l.links (Port port) ≡ true) inside.suits.layout
     (alone_before view c.args.self.now port c.args.link c.self.view_is c.requires.here c.requires.alone) in
     let here = kept_here plan past view port beat known lanes inside alone link (found c) in
-    let own = own_port plan past view port beat known lanes inside alone c.map-map.result.now
+    let own = own_port plan past view port beat known lanes inside alone c.rules-rules.result c.map-map.result.now
+    (ap (λ (l : Layout). l.rules) (sym inside.suits.layout) ∙ sym c.rules-rules.ensures)
     (ap (λ (l : Layout). l.ports) (sym inside.suits.layout) ∙ sym c.map-map.ensures) in
     subst (λ (l : Link). IsTakeAfter plan past (seen_at l beat known lanes) new c.take.result) (sym c.requires.here)
     (alone_take plan past view port beat known lanes inside alone link c.take.new.self (found c) c.take.result

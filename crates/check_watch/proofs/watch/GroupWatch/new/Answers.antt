@@ -1,4 +1,5 @@
 use Rattle.std.proofs.Common.{◌∙◌, length, refl, ap, sym}
+use Rattle.check_beats.specs.Rules.{decoded_size}
 use Rattle.check_beats.specs.State.{Under}
 use Rattle.check_flight.specs.Side.{bus_at}
 use Rattle.check_watch.specs.Plan.{Plan, IsPlan}
@@ -26,6 +27,7 @@ returns-clause-plan c =
     let plan : Plan = record {
       layout = record {
         links = c.args.links;
+        rules = c.args.rules;
         owners = c.args.sources;
         ports = c.args.map;
         master_buses = c.args.master_buses.items;
@@ -33,12 +35,12 @@ returns-clause-plan c =
       };
       resets = c.args.slaves.items;
       wide = wide_by c.args.sources;
-      route = c.ports-slots.ensures.routes.0;
+      route = λ address size. c.ports-slots.ensures.routes.0 address (decoded_size c.args.rules size);
     } in
     let lawful : IsPlan plan = record {
       owners = c.masters-owners.ensures.lawful;
       wide = wide_by_is c.args.sources;
-      route = c.ports-slots.ensures.routes.1;
+      route = λ address size. c.ports-slots.ensures.routes.1 address (decoded_size c.args.rules size);
     } in
     let made : GroupView = record {
       layout = plan.layout;

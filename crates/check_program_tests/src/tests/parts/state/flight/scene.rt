@@ -1,7 +1,7 @@
 //! What the scenes of the tests share: slaves, requests that cross, and replies that are expected.
 use crate::tests::holds;
 use crate::tests::parts::state::expect_text;
-use check_beats::{AskHead, Bus};
+use check_beats::{AskHead, Bus, LinkRules};
 use check_flight::{FlightPlace, Order, PortSlave, Side};
 use check_memory::{PartialMemory, Sizes, Slave, are_within};
 use std::alloc::{AllocError, Global};
@@ -44,6 +44,7 @@ pub fn head_of(opcode: u8, size: u8, source: u16, address: u64) -> AskHead {
         source,
         address,
         mask: 0xf,
+        corrupt: false,
     }
 }
 
@@ -60,7 +61,8 @@ pub fn cross(
     assert!(rt; place.link < side.links());
     assert!(rt; place.wide < side.wides());
     let under = side.link(place.link);
-    assert!(rt; under.ask_fault(beat, 0xf).is_none());
+    let rules = LinkRules::default();
+    assert!(rt; under.ask_fault(rules, beat, 0xf).is_none());
     assert!(rt; under.bus().bytes() <= lanes.len());
     if under.ends_ask(beat) {
         side.accept(alloc, place, beat, lanes, slave)

@@ -1,0 +1,13 @@
+-- What a system says of all its links: whether requests may be unaligned, and what its decoders look at. That a request begins at
+-- a multiple of its size is of the chapter "Addressing" of the TileLink specification; the rest is this project's own.
+use Rattle.std.specs.Prelude.{◌≡◌, ℕ, ◌%◌, ◌^◌, false, if◌then◌else◌}
+use Rattle.check_beats.specs.declared.beat.AskHead.{AskHead}
+use Rattle.check_beats.specs.declared.rules.LinkRules.{LinkRules}
+
+-- the address of a request is a multiple of its size, unless the system allows others
+abbrev pub IsAlignedBy : LinkRules → AskHead → Type 0
+IsAlignedBy rules beat = rules.unaligned ≡ false → beat.address % 2 ^ beat.size ≡ 0
+
+-- the size of the part of a request that decoders look at: all its bytes, or the first
+abbrev pub decoded_size : LinkRules → ℕ → ℕ
+decoded_size rules size = if rules.by_address then 0 else size

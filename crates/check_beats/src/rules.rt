@@ -1,0 +1,34 @@
+//! What a system says of all its links.
+ghost use Rattle.std.specs.Prelude.{◌≡◌, ◌≤◌, ◌↔◌, IsTrue};
+ghost use Rattle.tl_types.specs.declared.limits.TheConstants.{MAX_SIZE};
+ghost use Rattle.check_beats.specs.Rules.{IsAlignedBy, decoded_size};
+
+use crate::beat::AskHead;
+
+/// What a system says of all its links. By default requests are aligned, and decoders look at all their bytes.
+#[derive(Debug, Clone, Copy, PartialEq, Eq, Default)]
+pub struct LinkRules {
+    /// The address of a request may be no multiple of its size. Its slave denies it.
+    pub unaligned: bool,
+    /// Decoders look at the address of a request, and not at its other bytes.
+    pub by_address: bool,
+}
+
+impl LinkRules {
+    /// The size of the part of a request that decoders look at: all its bytes, or the first.
+    #[inline]
+    pub fn decoded_size(self, size: u8) -> u8
+        ensures value { result ≡ decoded_size self size }
+        ensures in_limit { result ≤ size }
+    {
+        if self.by_address { 0 } else { size }
+    }
+}
+
+/// Whether the address of a request is a multiple of its size, if it has to be.
+pub fn is_aligned_by(rules: LinkRules, beat: &AskHead) -> bool
+    requires { beat.now.size ≤ MAX_SIZE }
+    ensures { IsTrue result ↔ IsAlignedBy rules beat.now }
+{
+    rules.unaligned || beat.address % (1 << beat.size) == 0
+}
