@@ -23,8 +23,8 @@ ORDERS = ("accept", "reply", "any")
 # The keys of a script: of the document, of a port and of a master.
 KEYS = {"": ("slots", "port", "master"), "port": ("kind", "base", "length", "reset"), "master": ("sources", "ops")}
 # The keys of a system file; those of a script that it may have too; and those that say where signals are (docs/CAPTURE.md).
-SIGNALS = ("a_valid", "a_ready", "a_opcode", "a_param", "a_size", "a_source", "a_address", "a_mask", "a_data", "d_valid", "d_ready", "d_opcode",
-           "d_size", "d_source", "d_data", "d_denied", "d_corrupt")
+SIGNALS = ("a_valid", "a_ready", "a_opcode", "a_param", "a_size", "a_source", "a_address", "a_mask", "a_data", "a_corrupt", "d_valid", "d_ready",
+           "d_opcode", "d_param", "d_size", "d_source", "d_data", "d_denied", "d_corrupt")
 SYSTEM_KEYS = {"": ("bus", "unaligned", "decode", "port", "master", "clock", "reset", "reset_active", "slots", "extra"),
                "port": ("name", "kind", "base", "length", "ranges", "reset", "image", "unknown", "sizes", "order", "bus", "signals", "wires",
                         "extra"),

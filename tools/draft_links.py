@@ -11,8 +11,10 @@ from gtkwave_save import SIGNALS
 CORE = ("a_valid", "a_opcode", "a_address", "d_valid", "d_opcode")
 # Signals that designs may not have, for which a constant stands.
 CONSTANTS = ("a_param", "d_denied", "d_corrupt")
+# Those that most designs have not: tlvcd looks for them behind a prefix, and leaves their columns empty.
+EXTRAS = ("a_corrupt", "d_param")
 # How many bits tlvcd takes; those of mask and data follow from the bus.
-WIDTHS = {"a_opcode": 8, "a_param": 8, "a_size": 8, "d_opcode": 8, "d_size": 8, "a_source": 16, "d_source": 16, "a_address": 64}
+WIDTHS = {"a_opcode": 8, "a_param": 8, "a_size": 8, "d_opcode": 8, "d_param": 8, "d_size": 8, "a_source": 16, "d_source": 16, "a_address": 64}
 # The marks of the struct with the requests, and of the one with the replies.
 PARTS = (("_i", "_o"), ("_o", "_i"), ("h2d", "d2h"), ("req", "rsp"))
 MASTER_WORDS = {"host", "master", "client", "cpu"}
@@ -89,9 +91,10 @@ class Link:
 
     def missing(self):
         """The signals that the dump has not: those that are constants, and those that have to be named."""
-        absent = [signal for signal in SIGNALS if signal not in self.names]
+        left_out = EXTRAS if self.is_plain() else ()
+        absent = [signal for signal in SIGNALS if signal not in self.names and signal not in left_out]
         lone = {"a_source", "d_source"} & set(absent)
-        constants = [signal for signal in absent if signal in CONSTANTS or len(lone) == 2 and signal in lone]
+        constants = [signal for signal in absent if signal in CONSTANTS + EXTRAS or len(lone) == 2 and signal in lone]
         return constants, [signal for signal in absent if signal not in constants]
 
     def misfits(self):

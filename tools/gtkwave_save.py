@@ -7,8 +7,8 @@ import re
 
 from explanation import writers_of
 
-SIGNALS = ("a_valid", "a_ready", "a_opcode", "a_param", "a_size", "a_source", "a_address", "a_mask", "a_data",
-           "d_valid", "d_ready", "d_opcode", "d_size", "d_source", "d_denied", "d_corrupt", "d_data")
+SIGNALS = ("a_valid", "a_ready", "a_opcode", "a_param", "a_size", "a_source", "a_address", "a_mask", "a_data", "a_corrupt",
+           "d_valid", "d_ready", "d_opcode", "d_param", "d_size", "d_source", "d_denied", "d_corrupt", "d_data")
 MARKERS, HALF = 26, 13
 # How GTKWave shows a value: as a hexadecimal number at the right, or as a bit.
 NUMBER, BIT = "@22", "@28"

@@ -16,9 +16,9 @@ is_among names name = list_any (bytes_eq name) names
 abbrev pub wire_keys : List (List ℕ)
 wire_keys =
     codes "a_valid" ∷ codes "a_ready" ∷ codes "a_opcode" ∷ codes "a_param" ∷ codes "a_size" ∷
-    codes "a_source" ∷ codes "a_address" ∷ codes "a_mask" ∷ codes "a_data" ∷ codes "d_valid" ∷
-    codes "d_ready" ∷ codes "d_opcode" ∷ codes "d_size" ∷ codes "d_source" ∷ codes "d_data" ∷
-    codes "d_denied" ∷ codes "d_corrupt" ∷ codes "extra" ∷ []
+    codes "a_source" ∷ codes "a_address" ∷ codes "a_mask" ∷ codes "a_data" ∷ codes "a_corrupt" ∷
+    codes "d_valid" ∷ codes "d_ready" ∷ codes "d_opcode" ∷ codes "d_param" ∷ codes "d_size" ∷
+    codes "d_source" ∷ codes "d_data" ∷ codes "d_denied" ∷ codes "d_corrupt" ∷ codes "extra" ∷ []
 
 -- the keys that a table of this kind may have. `slots` and `ops` are a script's, and mean nothing to a judge
 abbrev pub known_keys : TableKind → List (List ℕ)

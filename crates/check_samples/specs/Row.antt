@@ -54,16 +54,18 @@ cells_of_ask values taps = do
   source ← known_number signal.ASource (bits_of values taps.source)
   address ← known_number signal.AAddress (bits_of values taps.address)
   _ ← known_number signal.AMask (bits_of values taps.mask)
-  Ok (record { opcode = opcode; param = param; size = size; source = source; address = address })
+  corrupt ← number_if_any signal.ACorrupt (bits_of values taps.corrupt)
+  Ok (record { opcode = opcode; param = param; size = size; source = source; address = address; corrupt = corrupt })
 
 abbrev pub cells_of_reply : List (List ℕ) → ReplyTaps → Result ReplyCells Signal
 cells_of_reply values taps = do
   opcode ← known_number signal.DOpcode (bits_of values taps.opcode)
+  param ← number_if_any signal.DParam (bits_of values taps.param)
   size ← known_number signal.DSize (bits_of values taps.size)
   source ← known_number signal.DSource (bits_of values taps.source)
   denied ← known_number signal.DDenied (bits_of values taps.denied)
   corrupt ← number_if_any signal.DCorrupt (bits_of values taps.corrupt)
-  Ok (record { opcode = opcode; size = size; source = source; denied = denied; corrupt = corrupt })
+  Ok (record { opcode = opcode; param = param; size = size; source = source; denied = denied; corrupt = corrupt })
 
 -- the columns up to the channel
 abbrev pub head_text : ℕ → Link → ℕ → List ℕ
@@ -73,6 +75,11 @@ head_text time link channel = decimal time ++ (44 ∷ link_text link) ++ (44 ∷
 abbrev pub cell : ℕ → List ℕ
 cell number = 44 ∷ decimal number
 
+-- a number that may be absent
+abbrev pub mark_text : Option ℕ → List ℕ
+mark_text None = []
+mark_text (Some number) = decimal number
+
 -- the row of a beat of channel A, with the bits of its mask and of its data
 abbrev pub ask_numbers : AskCells → List ℕ
 ask_numbers cells = cell cells.opcode ++ cell cells.param ++ cell cells.size ++ cell cells.source
@@ -80,18 +87,17 @@ ask_numbers cells = cell cells.opcode ++ cell cells.param ++ cell cells.size ++ 
 abbrev pub ask_lanes : ℕ → List ℕ → List ℕ → List ℕ
 ask_lanes address mask lanes = (44 ∷ digits 16 false address) ++ (44 ∷ hex_text mask) ++ (44 ∷ hex_text lanes)
 
+-- it is never denied
+abbrev pub ask_flags : AskCells → List ℕ
+ask_flags cells = (44 ∷ []) ++ (44 ∷ mark_text cells.corrupt)
+
 unfoldable pub ask_text : ℕ → Link → AskCells → List ℕ → List ℕ → List ℕ
 ask_text time link cells mask lanes =
-    head_text time link 65 ++ ask_numbers cells ++ ask_lanes cells.address mask lanes ++ (44 ∷ 44 ∷ 10 ∷ [])
-
--- a number that may be absent
-abbrev pub mark_text : Option ℕ → List ℕ
-mark_text None = []
-mark_text (Some number) = decimal number
+    head_text time link 65 ++ ask_numbers cells ++ ask_lanes cells.address mask lanes ++ ask_flags cells ++ (10 ∷ [])
 
 -- the row of a beat of channel D, with the bits of its data
 abbrev pub reply_numbers : ReplyCells → List ℕ
-reply_numbers cells = cell cells.opcode ++ (44 ∷ []) ++ cell cells.size ++ cell cells.source
+reply_numbers cells = cell cells.opcode ++ (44 ∷ mark_text cells.param) ++ cell cells.size ++ cell cells.source
 
 abbrev pub reply_lanes : List ℕ → ReplyCells → List ℕ
 reply_lanes lanes cells = (44 ∷ 44 ∷ 44 ∷ hex_text lanes) ++ cell cells.denied ++ (44 ∷ mark_text cells.corrupt)

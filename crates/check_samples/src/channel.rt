@@ -13,12 +13,14 @@ pub struct AskTaps {
     pub address: Tap,
     pub mask: Tap,
     pub data: Tap,
+    pub corrupt: Tap,
 }
 
 /// Where the signals of a beat of channel D are.
 #[derive(Debug, Clone, Copy, PartialEq, Eq)]
 pub struct ReplyTaps {
     pub opcode: Tap,
+    pub param: Tap,
     pub size: Tap,
     pub source: Tap,
     pub data: Tap,

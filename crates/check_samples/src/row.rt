@@ -3,7 +3,7 @@ ghost use Rattle.std.specs.Prelude.{[], ◌≡◌, ◌++◌, ◌∷◌, OnOk};
 ghost use Rattle.std.specs.Fmt.{decimal};
 ghost use Rattle.tl_text.specs.Number.{number_of};
 ghost use Rattle.check_samples.specs.Values.{all_before};
-ghost use Rattle.check_samples.specs.Row.{ask_lanes, ask_numbers, ask_text, cells_of_ask, cells_of_reply, digit_of, head_text, hex_text, hexes, known_number, link_text, mark_text, number_if_any, reply_lanes, reply_numbers, reply_text};
+ghost use Rattle.check_samples.specs.Row.{ask_flags, ask_lanes, ask_numbers, ask_text, cells_of_ask, cells_of_reply, digit_of, head_text, hex_text, hexes, known_number, link_text, mark_text, number_if_any, reply_lanes, reply_numbers, reply_text};
 
 use crate::channel::{AskTaps, ReplyTaps};
 use crate::signal::Signal;
@@ -23,12 +23,14 @@ pub struct AskCells {
     size: u64,
     source: u64,
     address: u64,
+    corrupt: Option<u64>,
 }
 
 /// The signals of a beat of channel D as numbers, save its data.
 #[derive(Debug, Clone, Copy, PartialEq, Eq)]
 pub struct ReplyCells {
     opcode: u64,
+    param: Option<u64>,
     size: u64,
     source: u64,
     denied: u64,
@@ -178,12 +180,14 @@ pub(crate) fn ask_cells(values: &Values, taps: &AskTaps) -> Result<AskCells, Sig
     let source = known_number(Signal::ASource, values.before(taps.source))?;
     let address = known_number(Signal::AAddress, values.before(taps.address))?;
     known_number(Signal::AMask, values.before(taps.mask))?;
+    let corrupt = number_if_any(Signal::ACorrupt, values.before(taps.corrupt))?;
     Ok(AskCells {
         opcode,
         param,
         size,
         source,
         address,
+        corrupt,
     })
 }
 
@@ -192,12 +196,14 @@ pub(crate) fn reply_cells(values: &Values, taps: &ReplyTaps) -> Result<ReplyCell
     ensures { result ≡ cells_of_reply (all_before values.now) taps.now }
 {
     let opcode = known_number(Signal::DOpcode, values.before(taps.opcode))?;
+    let param = number_if_any(Signal::DParam, values.before(taps.param))?;
     let size = known_number(Signal::DSize, values.before(taps.size))?;
     let source = known_number(Signal::DSource, values.before(taps.source))?;
     let denied = known_number(Signal::DDenied, values.before(taps.denied))?;
     let corrupt = number_if_any(Signal::DCorrupt, values.before(taps.corrupt))?;
     Ok(ReplyCells {
         opcode,
+        param,
         size,
         source,
         denied,
@@ -242,6 +248,14 @@ fn push_ask_lanes(
     push_bits(text, lanes)
 }
 
+/// Appends the flags of a beat of channel A, which is never denied.
+fn push_ask_flags(text: &mut Vec<u8>, cells: AskCells) -> Result<(), AllocError>
+    ensures { OnOk result (text.new.items ≡ text.old.items ++ ask_flags cells) }
+{
+    text.push(b',')?;
+    push_mark(text, cells.corrupt)
+}
+
 /// Appends the row of a beat of channel A.
 #[tactic(auto, unfolding(crate::specs::Row::ask_text))]
 pub(crate) fn push_ask(
@@ -257,7 +271,8 @@ pub(crate) fn push_ask(
     push_head(text, time, link, b'A')?;
     push_ask_numbers(text, cells)?;
     push_ask_lanes(text, cells.address, mask, lanes)?;
-    text.extend_from_slice(b",,\n")
+    push_ask_flags(text, cells)?;
+    text.extend_from_slice(b"\n")
 }
 
 /// Appends the columns of a beat of channel D up to its source.
@@ -265,7 +280,7 @@ fn push_reply_numbers(text: &mut Vec<u8>, cells: ReplyCells) -> Result<(), Alloc
     ensures { OnOk result (text.new.items ≡ text.old.items ++ reply_numbers cells) }
 {
     push_number(text, cells.opcode)?;
-    text.push(b',')?;
+    push_mark(text, cells.param)?;
     push_number(text, cells.size)?;
     push_number(text, cells.source)
 }

@@ -6,6 +6,7 @@ use Rattle.check_beats.specs.declared.bus.Bus.{Bus}
 use Rattle.check_vcd.specs.Header.{Var}
 use Rattle.check_samples.specs.declared.signal.Signal.{Signal}
 use Rattle.check_signals.specs.Found.{LinkSources, NamesOf, signals_asked, link_at, link_sources, links_from, named_before, names_at, numbered, owner_of, sources_of}
+use Rattle.check_signals.specs.Names.{SignalName}
 use Rattle.check_signals.specs.Source.{WantedSignal, SearchFault, Finds, Source, fault_view}
 use Rattle.check_signals.specs.declared.signal_fault.SignalOwner.{SignalOwner}
 use Rattle.check_signals.specs.declared.signal_fault.SignalFault.{SignalFault}
@@ -13,7 +14,7 @@ use Rattle.check_signals.specs.declared.signal_fault.SignalFault.TheVariants.{Me
 
 -- no names are left
 pub names-end : (find : WantedSignal → Result Source SearchFault) (owner : SignalOwner) (bus : ℕ) (signals : List Signal)
-    (rest : List (List ℕ)) (front : List Source) (all : Result (List Source) SearchFault) → length rest < 1
+    (rest : List SignalName) (front : List Source) (all : Result (List Source) SearchFault) → length rest < 1
     → with_front front (each find (signals_asked owner bus signals rest)) ≡ all → all ≡ Ok front
 names-end find owner bus [] rest front all few is = sym is ∙ ap Ok (append-nil front)
 names-end find owner bus (signal ∷ signals) [] front all few is = sym is ∙ ap Ok (append-nil front)
@@ -34,18 +35,18 @@ module _ (vars : List Var) (is_port : Bool) (names : NamesOf) (n : ℕ) (bus : B
   others = each (link_sources vars) (numbered is_port names (n + 1) rest)
 
   -- what all links find, by the names of the first of them
-  by-names : (own : Option (List (List ℕ))) → names_at names n ≡ own
+  by-names : (own : Option (List SignalName)) → names_at names n ≡ own
       → with_front front (links_from vars is_port names n here) ≡ all
       → with_front front (each (link_sources vars)
       (named_before is_port n bus own (numbered is_port names (n + 1) rest))) ≡ all
   unfolding links_from
   by-names own has so_far =
       sym (ap (λ (buses : List Bus). with_front front (each (link_sources vars) (numbered is_port names n buses))) is
-      ∙ ap (λ (own : Option (List (List ℕ))). with_front front (each (link_sources vars)
+      ∙ ap (λ (own : Option (List SignalName)). with_front front (each (link_sources vars)
       (named_before is_port n bus own (numbered is_port names (n + 1) rest)))) has) ∙ so_far
 
   -- and by what these find
-  by-sources : (own : List (List ℕ)) (found : Result (List Source) SearchFault) → names_at names n ≡ Some own
+  by-sources : (own : List SignalName) (found : Result (List Source) SearchFault) → names_at names n ≡ Some own
       → sources_of vars (owner_of (link_at is_port n)) (bus_bytes bus) own ≡ found
       → with_front front (links_from vars is_port names n here) ≡ all
       → with_front front ((found >>= (λ sources. Ok (record { link = link_at is_port n; sources = sources })))
@@ -56,7 +57,7 @@ module _ (vars : List Var) (is_port : Bool) (names : NamesOf) (n : ℕ) (bus : B
       ((found >>= (λ sources. Ok (record { link = link_at is_port n; sources = sources })))
       >>= (λ one. others >>= (λ more. Ok (one ∷ more))))) finds) ∙ by-names (Some own) has so_far
 
-  pub link-fails : (own : List (List ℕ)) (fault : SearchFault) → names_at names n ≡ Some own
+  pub link-fails : (own : List SignalName) (fault : SearchFault) → names_at names n ≡ Some own
       → sources_of vars (owner_of (link_at is_port n)) (bus_bytes bus) own ≡ Err fault
       → with_front front (links_from vars is_port names n here) ≡ all → all ≡ Err fault
   link-fails own fault has finds so_far = sym (by-sources own (Err fault) has finds so_far)
@@ -66,7 +67,7 @@ module _ (vars : List Var) (is_port : Bool) (names : NamesOf) (n : ℕ) (bus : B
   unfolding links_from
   link-without has so_far = by-names None has so_far
 
-  pub link-found : (own : List (List ℕ)) (sources : List Source) → names_at names n ≡ Some own
+  pub link-found : (own : List SignalName) (sources : List Source) → names_at names n ≡ Some own
       → sources_of vars (owner_of (link_at is_port n)) (bus_bytes bus) own ≡ Ok sources
       → with_front front (links_from vars is_port names n here) ≡ all
       → with_front (front ++ (record { link = link_at is_port n; sources = sources } ∷ []))

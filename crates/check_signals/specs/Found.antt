@@ -23,7 +23,7 @@ use Rattle.check_samples.specs.declared.channel.Channel.{Channel}
 use Rattle.check_samples.specs.declared.reset.Reset.{Reset}
 use Rattle.check_samples.specs.declared.signal.Signal.{Signal}
 use Rattle.check_samples.specs.declared.tap.Tap.{Tap}
-use Rattle.check_signals.specs.Names.{SignalNames}
+use Rattle.check_signals.specs.Names.{SignalName, SignalNames}
 use Rattle.check_signals.specs.Source.{WantedSignal, SearchFault, Kept, Changing, Constant, Source, source_in, source_view}
 use Rattle.check_signals.specs.Wanted.{wanted_of}
 use Rattle.check_signals.specs.declared.keys.TheConstants.{SIGNALS}
@@ -38,16 +38,21 @@ use Rattle.check_signals.specs.declared.wanted.Wanted.TheVariants.{AtMost}
 
 -- the clock and the reset have one bit
 abbrev pub system_source : List Var → List ℕ → Result Source SearchFault
-system_source vars name = source_in vars (record { owner = owner.System; name = name; wanted = AtMost 1 })
+system_source vars name = source_in vars (record { owner = owner.System; name = name; is_prefixed = false; wanted = AtMost 1 })
 
 -- the signals of a link whose bus has so many bytes, in the order of their names
-abbrev pub asked_by : SignalOwner → ℕ → Signal × List ℕ → WantedSignal
-asked_by whose bus named = record { owner = whose; name = named.1; wanted = wanted_of named.0 bus }
+abbrev pub asked_by : SignalOwner → ℕ → Signal × SignalName → WantedSignal
+asked_by whose bus named = record {
+  owner = whose;
+  name = named.1.text;
+  is_prefixed = named.1.is_prefixed;
+  wanted = wanted_of named.0 bus;
+}
 
-abbrev pub signals_asked : SignalOwner → ℕ → List Signal → List (List ℕ) → List WantedSignal
+abbrev pub signals_asked : SignalOwner → ℕ → List Signal → List SignalName → List WantedSignal
 signals_asked whose bus signals names = map (asked_by whose bus) (zip signals names)
 
-abbrev pub sources_of : List Var → SignalOwner → ℕ → List (List ℕ) → Result (List Source) SearchFault
+abbrev pub sources_of : List Var → SignalOwner → ℕ → List SignalName → Result (List Source) SearchFault
 sources_of vars whose bus names = each (source_in vars) (signals_asked whose bus SIGNALS names)
 
 -- a link, and what the names of its signals find
@@ -67,18 +72,18 @@ owner_of (link.Master number) = owner.Master number
 pub record NamedLink : Type 0 where
   pub link : Link
   pub bus : Bus
-  pub names : List (List ℕ)
+  pub names : List SignalName
 
 -- the names of each port or of each master, if it has any
 abbrev pub NamesOf : Type 0
-NamesOf = List (Option (List (List ℕ)))
+NamesOf = List (Option (List SignalName))
 
 -- those of this number
-abbrev pub names_at : NamesOf → ℕ → Option (List (List ℕ))
+abbrev pub names_at : NamesOf → ℕ → Option (List SignalName)
 names_at names number = option_and_then (λ own. own) (slice_get names number)
 
 -- the link of this number and others, if it has names
-abbrev pub named_before : Bool → ℕ → Bus → Option (List (List ℕ)) → List NamedLink → List NamedLink
+abbrev pub named_before : Bool → ℕ → Bus → Option (List SignalName) → List NamedLink → List NamedLink
 named_before is_port number bus None links = links
 named_before is_port number bus (Some names) links =
     record { link = link_at is_port number; bus = bus; names = names } ∷ links
@@ -159,7 +164,7 @@ tap_by kept source = record { slot = slot_place kept source.kept; from = source.
 -- the channels of a link, by the taps of its signals in the order of their names
 abbrev pub channels_of_link : Link → List Tap → Option (Channel × Channel)
 channels_of_link link (a_valid ∷ a_ready ∷ a_opcode ∷ a_param ∷ a_size ∷ a_source ∷ a_address ∷ a_mask ∷ a_data
-    ∷ d_valid ∷ d_ready ∷ d_opcode ∷ d_size ∷ d_source ∷ d_data ∷ d_denied ∷ d_corrupt ∷ []) = Some (
+    ∷ a_corrupt ∷ d_valid ∷ d_ready ∷ d_opcode ∷ d_param ∷ d_size ∷ d_source ∷ d_data ∷ d_denied ∷ d_corrupt ∷ []) = Some (
       record {
         link = link;
         valid = a_valid;
@@ -172,6 +177,7 @@ channels_of_link link (a_valid ∷ a_ready ∷ a_opcode ∷ a_param ∷ a_size �
           address = a_address;
           mask = a_mask;
           «data» = a_data;
+          corrupt = a_corrupt;
         });
       },
       record {
@@ -180,6 +186,7 @@ channels_of_link link (a_valid ∷ a_ready ∷ a_opcode ∷ a_param ∷ a_size �
         ready = d_ready;
         beat = D (record {
           opcode = d_opcode;
+          param = d_param;
           size = d_size;
           source = d_source;
           «data» = d_data;

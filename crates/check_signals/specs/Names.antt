@@ -16,6 +16,7 @@ use Rattle.check_signals.specs.declared.fault.SignalKey.{SignalKey}
 use Rattle.check_signals.specs.declared.fault.SignalKey.TheVariants.{Port, Master, Clock, Reset, ResetActive, Signals, Wires}
 use Rattle.check_signals.specs.declared.fault.KeyFault.{KeyFault}
 use Rattle.check_signals.specs.declared.fault.KeyFault.TheVariants.{NotToml, Missing, WrongType, OutOfRange, NoSignals, Memory}
+use Rattle.check_signals.specs.declared.keys.SignalName as code_name
 use Rattle.check_signals.specs.declared.keys.SignalNames as code_names
 use Rattle.check_signals.specs.declared.keys.TheConstants.{SIGNALS}
 
@@ -43,44 +44,56 @@ is_low_in members = optional_text ResetActive members >>= is_low_by
 abbrev pub wires_in : Members → Result (Option Members) KeyFault
 wires_in members = if_any (λ value. ok_or (as_table value) (WrongType Wires)) (get_member (signal_key_name Wires) members)
 
--- the name of a signal: that of its wire, or else the prefix with the specification's name
-abbrev pub name_by : List ℕ → Signal → Option Data → Result (List ℕ) KeyFault
-name_by prefix which None = Ok (prefix ++ signal_name which)
-name_by prefix which (Some value) = signal_text_of Wires value
+-- the name of a signal, and whether it is that of the prefix
+pub record SignalName : Type 0 where
+  pub text : List ℕ
+  pub is_prefixed : Bool
+
+-- that of its wire
+abbrev pub wired : Data → Result SignalName KeyFault
+wired value = signal_text_of Wires value >>= (λ text. Ok (record { text = text; is_prefixed = false }))
+
+-- or else the prefix with the specification's name
+abbrev pub prefixed : List ℕ → Signal → SignalName
+prefixed prefix which = record { text = prefix ++ signal_name which; is_prefixed = true }
+
+abbrev pub name_by : List ℕ → Signal → Option Data → Result SignalName KeyFault
+name_by prefix which None = Ok (prefixed prefix which)
+name_by prefix which (Some value) = wired value
 
 abbrev pub wire_in : Option Members → Signal → Option Data
 wire_in None which = None
 wire_in (Some wires) which = get_member (signal_name which) wires
 
-abbrev pub name_in : List ℕ → Option Members → Signal → Result (List ℕ) KeyFault
+abbrev pub name_in : List ℕ → Option Members → Signal → Result SignalName KeyFault
 name_in prefix wires which = name_by prefix which (wire_in wires which)
 
-abbrev pub names_in : List ℕ → Option Members → Result (List (List ℕ)) KeyFault
+abbrev pub names_in : List ℕ → Option Members → Result (List SignalName) KeyFault
 names_in prefix wires = each (name_in prefix wires) SIGNALS
 
-abbrev pub some_names_in : List ℕ → Option Members → Result (Option (List (List ℕ))) KeyFault
+abbrev pub some_names_in : List ℕ → Option Members → Result (Option (List SignalName)) KeyFault
 some_names_in prefix wires = names_in prefix wires >>= (λ names. Ok (Some names))
 
-abbrev pub link_by : Option (List ℕ) → Option Members → Result (Option (List (List ℕ))) KeyFault
+abbrev pub link_by : Option (List ℕ) → Option Members → Result (Option (List SignalName)) KeyFault
 link_by None None = Ok None
 link_by None (Some wires) = some_names_in [] (Some wires)
 link_by (Some prefix) wires = some_names_in prefix wires
 
-unfoldable pub link_in : Members → Result (Option (List (List ℕ))) KeyFault
+unfoldable pub link_in : Members → Result (Option (List SignalName)) KeyFault
 link_in members = do
   prefix ← optional_text Signals members
   wires ← wires_in members
   link_by prefix wires
 
-unfoldable pub link_of : SignalKey → Data → Result (Option (List (List ℕ))) KeyFault
+unfoldable pub link_of : SignalKey → Data → Result (Option (List SignalName)) KeyFault
 link_of key value = ok_or (as_table value) (WrongType key) >>= link_in
 
 -- the links of a kind, of which there may be none
-abbrev pub links_by : SignalKey → Option Data → Result (List (Option (List (List ℕ)))) KeyFault
+abbrev pub links_by : SignalKey → Option Data → Result (List (Option (List SignalName))) KeyFault
 links_by key None = Ok []
 links_by key (Some value) = ok_or (as_array value) (WrongType key) >>= (λ items. each (link_of key) (list_of items))
 
-unfoldable pub links_in : SignalKey → Members → Result (List (Option (List (List ℕ)))) KeyFault
+unfoldable pub links_in : SignalKey → Members → Result (List (Option (List SignalName))) KeyFault
 links_in key members = links_by key (get_member (signal_key_name key) members)
 
 -- ---- a file
@@ -90,11 +103,11 @@ pub record SignalNames : Type 0 where
   pub clock : List ℕ
   pub reset : Option (List ℕ)
   pub is_low : Bool
-  pub ports : List (Option (List (List ℕ)))
-  pub masters : List (Option (List (List ℕ)))
+  pub ports : List (Option (List SignalName))
+  pub masters : List (Option (List SignalName))
 
 -- some link of a kind has signals
-abbrev pub have_signals : List (Option (List (List ℕ))) → Bool
+abbrev pub have_signals : List (Option (List SignalName)) → Bool
 have_signals links = list_any (λ link. is_some link) links
 
 -- the name of the clock, which is asked for if some link has signals
@@ -123,8 +136,11 @@ names_of_file bytes =
 abbrev pub GivesNames : {X Y : Type 0} → (X → Y) → Result X KeyFault → Result Y KeyFault → Type 0
 GivesNames view result read = MatchResult result (λ x. read ≡ Ok (view x)) (λ e. e ≢ Memory → read ≡ Err e)
 
-abbrev pub link_view : Option (Vec (Vec ℕ Global) Global) → Option (List (List ℕ))
-link_view link = option_map (λ names. map (λ name. name.items) names.items) link
+abbrev pub name_view : code_name.SignalName → SignalName
+name_view name = record { text = name.text.items; is_prefixed = name.is_prefixed }
+
+abbrev pub link_view : Option (Vec code_name.SignalName Global) → Option (List SignalName)
+link_view link = option_map (λ names. map name_view names.items) link
 
 abbrev pub names_view : code_names.SignalNames → SignalNames
 names_view names = record {

@@ -6,7 +6,7 @@ use Rattle.check_vcd.specs.Codes.{coded_in}
 use Rattle.check_vcd.specs.Header.{Var}
 use Rattle.check_vcd.specs.declared.codes.Coded.{Coded}
 use Rattle.check_keys.specs.Nearest.{nearest}
-use Rattle.check_signals.specs.Wanted.{bits_fit, count_of, may_be_absent}
+use Rattle.check_signals.specs.Wanted.{bits_fit, count_of, may_be_absent, may_be_unfound}
 use Rattle.check_signals.specs.Wires.{Wire, first_of, wires_called}
 use Rattle.check_signals.specs.declared.signal_fault.SignalOwner.{SignalOwner}
 use Rattle.check_signals.specs.declared.signal_fault.SignalFault.{SignalFault}
@@ -18,10 +18,12 @@ use Rattle.check_signals.specs.declared.source.Source as code_source
 use Rattle.check_signals.specs.declared.source.TheConstants.{MAX_WIDTH}
 use Rattle.check_signals.specs.declared.wanted.Wanted.{Wanted}
 
--- a signal that is looked for: whose it is, its name, and how many bits it has to have
+-- a signal that is looked for: whose it is, its name, whether that is the specification's behind a prefix, and how many bits
+-- it has to have
 pub record WantedSignal : Type 0 where
   pub owner : SignalOwner
   pub name : List ℕ
+  pub is_prefixed : Bool
   pub wanted : Wanted
 
 -- why it is not found: no signal has the name, and this is the nearest one; two have it, and identifiers of their own; or it
@@ -95,9 +97,16 @@ measured vars asked wire =
     if bits_fit asked.wanted bits then within vars asked wire (width_of vars wire.var.code)
     else Err (too_wide asked bits (count_of asked.wanted))
 
+-- no signal has the name: one that a prefix need not find is left out
+abbrev pub may_lack : WantedSignal → Bool
+may_lack asked = asked.is_prefixed && may_be_unfound asked.wanted
+
+abbrev pub unfound : List Var → WantedSignal → Result Source SearchFault
+unfound vars asked = if may_lack asked then Ok left_out else Err (missing vars asked)
+
 -- the first of the wires that a name means: all of them have its identifier
 abbrev pub alone : List Var → WantedSignal → List Wire → Option Wire → Result Source SearchFault
-alone vars asked wires None = Err (missing vars asked)
+alone vars asked wires None = unfound vars asked
 alone vars asked wires (Some wire) =
     if list_any (λ other. not (bytes_eq other.var.code wire.var.code)) wires then Err (Twice asked.owner asked.name)
     else measured vars asked wire
@@ -118,7 +127,8 @@ source_in vars asked = if is_left_out asked then Ok left_out else source_by vars
 -- ---- what calls answer
 
 abbrev pub asked_view : code_asked.WantedSignal → WantedSignal
-asked_view asked = record { owner = asked.owner; name = asked.name.now; wanted = asked.wanted }
+asked_view asked =
+    record { owner = asked.owner; name = asked.name.now; is_prefixed = asked.is_prefixed; wanted = asked.wanted }
 
 abbrev pub kept_view : code_kept.Kept → Kept
 kept_view (kept.Signal code width) = Changing code.now width

@@ -5,7 +5,7 @@ ghost use Rattle.toml.specs.View.{table_view, view};
 ghost use Rattle.tl_text.specs.Reading.{each};
 ghost use Rattle.check_samples.specs.Signal.{signal_name as name_of_signal};
 ghost use Rattle.check_signals.specs.Key.{signal_key_name};
-ghost use Rattle.check_signals.specs.Names.{GivesNames, all_names as all_names_of, clock_by, have_signals, is_low_in, link_by, link_in, link_of, link_view, links_in, name_in, names_in, names_of_file, names_view, optional_text, some_names_in, signal_text_of as text_in, wire_in, wires_in};
+ghost use Rattle.check_signals.specs.Names.{GivesNames, all_names as all_names_of, clock_by, have_signals, is_low_in, link_by, link_in, link_of, link_view, links_in, name_in, name_view, names_in, names_of_file, names_view, optional_text, prefixed as prefixed_in, signal_text_of as text_in, some_names_in, wire_in, wired as wired_in, wires_in};
 
 use crate::fault::{KeyFault, SignalKey};
 use check_samples::Signal;
@@ -13,7 +13,7 @@ use std::alloc::Global;
 use toml::{Table, Value};
 
 /// The signals of a link, in the order in which they are looked for.
-pub const SIGNALS: [Signal; 17] = [
+pub const SIGNALS: [Signal; 19] = [
     Signal::AValid,
     Signal::AReady,
     Signal::AOpcode,
@@ -23,9 +23,11 @@ pub const SIGNALS: [Signal; 17] = [
     Signal::AAddress,
     Signal::AMask,
     Signal::AData,
+    Signal::ACorrupt,
     Signal::DValid,
     Signal::DReady,
     Signal::DOpcode,
+    Signal::DParam,
     Signal::DSize,
     Signal::DSource,
     Signal::DData,
@@ -33,8 +35,15 @@ pub const SIGNALS: [Signal; 17] = [
     Signal::DCorrupt,
 ];
 
+/// The name of a signal, and whether it is that of the prefix: else it is that of a wire.
+#[derive(Debug, Drop)]
+pub struct SignalName {
+    pub text: Vec<u8>,
+    pub is_prefixed: bool,
+}
+
 /// The names of the signals of a link, in that order.
-pub type LinkNames = Vec<Vec<u8>>;
+pub type LinkNames = Vec<SignalName>;
 
 /// The names that a system file gives: of the clock and the reset, and of each link's signals if it has any.
 #[derive(Debug, Drop)]
@@ -126,19 +135,40 @@ fn wire_of(wires: Option<&Table>, signal: Signal) -> Option<&Value>
     }
 }
 
+/// The name that a wire is.
+fn wired(alloc: Global, value: &Value) -> Result<SignalName, KeyFault>
+    ensures { GivesNames name_view result (wired_in (view value.now)) }
+{
+    let text = text_of(value, SignalKey::Wires)?;
+    Ok(SignalName {
+        text: Vec::from_slice(alloc, text)?,
+        is_prefixed: false,
+    })
+}
+
+/// The prefix with the specification's name.
+fn prefixed(alloc: Global, prefix: &[u8], signal: Signal) -> Result<SignalName, KeyFault>
+    ensures { GivesNames name_view result (Ok (prefixed_in prefix.now signal)) }
+{
+    Ok(SignalName {
+        text: joined(alloc, prefix, signal.name().as_bytes())?,
+        is_prefixed: true,
+    })
+}
+
 /// The name of a signal: that of its wire, or else the prefix with the specification's name.
 fn name_of(
     alloc: Global,
     prefix: &[u8],
     wires: Option<&Table>,
     signal: Signal,
-) -> Result<Vec<u8>, KeyFault>
-    ensures { GivesNames (λ text. text.items) result
+) -> Result<SignalName, KeyFault>
+    ensures { GivesNames name_view result
         (name_in prefix.now (option_map (λ wires. table_view wires.now) wires.entry) signal) }
 {
     match wire_of(wires, signal) {
-        Some(value) => Ok(Vec::from_slice(alloc, text_of(value, SignalKey::Wires)?)?),
-        None => joined(alloc, prefix, signal.name().as_bytes()),
+        Some(value) => wired(alloc, value),
+        None => prefixed(alloc, prefix, signal),
     }
 }
 
@@ -149,7 +179,7 @@ fn names_of(
     wires: Option<&Table>,
     signals: &[Signal],
 ) -> Result<LinkNames, KeyFault>
-    ensures { GivesNames (λ names. map (λ name. name.items) names.items) result
+    ensures { GivesNames (λ names. map name_view names.items) result
         (each (name_in prefix.now (option_map (λ wires. table_view wires.now) wires.entry)) signals.now) }
 {
     let mut names = Vec::with_capacity(alloc, signals.len())?;
@@ -161,7 +191,7 @@ fn names_of(
 
 /// The names of all signals of a link.
 fn all_names(alloc: Global, prefix: &[u8], wires: Option<&Table>) -> Result<LinkNames, KeyFault>
-    ensures { GivesNames (λ names. map (λ name. name.items) names.items) result
+    ensures { GivesNames (λ names. map name_view names.items) result
         (names_in prefix.now (option_map (λ wires. table_view wires.now) wires.entry)) }
 {
     names_of(alloc, prefix, wires, SIGNALS.as_slice())

@@ -19,7 +19,7 @@ mod wanted;
 mod wires;
 
 pub use fault::{KeyFault, SignalKey};
-pub use keys::{LinkNames, SIGNALS, SignalNames, read_names};
+pub use keys::{LinkNames, SIGNALS, SignalName, SignalNames, read_names};
 pub use resolve::{Resolved, find_signals};
 pub use signal_fault::{SignalFault, SignalOwner};
 pub use wanted::{Wanted, wanted_of};

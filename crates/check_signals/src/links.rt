@@ -4,11 +4,11 @@ ghost use Rattle.tl_text.specs.Reading.{each};
 ghost use Rattle.check_beats.specs.Bus.{bus_bytes};
 ghost use Rattle.check_vcd.specs.Header.{var_view};
 ghost use Rattle.check_signals.specs.Found.{signals_asked, in_order, link_at, link_sources_view, links_from, links_view, names_at, owner_of, channels_of_link, channel_pairs, sources_of};
-ghost use Rattle.check_signals.specs.Names.{link_view};
+ghost use Rattle.check_signals.specs.Names.{link_view, name_view};
 ghost use Rattle.check_signals.specs.Source.{Finds, kept_view, source_in, source_view};
 
 use crate::kept::taps_of;
-use crate::keys::{LinkNames, SIGNALS};
+use crate::keys::{LinkNames, SIGNALS, SignalName};
 use crate::signal_fault::{SignalFault, SignalOwner};
 use crate::source::{Kept, Source, WantedSignal, source_in};
 use crate::wanted::wanted_of;
@@ -56,10 +56,10 @@ fn sources_for<'a>(
     owner: SignalOwner,
     bus: Bus,
     signals: &[Signal],
-    names: &[Vec<u8>],
+    names: &[SignalName],
 ) -> Result<Vec<Source<'a>>, SignalFault>
     ensures { Finds (λ sources. map source_view sources.items) result (each (source_in (map var_view vars.now))
-        (signals_asked owner (bus_bytes bus) signals.now (map (λ name. name.items) names.now))) }
+        (signals_asked owner (bus_bytes bus) signals.now (map name_view names.now))) }
 {
     let mut sources = Vec::with_capacity(alloc, signals.len())?;
     let mut rest = names;
@@ -69,7 +69,8 @@ fn sources_for<'a>(
         };
         let asked = WantedSignal {
             owner,
-            name,
+            name: &name.text,
+            is_prefixed: name.is_prefixed,
             wanted: wanted_of(*signal, bus),
         };
         sources.push(source_in(alloc, vars, asked)?)?;
@@ -84,17 +85,17 @@ fn sources_of<'a>(
     vars: &'a [Var],
     owner: SignalOwner,
     bus: Bus,
-    names: &[Vec<u8>],
+    names: &[SignalName],
 ) -> Result<Vec<Source<'a>>, SignalFault>
     ensures { Finds (λ sources. map source_view sources.items) result
-        (sources_of (map var_view vars.now) owner (bus_bytes bus) (map (λ name. name.items) names.now)) }
+        (sources_of (map var_view vars.now) owner (bus_bytes bus) (map name_view names.now)) }
 {
     sources_for(alloc, vars, owner, bus, SIGNALS.as_slice(), names)
 }
 
 /// The names of the signals of the link of this number, if it has any.
 fn names_at(links: &[Option<LinkNames>], number: usize) -> Option<&LinkNames>
-    ensures { option_map (λ names. map (λ name. name.items) names.now.items) result
+    ensures { option_map (λ names. map name_view names.now.items) result
         ≡ names_at (map link_view links.now) number }
 {
     links.get(number)?.as_ref()
@@ -137,9 +138,11 @@ fn channels_of_link(link: Link, taps: &[Tap]) -> Option<Pair>
         a_address,
         a_mask,
         a_data,
+        a_corrupt,
         d_valid,
         d_ready,
         d_opcode,
+        d_param,
         d_size,
         d_source,
         d_data,
@@ -161,6 +164,7 @@ fn channels_of_link(link: Link, taps: &[Tap]) -> Option<Pair>
             address: *a_address,
             mask: *a_mask,
             data: *a_data,
+            corrupt: *a_corrupt,
         }),
     };
     let reply = Channel {
@@ -169,6 +173,7 @@ fn channels_of_link(link: Link, taps: &[Tap]) -> Option<Pair>
         ready: *d_ready,
         beat: BeatTaps::D(ReplyTaps {
             opcode: *d_opcode,
+            param: *d_param,
             size: *d_size,
             source: *d_source,
             data: *d_data,

@@ -36,6 +36,7 @@ fn system_source<'a>(alloc: Global, vars: &'a [Var], name: &[u8]) -> Result<Sour
     let asked = WantedSignal {
         owner: SignalOwner::System,
         name,
+        is_prefixed: false,
         wanted: Wanted::AtMost(1),
     };
     source_in(alloc, vars, asked)

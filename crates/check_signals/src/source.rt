@@ -1,7 +1,7 @@
 //! What a name of a system file finds among the signals that a dump declares.
 ghost use Rattle.std.specs.Prelude.{◌≡◌, ◌≢◌, ◌≤◌, IfOk, map, option_map};
 ghost use Rattle.check_vcd.specs.Header.{var_view};
-ghost use Rattle.check_signals.specs.Source.{Finds, asked_view, constant_of, digit_in, fault_view, is_left_out, left_out, measured, missing as missing_in, signal_in, source_in, source_view, too_wide, width_of, within};
+ghost use Rattle.check_signals.specs.Source.{Finds, asked_view, constant_of, digit_in, fault_view, is_left_out, left_out, may_lack, measured, missing as missing_in, signal_in, source_in, source_view, too_wide, unfound, width_of, within};
 ghost use Rattle.check_signals.specs.Source.{Twice as TwiceIn};
 ghost use Rattle.check_signals.specs.Wires.{IsInside, wire_view};
 ghost use Rattle.check_signals.specs.declared.signal_fault.SignalFault.TheVariants.{Memory};
@@ -16,11 +16,13 @@ use std::alloc::{AllocError, Global};
 /// The most bits of a signal whose values are kept.
 pub const MAX_WIDTH: u64 = MAX_WORD as u64 - 1;
 
-/// A signal that is looked for: whose it is, its name, and how many bits it has to have.
+/// A signal that is looked for: whose it is, its name, whether that is the specification's behind a prefix, and how many
+/// bits it has to have.
 #[derive(Debug, Clone, Copy)]
 pub(crate) struct WantedSignal<'a> {
     pub(crate) owner: SignalOwner,
     pub(crate) name: &'a [u8],
+    pub(crate) is_prefixed: bool,
     pub(crate) wanted: Wanted,
 }
 
@@ -197,6 +199,27 @@ fn measured<'a>(
     within(alloc, vars, asked, wire, width)
 }
 
+/// Whether a signal is left out if none has its name.
+fn may_lack(asked: WantedSignal<'_>) -> bool
+    ensures { result ≡ may_lack (asked_view asked.entry) }
+{
+    asked.is_prefixed && asked.wanted.may_be_unfound()
+}
+
+/// What a name finds that no signal has.
+fn unfound<'a>(
+    alloc: Global,
+    vars: &'a [Var],
+    asked: WantedSignal<'_>,
+) -> Result<Source<'a>, SignalFault>
+    ensures { Finds source_view result (unfound (map var_view vars.now) (asked_view asked.entry)) }
+{
+    if may_lack(asked) {
+        return Ok(left_out());
+    }
+    Err(missing(alloc, vars, asked))
+}
+
 /// The first of the wires that a name means: all of them have its identifier.
 fn signal_in<'a>(
     alloc: Global,
@@ -207,7 +230,7 @@ fn signal_in<'a>(
 {
     let (name, part) = sought(vars, asked.name);
     let Some(wire) = first_wire(vars, name, part) else {
-        return Err(missing(alloc, vars, asked));
+        return unfound(alloc, vars, asked);
     };
     if has_another(vars, name, part, wire.var.code.as_slice()) {
         return Err(twice(alloc, asked));

@@ -1,7 +1,7 @@
 //! How many bits the signals of a link have.
 ghost use Rattle.std.specs.Prelude.{◌≡◌};
 ghost use Rattle.check_beats.specs.Bus.{bus_bytes};
-ghost use Rattle.check_signals.specs.Wanted.{bits_fit, count_of, may_be_absent, wanted_of};
+ghost use Rattle.check_signals.specs.Wanted.{bits_fit, count_of, may_be_absent, may_be_unfound, wanted_of};
 
 use check_beats::Bus;
 use check_samples::Signal;
@@ -11,8 +11,10 @@ use check_samples::Signal;
 pub enum Wanted {
     Exactly(u64),
     AtMost(u64),
-    /// The same of a signal that a design may leave out.
+    /// The same of a signal that a design may leave out, as a wire says.
     Optional(u64),
+    /// The same of a signal that most designs leave out, so that a prefix need not find it.
+    Extra(u64),
 }
 
 impl Wanted {
@@ -22,7 +24,7 @@ impl Wanted {
     {
         match self {
             Wanted::Exactly(count) => bits == count,
-            Wanted::AtMost(count) | Wanted::Optional(count) => bits <= count,
+            Wanted::AtMost(count) | Wanted::Optional(count) | Wanted::Extra(count) => bits <= count,
         }
     }
 
@@ -30,7 +32,14 @@ impl Wanted {
     pub fn may_be_absent(self) -> bool
         ensures { result ≡ may_be_absent self }
     {
-        matches!(self, Wanted::Optional(_))
+        matches!(self, Wanted::Optional(_) | Wanted::Extra(_))
+    }
+
+    /// Whether it is left out if a prefix does not find it.
+    pub fn may_be_unfound(self) -> bool
+        ensures { result ≡ may_be_unfound self }
+    {
+        matches!(self, Wanted::Extra(_))
     }
 
     /// The count of bits that it speaks of.
@@ -38,7 +47,10 @@ impl Wanted {
         ensures { result ≡ count_of self }
     {
         match self {
-            Wanted::Exactly(count) | Wanted::AtMost(count) | Wanted::Optional(count) => count,
+            Wanted::Exactly(count)
+            | Wanted::AtMost(count)
+            | Wanted::Optional(count)
+            | Wanted::Extra(count) => count,
         }
     }
 }
@@ -57,6 +69,8 @@ pub fn wanted_of(signal: Signal, bus: Bus) -> Wanted
         Signal::AAddress => Wanted::AtMost(64),
         Signal::AValid | Signal::AReady | Signal::DValid | Signal::DReady | Signal::DDenied =>
             Wanted::AtMost(1),
+        Signal::ACorrupt => Wanted::Extra(1),
+        Signal::DParam => Wanted::Extra(8),
         Signal::DCorrupt => Wanted::Optional(1),
     }
 }

@@ -10,7 +10,7 @@ use Rattle.check_watch.specs.declared.beat.Link.{Link}
 use Rattle.check_rows.proofs.FrontLemmas.{flag-given, no-flag}
 use Rattle.check_rows.specs.Buses.{IsLinkOf, bus_of_link}
 use Rattle.check_rows.specs.Columns.{flag_of, flag_or}
-use Rattle.check_rows.specs.Number.{decimal_of}
+use Rattle.check_rows.specs.Number.{decimal_of, decimal_or_zero}
 use Rattle.check_rows.specs.Row.{ask_of_words, asks_for_mark, reply_of_words, row_of}
 use Rattle.check_rows.specs.declared.columns.RowChannel.TheVariants as channel
 use Rattle.check_samples.specs.Digits.{bits_of}
@@ -33,7 +33,7 @@ use Rattle.check_wave_laws.specs.Seen.{row_on_line as row_shown}
 use Rattle.check_wave_laws.proofs.Buses.{IsBus, bus-of}
 use Rattle.check_wave_laws.proofs.Columns.{ask-line, ask-spelled, ask_words, channel-a, channel-d, link-read, reply-line, reply-spelled, reply_words, row-spelled, word-link}
 use Rattle.check_wave_laws.proofs.Lanes.{lanes-read, mask-read}
-use Rattle.check_wave_laws.proofs.Numbers.{HasNumber, address-read, decimal-read, flag-read, has-number, number-below}
+use Rattle.check_wave_laws.proofs.Numbers.{HasNumber, address-read, decimal-read, flag-read, given-read, has-number, number-below, zero-read}
 use Rattle.check_wave_laws.proofs.Words.{AreWords, IsWord, joined, parts-joined, plain-joined, word-bits, word-decimal, word-hex}
 
 -- ---- the numbers of a beat
@@ -44,14 +44,6 @@ known-number which bits n is = has-number MAX_BITS bits n (go (number_of 2 MAX_B
     go : (number : Option ℕ) → ok_or number which ≡ Ok n → number ≡ Some n
     go None e = absurd (cc)
     go (Some m) e = cc
-
-record AskNumbers (values : List (List ℕ)) (taps : AskTaps) (cells : AskCells) : Type 0 where
-  opcode : HasNumber (bits_of values taps.opcode) cells.opcode
-  param : HasNumber (bits_of values taps.param) cells.param
-  size : HasNumber (bits_of values taps.size) cells.size
-  source : HasNumber (bits_of values taps.source) cells.source
-  address : HasNumber (bits_of values taps.address) cells.address
-  mask : HasNumber (bits_of values taps.mask) (number_in values taps.mask)
 
 -- the bits spell the number, if there is one, or there are none
 abbrev HasMark : List ℕ → Option ℕ → Type 0
@@ -78,56 +70,72 @@ known-mark which (bit ∷ bits) mark is = some (length (bit ∷ bits) == 0) refl
     some true x mark y = absurd (grind (arith, nat_tests))
     some false x mark y = go (known_number which (bit ∷ bits)) refl mark y
 
+record AskNumbers (values : List (List ℕ)) (taps : AskTaps) (cells : AskCells) : Type 0 where
+  opcode : HasNumber (bits_of values taps.opcode) cells.opcode
+  param : HasNumber (bits_of values taps.param) cells.param
+  size : HasNumber (bits_of values taps.size) cells.size
+  source : HasNumber (bits_of values taps.source) cells.source
+  address : HasNumber (bits_of values taps.address) cells.address
+  mask : HasNumber (bits_of values taps.mask) (number_in values taps.mask)
+  corrupt : HasMark (bits_of values taps.corrupt) cells.corrupt
+
 record ReplyNumbers (values : List (List ℕ)) (taps : ReplyTaps) (cells : ReplyCells) : Type 0 where
   opcode : HasNumber (bits_of values taps.opcode) cells.opcode
+  param : HasMark (bits_of values taps.param) cells.param
   size : HasNumber (bits_of values taps.size) cells.size
   source : HasNumber (bits_of values taps.source) cells.source
   denied : HasNumber (bits_of values taps.denied) cells.denied
   corrupt : HasMark (bits_of values taps.corrupt) cells.corrupt
 
-abbrev ask-made : ℕ → ℕ → ℕ → ℕ → ℕ → AskCells
-ask-made o p z s a = record { opcode = o; param = p; size = z; source = s; address = a }
+abbrev ask-made : ℕ → ℕ → ℕ → ℕ → ℕ → Option ℕ → AskCells
+ask-made o p z s a c = record { opcode = o; param = p; size = z; source = s; address = a; corrupt = c }
 
-abbrev reply-made : ℕ → ℕ → ℕ → ℕ → Option ℕ → ReplyCells
-reply-made o z s n c = record { opcode = o; size = z; source = s; denied = n; corrupt = c }
+abbrev reply-made : ℕ → Option ℕ → ℕ → ℕ → ℕ → Option ℕ → ReplyCells
+reply-made o p z s n c = record { opcode = o; param = p; size = z; source = s; denied = n; corrupt = c }
 
-ask-parts : (o p z s a m : Result ℕ Signal) (cells : AskCells)
-    → (o >>= (λ o. p >>= (λ p. z >>= (λ z. s >>= (λ s. a >>= (λ a. m >>= (λ _. Ok (ask-made o p z s a)))))))) ≡ Ok cells
+ask-parts : (o p z s a m : Result ℕ Signal) (c : Result (Option ℕ) Signal) (cells : AskCells)
+    → (o >>= (λ o. p >>= (λ p. z >>= (λ z. s >>= (λ s. a >>= (λ a. m >>= (λ _. c >>= (λ c. Ok (ask-made o p z s a c)))))))))
+    ≡ Ok cells
     → (o ≡ Ok cells.opcode) × (p ≡ Ok cells.param) × (z ≡ Ok cells.size) × (s ≡ Ok cells.source)
-    × (a ≡ Ok cells.address) × ((n : ℕ) × (m ≡ Ok n))
-ask-parts (Ok o) (Ok p) (Ok z) (Ok s) (Ok a) (Ok m) cells is =
-    let same : ask-made o p z s a ≡ cells = cc in (
+    × (a ≡ Ok cells.address) × (c ≡ Ok cells.corrupt) × ((n : ℕ) × (m ≡ Ok n))
+ask-parts (Ok o) (Ok p) (Ok z) (Ok s) (Ok a) (Ok m) (Ok c) cells is =
+    let same : ask-made o p z s a c ≡ cells = cc in (
       ap (λ (c : AskCells). Ok c.opcode) same,
       ap (λ (c : AskCells). Ok c.param) same,
       ap (λ (c : AskCells). Ok c.size) same,
       ap (λ (c : AskCells). Ok c.source) same,
       ap (λ (c : AskCells). Ok c.address) same,
+      ap (λ (c : AskCells). Ok c.corrupt) same,
       (m, refl),
     )
-ask-parts (Err e) p z s a m cells is = absurd (cc)
-ask-parts (Ok o) (Err e) z s a m cells is = absurd (cc)
-ask-parts (Ok o) (Ok p) (Err e) s a m cells is = absurd (cc)
-ask-parts (Ok o) (Ok p) (Ok z) (Err e) a m cells is = absurd (cc)
-ask-parts (Ok o) (Ok p) (Ok z) (Ok s) (Err e) m cells is = absurd (cc)
-ask-parts (Ok o) (Ok p) (Ok z) (Ok s) (Ok a) (Err e) cells is = absurd (cc)
+ask-parts (Err e) p z s a m c cells is = absurd (cc)
+ask-parts (Ok o) (Err e) z s a m c cells is = absurd (cc)
+ask-parts (Ok o) (Ok p) (Err e) s a m c cells is = absurd (cc)
+ask-parts (Ok o) (Ok p) (Ok z) (Err e) a m c cells is = absurd (cc)
+ask-parts (Ok o) (Ok p) (Ok z) (Ok s) (Err e) m c cells is = absurd (cc)
+ask-parts (Ok o) (Ok p) (Ok z) (Ok s) (Ok a) (Err e) c cells is = absurd (cc)
+ask-parts (Ok o) (Ok p) (Ok z) (Ok s) (Ok a) (Ok m) (Err e) cells is = absurd (cc)
 
-reply-parts : (o z s n : Result ℕ Signal) (c : Result (Option ℕ) Signal) (cells : ReplyCells)
-    → (o >>= (λ o. z >>= (λ z. s >>= (λ s. n >>= (λ n. c >>= (λ c. Ok (reply-made o z s n c))))))) ≡ Ok cells
-    → (o ≡ Ok cells.opcode) × (z ≡ Ok cells.size) × (s ≡ Ok cells.source) × (n ≡ Ok cells.denied)
+reply-parts : (o : Result ℕ Signal) (p : Result (Option ℕ) Signal) (z s n : Result ℕ Signal) (c : Result (Option ℕ) Signal)
+    (cells : ReplyCells)
+    → (o >>= (λ o. p >>= (λ p. z >>= (λ z. s >>= (λ s. n >>= (λ n. c >>= (λ c. Ok (reply-made o p z s n c)))))))) ≡ Ok cells
+    → (o ≡ Ok cells.opcode) × (p ≡ Ok cells.param) × (z ≡ Ok cells.size) × (s ≡ Ok cells.source) × (n ≡ Ok cells.denied)
     × (c ≡ Ok cells.corrupt)
-reply-parts (Ok o) (Ok z) (Ok s) (Ok n) (Ok c) cells is =
-    let same : reply-made o z s n c ≡ cells = cc in (
+reply-parts (Ok o) (Ok p) (Ok z) (Ok s) (Ok n) (Ok c) cells is =
+    let same : reply-made o p z s n c ≡ cells = cc in (
       ap (λ (c : ReplyCells). Ok c.opcode) same,
+      ap (λ (c : ReplyCells). Ok c.param) same,
       ap (λ (c : ReplyCells). Ok c.size) same,
       ap (λ (c : ReplyCells). Ok c.source) same,
       ap (λ (c : ReplyCells). Ok c.denied) same,
       ap (λ (c : ReplyCells). Ok c.corrupt) same,
     )
-reply-parts (Err e) z s n c cells is = absurd (cc)
-reply-parts (Ok o) (Err e) s n c cells is = absurd (cc)
-reply-parts (Ok o) (Ok z) (Err e) n c cells is = absurd (cc)
-reply-parts (Ok o) (Ok z) (Ok s) (Err e) c cells is = absurd (cc)
-reply-parts (Ok o) (Ok z) (Ok s) (Ok n) (Err e) cells is = absurd (cc)
+reply-parts (Err e) p z s n c cells is = absurd (cc)
+reply-parts (Ok o) (Err e) z s n c cells is = absurd (cc)
+reply-parts (Ok o) (Ok p) (Err e) s n c cells is = absurd (cc)
+reply-parts (Ok o) (Ok p) (Ok z) (Err e) n c cells is = absurd (cc)
+reply-parts (Ok o) (Ok p) (Ok z) (Ok s) (Err e) c cells is = absurd (cc)
+reply-parts (Ok o) (Ok p) (Ok z) (Ok s) (Ok n) (Err e) cells is = absurd (cc)
 
 ask-numbers : (values : List (List ℕ)) (taps : AskTaps) (cells : AskCells) → cells_of_ask values taps ≡ Ok cells
     → AskNumbers values taps cells
@@ -135,8 +143,9 @@ ask-numbers values taps cells is =
     let parts = ask-parts (known_number signal.AOpcode (bits_of values taps.opcode))
     (known_number signal.AParam (bits_of values taps.param)) (known_number signal.ASize (bits_of values taps.size))
     (known_number signal.ASource (bits_of values taps.source)) (known_number signal.AAddress (bits_of values taps.address))
-    (known_number signal.AMask (bits_of values taps.mask)) cells is in
-    let mask = known-number signal.AMask (bits_of values taps.mask) parts.5.0 parts.5.1 in
+    (known_number signal.AMask (bits_of values taps.mask)) (number_if_any signal.ACorrupt (bits_of values taps.corrupt))
+    cells is in
+    let mask = known-number signal.AMask (bits_of values taps.mask) parts.6.0 parts.6.1 in
     record {
       opcode = known-number signal.AOpcode (bits_of values taps.opcode) cells.opcode parts.0;
       param = known-number signal.AParam (bits_of values taps.param) cells.param parts.1;
@@ -144,20 +153,23 @@ ask-numbers values taps cells is =
       source = known-number signal.ASource (bits_of values taps.source) cells.source parts.3;
       address = known-number signal.AAddress (bits_of values taps.address) cells.address parts.4;
       mask = subst (λ (n : ℕ). HasNumber (bits_of values taps.mask) n) mask.value mask;
+      corrupt = known-mark signal.ACorrupt (bits_of values taps.corrupt) cells.corrupt parts.5;
     }
 
 reply-numbers : (values : List (List ℕ)) (taps : ReplyTaps) (cells : ReplyCells) → cells_of_reply values taps ≡ Ok cells
     → ReplyNumbers values taps cells
 reply-numbers values taps cells is =
     let parts = reply-parts (known_number signal.DOpcode (bits_of values taps.opcode))
-    (known_number signal.DSize (bits_of values taps.size)) (known_number signal.DSource (bits_of values taps.source))
-    (known_number signal.DDenied (bits_of values taps.denied)) (number_if_any signal.DCorrupt (bits_of values taps.corrupt)) cells is in
+    (number_if_any signal.DParam (bits_of values taps.param)) (known_number signal.DSize (bits_of values taps.size))
+    (known_number signal.DSource (bits_of values taps.source)) (known_number signal.DDenied (bits_of values taps.denied))
+    (number_if_any signal.DCorrupt (bits_of values taps.corrupt)) cells is in
     record {
       opcode = known-number signal.DOpcode (bits_of values taps.opcode) cells.opcode parts.0;
-      size = known-number signal.DSize (bits_of values taps.size) cells.size parts.1;
-      source = known-number signal.DSource (bits_of values taps.source) cells.source parts.2;
-      denied = known-number signal.DDenied (bits_of values taps.denied) cells.denied parts.3;
-      corrupt = known-mark signal.DCorrupt (bits_of values taps.corrupt) cells.corrupt parts.4;
+      param = known-mark signal.DParam (bits_of values taps.param) cells.param parts.1;
+      size = known-number signal.DSize (bits_of values taps.size) cells.size parts.2;
+      source = known-number signal.DSource (bits_of values taps.source) cells.source parts.3;
+      denied = known-number signal.DDenied (bits_of values taps.denied) cells.denied parts.4;
+      corrupt = known-mark signal.DCorrupt (bits_of values taps.corrupt) cells.corrupt parts.5;
     }
 
 -- ---- the columns of a beat
@@ -168,6 +180,15 @@ small-read : (bits : List ℕ) (n k most : ℕ) → HasNumber bits n → length 
 small-read bits n k most has fits is =
     let below : n < 2 ^ k = number-below bits n k has fits in
     decimal-read most n has.small (omega (arith, below, is)) ∙ ap (λ (m : ℕ). Ok m) has.value
+
+-- a number that may be absent is 0 then, as that of no bits
+optional-read : (bits : List ℕ) (mark : Option ℕ) (k most : ℕ) → HasMark bits mark → length bits ≤ k → 2 ^ k ≡ most + 1
+    → decimal_or_zero most (mark_text mark) ≡ Ok (digits_value 2 bits)
+optional-read [] None k most has fits is = zero-read most
+optional-read [] (Some n) k most has fits is = elim has [ ]
+optional-read (bit ∷ bits) None k most has fits is = elim has [ ]
+optional-read (bit ∷ bits) (Some n) k most has fits is =
+    given-read most (decimal n) (digits_value 2 (bit ∷ bits)) (small-read (bit ∷ bits) n k most has fits is)
 
 flag-of : (bits : List ℕ) (n : ℕ) → HasNumber bits n → length bits ≤ 1
     → flag_of (decimal n) ≡ Ok (digits_value 2 bits == 1)
@@ -195,9 +216,9 @@ ask-columns : (bus time : ℕ) (link : Link) (values : List (List ℕ)) (taps : 
 ask-columns bus time link values taps cells of has fits =
     ask-spelled bus (decimal time) (link_text link) (65 ∷ []) (decimal cells.opcode) (decimal cells.param)
     (decimal cells.size) (decimal cells.source) (digits 16 false cells.address) (hex_text (bits_of values taps.mask))
-    (hex_text (bits_of values taps.data)) (number_in values taps.opcode) (number_in values taps.param)
+    (hex_text (bits_of values taps.data)) (mark_text cells.corrupt) (number_in values taps.opcode) (number_in values taps.param)
     (number_in values taps.size) (number_in values taps.source) (number_in values taps.address)
-    (number_in values taps.mask) (lanes_in bus values taps.data)
+    (number_in values taps.mask) (number_in values taps.corrupt) (lanes_in bus values taps.data)
     (small-read (bits_of values taps.opcode) cells.opcode 8 255 has.opcode fits.opcode refl)
     (small-read (bits_of values taps.param) cells.param 8 255 has.param fits.param refl)
     (small-read (bits_of values taps.size) cells.size 8 255 has.size fits.size refl)
@@ -205,18 +226,20 @@ ask-columns bus time link values taps cells of has fits =
     (address-read cells.address has.address.small ∙ ap (λ (n : ℕ). Ok n) has.address.value)
     (mask-read of.width bus (number_in values taps.mask) (bits_of values taps.mask) of.is fits.mask has.mask)
     (lanes-read bus (bits_of values taps.data) of.some fits.data_bits)
+    (optional-read (bits_of values taps.corrupt) cells.corrupt 1 1 has.corrupt fits.corrupt refl)
 
 reply-columns : (bus time : ℕ) (link : Link) (values : List (List ℕ)) (taps : ReplyTaps) (cells : ReplyCells)
     → IsBus bus → ReplyNumbers values taps cells → ReplyFits bus values taps
     → reply_of_words bus (decimal time ∷ reply_words link cells (bits_of values taps.data)) ≡ Ok (reply_in bus values taps)
 reply-columns bus time link values taps cells of has fits =
-    reply-spelled bus (decimal time) (link_text link) (68 ∷ []) (decimal cells.opcode) (decimal cells.size)
-    (decimal cells.source) (hex_text (bits_of values taps.data)) (decimal cells.denied) (mark_text cells.corrupt)
-    (number_in values taps.opcode) (number_in values taps.size) (number_in values taps.source)
-    (number_in values taps.denied == 1)
+    reply-spelled bus (decimal time) (link_text link) (68 ∷ []) (decimal cells.opcode) (mark_text cells.param)
+    (decimal cells.size) (decimal cells.source) (hex_text (bits_of values taps.data)) (decimal cells.denied) (mark_text cells.corrupt)
+    (number_in values taps.opcode) (number_in values taps.param) (number_in values taps.size)
+    (number_in values taps.source) (number_in values taps.denied == 1)
     (flag_by (asks_for_mark (number_in values taps.opcode) (number_in values taps.denied == 1)) (bits_of values taps.corrupt))
     (lanes_in bus values taps.data)
     (small-read (bits_of values taps.opcode) cells.opcode 8 255 has.opcode fits.opcode refl)
+    (optional-read (bits_of values taps.param) cells.param 8 255 has.param fits.param refl)
     (small-read (bits_of values taps.size) cells.size 8 255 has.size fits.size refl)
     (small-read (bits_of values taps.source) cells.source 16 65535 has.source fits.source refl)
     (lanes-read bus (bits_of values taps.data) of.some fits.data_bits)
@@ -254,7 +277,7 @@ ask-words masters ports time link values taps cells at has = (
                 word-hex cells.address has.address.small,
                 (
                   word-bits (bits_of values taps.mask),
-                  (word-bits (bits_of values taps.data), (tt, (tt, tt))),
+                  (word-bits (bits_of values taps.data), (tt, (word-mark (bits_of values taps.corrupt) cells.corrupt has.corrupt, tt))),
                 ),
               ),
             ),
@@ -277,7 +300,7 @@ reply-words masters ports time link values taps cells at has = (
       (
         word-decimal cells.opcode has.opcode.small,
         (
-          tt,
+          word-mark (bits_of values taps.param) cells.param has.param,
           (
             word-decimal cells.size has.size.small,
             (
@@ -322,7 +345,7 @@ ask-row masters ports line time link values taps cells at has fits =
           ap (row_of masters ports line) (parts-joined (decimal time) words are)
           ∙ row-spelled masters ports line time link channel.A (ask_in bus values taps) (decimal time) (link_text link)
           (65 ∷ []) (decimal cells.opcode) (decimal cells.param) (decimal cells.size) (decimal cells.source)
-          (digits 16 false cells.address) (hex_text mask) (hex_text lanes) [] []
+          (digits 16 false cells.address) (hex_text mask) (hex_text lanes) [] (mark_text cells.corrupt)
           (decimal-read (2 ^ 64 - 1) time at.in_time (omega (arith, at.in_time)))
           (link-read masters ports link at.few_masters at.few_ports at.has_link) channel-a
           (ask-columns bus time link values taps cells (bus-of masters ports link at.has_link) has fits);
@@ -345,7 +368,7 @@ reply-row masters ports line time link values taps cells at has fits =
       reads =
           ap (row_of masters ports line) (parts-joined (decimal time) words are)
           ∙ row-spelled masters ports line time link channel.D (reply_in bus values taps) (decimal time)
-          (link_text link) (68 ∷ []) (decimal cells.opcode) [] (decimal cells.size) (decimal cells.source) [] []
+          (link_text link) (68 ∷ []) (decimal cells.opcode) (mark_text cells.param) (decimal cells.size) (decimal cells.source) [] []
           (hex_text lanes) (decimal cells.denied) (mark_text cells.corrupt)
           (decimal-read (2 ^ 64 - 1) time at.in_time (omega (arith, at.in_time)))
           (link-read masters ports link at.few_masters at.few_ports at.has_link) channel-d

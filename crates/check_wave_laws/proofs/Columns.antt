@@ -1,5 +1,5 @@
 -- The columns of a row, and the row that they spell.
-use Rattle.std.proofs.Common.{◌≡◌, ◌∙◌, ℕ, ◌-◌, ◌^◌, ◌<◌, Bool, false, List, [], ◌∷◌, ◌++◌, length, Result, Ok, arith, refl, sym, ap, append_assoc}
+use Rattle.std.proofs.Common.{◌≡◌, ◌∙◌, ℕ, ◌-◌, ◌^◌, ◌<◌, ◌==◌, Bool, false, List, [], ◌∷◌, ◌++◌, length, Result, Ok, arith, refl, sym, ap, append_assoc}
 use Rattle.std.specs.Fmt.{decimal, digits}
 use Rattle.csv.specs.Records.{field_at}
 use Rattle.check_beats.specs.declared.bus.Bus.{Bus}
@@ -28,18 +28,23 @@ use Rattle.check_wave_laws.proofs.Words.{IsWord, joined, word-decimal}
 abbrev pub ask_words : Link → AskCells → List ℕ → List ℕ → List (List ℕ)
 ask_words link cells mask lanes =
     link_text link ∷ (65 ∷ []) ∷ decimal cells.opcode ∷ decimal cells.param ∷ decimal cells.size ∷ decimal cells.source
-    ∷ digits 16 false cells.address ∷ hex_text mask ∷ hex_text lanes ∷ [] ∷ [] ∷ []
+    ∷ digits 16 false cells.address ∷ hex_text mask ∷ hex_text lanes ∷ [] ∷ mark_text cells.corrupt ∷ []
 
 abbrev pub reply_words : Link → ReplyCells → List ℕ → List (List ℕ)
 reply_words link cells lanes =
-    link_text link ∷ (68 ∷ []) ∷ decimal cells.opcode ∷ [] ∷ decimal cells.size ∷ decimal cells.source ∷ [] ∷ []
-    ∷ hex_text lanes ∷ decimal cells.denied ∷ mark_text cells.corrupt ∷ []
+    link_text link ∷ (68 ∷ []) ∷ decimal cells.opcode ∷ mark_text cells.param ∷ decimal cells.size ∷ decimal cells.source
+    ∷ [] ∷ [] ∷ hex_text lanes ∷ decimal cells.denied ∷ mark_text cells.corrupt ∷ []
 
 -- texts one after the other, and some of them together
 regrouped : (t h i n o p q x y z e : List ℕ)
     → (t ++ h ++ i) ++ (n ++ o ++ p ++ q) ++ (x ++ y ++ z) ++ e
     ≡ t ++ (h ++ (i ++ (n ++ (o ++ (p ++ (q ++ (x ++ (y ++ (z ++ e)))))))))
 regrouped t h i n o p q x y z e = simp append_assoc
+
+regrouped-two : (t h i n o p q x y z e f : List ℕ)
+    → (t ++ h ++ i) ++ (n ++ o ++ p ++ q) ++ (x ++ y ++ z) ++ e ++ f
+    ≡ t ++ (h ++ (i ++ (n ++ (o ++ (p ++ (q ++ (x ++ (y ++ (z ++ (e ++ f))))))))))
+regrouped-two t h i n o p q x y z e f = simp append_assoc
 
 one-more : (t h i n o p q x y z e : List ℕ)
     → (t ++ (h ++ (i ++ (n ++ (o ++ (p ++ (q ++ (x ++ (y ++ z))))))))) ++ e
@@ -51,39 +56,39 @@ two-more : (t h i n o p q x y z e f : List ℕ)
     ≡ t ++ (h ++ (i ++ (n ++ (o ++ (p ++ (q ++ (x ++ (y ++ (z ++ (e ++ f))))))))))
 two-more t h i n o p q x y z e f = simp append_assoc
 
-ask-joined : (t l o p z s a m d : List ℕ)
+ask-joined : (t l o p z s a m d c : List ℕ)
     → (t ++ (44 ∷ l) ++ (44 ∷ 65 ∷ [])) ++ ((44 ∷ o) ++ (44 ∷ p) ++ (44 ∷ z) ++ (44 ∷ s))
-    ++ ((44 ∷ a) ++ (44 ∷ m) ++ (44 ∷ d)) ++ (44 ∷ 44 ∷ 10 ∷ [])
-    ≡ joined t (l ∷ (65 ∷ []) ∷ o ∷ p ∷ z ∷ s ∷ a ∷ m ∷ d ∷ [] ∷ [] ∷ []) ++ (10 ∷ [])
-ask-joined t l o p z s a m d =
-    regrouped t (44 ∷ l) (44 ∷ 65 ∷ []) (44 ∷ o) (44 ∷ p) (44 ∷ z) (44 ∷ s) (44 ∷ a) (44 ∷ m) (44 ∷ d)
-    (44 ∷ 44 ∷ 10 ∷ [])
+    ++ ((44 ∷ a) ++ (44 ∷ m) ++ (44 ∷ d)) ++ ((44 ∷ []) ++ (44 ∷ c)) ++ (10 ∷ [])
+    ≡ joined t (l ∷ (65 ∷ []) ∷ o ∷ p ∷ z ∷ s ∷ a ∷ m ∷ d ∷ [] ∷ c ∷ []) ++ (10 ∷ [])
+ask-joined t l o p z s a m d c =
+    regrouped-two t (44 ∷ l) (44 ∷ 65 ∷ []) (44 ∷ o) (44 ∷ p) (44 ∷ z) (44 ∷ s) (44 ∷ a) (44 ∷ m) (44 ∷ d)
+    (44 ∷ 44 ∷ c) (10 ∷ [])
     ∙ sym (two-more t (44 ∷ l) (44 ∷ 65 ∷ []) (44 ∷ o) (44 ∷ p) (44 ∷ z) (44 ∷ s) (44 ∷ a) (44 ∷ m) (44 ∷ d)
-    (44 ∷ 44 ∷ []) (10 ∷ []))
+    (44 ∷ 44 ∷ c) (10 ∷ []))
 
 pub ask-line : (time : ℕ) (link : Link) (cells : AskCells) (mask lanes : List ℕ)
     → ask_text time link cells mask lanes ≡ joined (decimal time) (ask_words link cells mask lanes) ++ (10 ∷ [])
 unfolding ask_text
 ask-line time link cells mask lanes =
     ask-joined (decimal time) (link_text link) (decimal cells.opcode) (decimal cells.param) (decimal cells.size)
-    (decimal cells.source) (digits 16 false cells.address) (hex_text mask) (hex_text lanes)
+    (decimal cells.source) (digits 16 false cells.address) (hex_text mask) (hex_text lanes) (mark_text cells.corrupt)
 
-reply-joined : (t l o z s d n c : List ℕ)
-    → (t ++ (44 ∷ l) ++ (44 ∷ 68 ∷ [])) ++ ((44 ∷ o) ++ (44 ∷ []) ++ (44 ∷ z) ++ (44 ∷ s))
+reply-joined : (t l o p z s d n c : List ℕ)
+    → (t ++ (44 ∷ l) ++ (44 ∷ 68 ∷ [])) ++ ((44 ∷ o) ++ (44 ∷ p) ++ (44 ∷ z) ++ (44 ∷ s))
     ++ ((44 ∷ 44 ∷ 44 ∷ d) ++ (44 ∷ n) ++ (44 ∷ c)) ++ (10 ∷ [])
-    ≡ joined t (l ∷ (68 ∷ []) ∷ o ∷ [] ∷ z ∷ s ∷ [] ∷ [] ∷ d ∷ n ∷ c ∷ []) ++ (10 ∷ [])
-reply-joined t l o z s d n c =
-    regrouped t (44 ∷ l) (44 ∷ 68 ∷ []) (44 ∷ o) (44 ∷ []) (44 ∷ z) (44 ∷ s) (44 ∷ 44 ∷ 44 ∷ d) (44 ∷ n) (44 ∷ c)
+    ≡ joined t (l ∷ (68 ∷ []) ∷ o ∷ p ∷ z ∷ s ∷ [] ∷ [] ∷ d ∷ n ∷ c ∷ []) ++ (10 ∷ [])
+reply-joined t l o p z s d n c =
+    regrouped t (44 ∷ l) (44 ∷ 68 ∷ []) (44 ∷ o) (44 ∷ p) (44 ∷ z) (44 ∷ s) (44 ∷ 44 ∷ 44 ∷ d) (44 ∷ n) (44 ∷ c)
     (10 ∷ [])
-    ∙ sym (one-more t (44 ∷ l) (44 ∷ 68 ∷ []) (44 ∷ o) (44 ∷ []) (44 ∷ z) (44 ∷ s) (44 ∷ 44 ∷ 44 ∷ d) (44 ∷ n) (44 ∷ c)
+    ∙ sym (one-more t (44 ∷ l) (44 ∷ 68 ∷ []) (44 ∷ o) (44 ∷ p) (44 ∷ z) (44 ∷ s) (44 ∷ 44 ∷ 44 ∷ d) (44 ∷ n) (44 ∷ c)
     (10 ∷ []))
 
 pub reply-line : (time : ℕ) (link : Link) (cells : ReplyCells) (lanes : List ℕ)
     → reply_text time link cells lanes ≡ joined (decimal time) (reply_words link cells lanes) ++ (10 ∷ [])
 unfolding reply_text
 reply-line time link cells lanes =
-    reply-joined (decimal time) (link_text link) (decimal cells.opcode) (decimal cells.size) (decimal cells.source)
-    (hex_text lanes) (decimal cells.denied) (mark_text cells.corrupt)
+    reply-joined (decimal time) (link_text link) (decimal cells.opcode) (mark_text cells.param) (decimal cells.size)
+    (decimal cells.source) (hex_text lanes) (decimal cells.denied) (mark_text cells.corrupt)
 
 -- ---- links and channels
 
@@ -112,27 +117,31 @@ channel-d = refl
 
 -- ---- the row that words spell
 
-pub ask-spelled : (bus : ℕ) (t l c wo wp wz ws wa wm wd : List ℕ) (o p z s a m : ℕ) (lanes : SeenLanes)
+pub ask-spelled : (bus : ℕ) (t l c wo wp wz ws wa wm wd wk : List ℕ) (o p z s a m k : ℕ) (lanes : SeenLanes)
     → decimal_of 255 wo ≡ Ok o → decimal_of 255 wp ≡ Ok p → decimal_of 255 wz ≡ Ok z → decimal_of 65535 ws ≡ Ok s
     → address_of wa ≡ Ok a → mask_of bus wm ≡ Ok m → lanes_of bus wd ≡ Ok lanes
-    → ask_of_words bus (t ∷ l ∷ c ∷ wo ∷ wp ∷ wz ∷ ws ∷ wa ∷ wm ∷ wd ∷ [] ∷ [] ∷ [])
+    → decimal_or_zero 1 wk ≡ Ok k
+    → ask_of_words bus (t ∷ l ∷ c ∷ wo ∷ wp ∷ wz ∷ ws ∷ wa ∷ wm ∷ wd ∷ [] ∷ wk ∷ [])
     ≡ Ok (record {
-      beat = beat.A (record { opcode = o; param = p; size = z; source = s; address = a; mask = m; corrupt = false });
+      beat = beat.A (record { opcode = o; param = p; size = z; source = s; address = a; mask = m; corrupt = k == 1 });
       lanes = lanes;
     })
-unfolding ask_of_words field_at decimal_or_zero nothing_of
-ask-spelled bus t l c wo wp wz ws wa wm wd o p z s a m lanes eo ep ez es ea em ed = rw (eo, ep, ez, es, ea, em, ed) refl
+unfolding ask_of_words field_at nothing_of
+ask-spelled bus t l c wo wp wz ws wa wm wd wk o p z s a m k lanes eo ep ez es ea em ed ek =
+    rw (eo, ep, ez, es, ea, em, ed, ek) refl
 
-pub reply-spelled : (bus : ℕ) (t l c wo wz ws wd wn wc : List ℕ) (o z s : ℕ) (n k : Bool) (lanes : SeenLanes)
-    → decimal_of 255 wo ≡ Ok o → decimal_of 255 wz ≡ Ok z → decimal_of 65535 ws ≡ Ok s → lanes_of bus wd ≡ Ok lanes
+pub reply-spelled : (bus : ℕ) (t l c wo wp wz ws wd wn wc : List ℕ) (o p z s : ℕ) (n k : Bool) (lanes : SeenLanes)
+    → decimal_of 255 wo ≡ Ok o → decimal_or_zero 255 wp ≡ Ok p → decimal_of 255 wz ≡ Ok z → decimal_of 65535 ws ≡ Ok s
+    → lanes_of bus wd ≡ Ok lanes
     → flag_of wn ≡ Ok n → flag_or (asks_for_mark o n) wc ≡ Ok k
-    → reply_of_words bus (t ∷ l ∷ c ∷ wo ∷ [] ∷ wz ∷ ws ∷ [] ∷ [] ∷ wd ∷ wn ∷ wc ∷ [])
+    → reply_of_words bus (t ∷ l ∷ c ∷ wo ∷ wp ∷ wz ∷ ws ∷ [] ∷ [] ∷ wd ∷ wn ∷ wc ∷ [])
     ≡ Ok (record {
-      beat = beat.D (record { opcode = o; param = 0; size = z; source = s; denied = n; corrupt = k });
+      beat = beat.D (record { opcode = o; param = p; size = z; source = s; denied = n; corrupt = k });
       lanes = lanes;
     })
-unfolding reply_of_words field_at decimal_or_zero nothing_of
-reply-spelled bus t l c wo wz ws wd wn wc o z s n k lanes eo ez es ed en ec = rw (eo, ez, es, ed, en, ec) refl
+unfolding reply_of_words field_at nothing_of
+reply-spelled bus t l c wo wp wz ws wd wn wc o p z s n k lanes eo ep ez es ed en ec =
+    rw (eo, ep, ez, es, ed, en, ec) refl
 
 pub row-spelled : (masters ports : List Bus) (line time : ℕ) (link : Link) (which : RowChannel) (seen : SeenBeat)
     (t l c w3 w4 w5 w6 w7 w8 w9 w10 w11 : List ℕ)

@@ -7,7 +7,7 @@ use Rattle.toml.specs.Data.{Data, Items, Members, as_array, get_member}
 use Rattle.toml.specs.Parse.{parse_document}
 use Rattle.tl_script.specs.Value.{list_of}
 use Rattle.tl_map.specs.declared.limits.TheConstants.{MAX_JUDGED_MASTERS, MAX_JUDGED_PORTS}
-use Rattle.check_signals.specs.Names.{SignalNames, all_names, clock_by, have_signals, is_low_in, link_of, links_by, links_in, names_of_file, optional_text}
+use Rattle.check_signals.specs.Names.{SignalName, SignalNames, all_names, clock_by, have_signals, is_low_in, link_of, links_by, links_in, names_of_file, optional_text}
 use Rattle.check_signals.specs.declared.fault.SignalKey.{SignalKey}
 use Rattle.check_signals.specs.declared.fault.SignalKey.TheVariants as key
 use Rattle.check_signals.specs.declared.fault.KeyFault.{KeyFault}
@@ -81,7 +81,7 @@ links-are members names is =
     (links_in key.Master members) refl refl is
   where
     go : (c r : Result (Option (List ℕ)) KeyFault) (l : Result Bool KeyFault)
-        (p m : Result (List (Option (List (List ℕ)))) KeyFault)
+        (p m : Result (List (Option (List SignalName))) KeyFault)
         → links_in key.Port members ≡ p → links_in key.Master members ≡ m
         → ◌>>=◌ c (λ clock. ◌>>=◌ r (λ reset. ◌>>=◌ l (λ is_low. ◌>>=◌ p
         (λ of_ports. ◌>>=◌ m (λ of_masters. ◌>>=◌ (clock_by (have_signals of_ports || have_signals of_masters) clock)
@@ -148,7 +148,7 @@ parts-are members parts is = go (bus_in_table Eight members) (rules_in members) 
 -- ---- the values at a key
 
 -- as many links as the array at a key has values
-link-values : (which : SignalKey) (value : Data) (links : List (Option (List (List ℕ)))) → links_by which (Some value) ≡ Ok links
+link-values : (which : SignalKey) (value : Data) (links : List (Option (List SignalName))) → links_by which (Some value) ≡ Ok links
     → (items : Items) × (as_array value ≡ Some items) × (length (list_of items) ≡ length links)
 link-values which value links is = go (as_array value) refl is
   where
@@ -187,7 +187,7 @@ few which most xs ys is = go (nat_lt most (length xs)) refl is
 
 -- ---- the counts
 
-ports-same : (bus : Bus) (members : Members) (links : List (Option (List (List ℕ)))) (of_ports : List Port)
+ports-same : (bus : Bus) (members : Members) (links : List (Option (List SignalName))) (of_ports : List Port)
     → links_in key.Port members ≡ Ok links → ports_of bus members ≡ Ok of_ports
     → (length links ≡ length of_ports) × (length of_ports ≤ MAX_JUDGED_PORTS)
 unfolding links_in ports_of port_tables
@@ -221,7 +221,7 @@ ports-same bus members links of_ports named divided = go (get_member (system_key
 abbrev counted : Data → Result (List Members) SystemFault
 counted value = tables_of part.Master value >>= one_up_to part.Master MAX_JUDGED_MASTERS
 
-masters-same : (bus : Bus) (members : Members) (links : List (Option (List (List ℕ)))) (of_masters : List Master)
+masters-same : (bus : Bus) (members : Members) (links : List (Option (List SignalName))) (of_masters : List Master)
     → links_in key.Master members ≡ Ok links → masters_of bus members ≡ Ok of_masters
     → (length links ≡ length of_masters) × (length of_masters ≤ MAX_JUDGED_MASTERS)
 unfolding links_in masters_of master_tables value_at

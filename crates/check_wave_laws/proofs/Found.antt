@@ -15,14 +15,15 @@ use Rattle.check_vcd.specs.declared.range.Span.{Span}
 use Rattle.check_samples.specs.declared.signal.Signal.{Signal}
 use Rattle.check_samples.specs.declared.signal.Signal.TheVariants as signal
 use Rattle.check_signals.specs.Found.{LinkSources, NamedLink, NamesOf, asked_by, signals_asked, link_at, link_sources, links_from, named_before, names_at, numbered, owner_of, sources_of, width_in}
-use Rattle.check_signals.specs.Source.{WantedSignal, Changing, Constant, SearchFault, Kept, Source, Twice, alone, constant_of, digit_in, left_out, measured, missing, source_by, source_in, too_wide, width_of, within}
-use Rattle.check_signals.specs.Wanted.{bits_fit, count_of, may_be_absent, wanted_of}
+use Rattle.check_signals.specs.Names.{SignalName}
+use Rattle.check_signals.specs.Source.{WantedSignal, Changing, Constant, SearchFault, Kept, Source, Twice, alone, constant_of, digit_in, left_out, measured, missing, source_by, source_in, too_wide, unfound, width_of, within}
+use Rattle.check_signals.specs.Wanted.{bits_fit, count_of, may_be_absent, may_be_unfound, wanted_of}
 use Rattle.check_signals.specs.Wires.{Wire, first_of, places_in, sought, wire_at, wire_by, wire_of, wires, wires_called}
 use Rattle.check_signals.specs.declared.keys.TheConstants.{SIGNALS}
 use Rattle.check_signals.specs.declared.signal_fault.SignalOwner.{SignalOwner}
 use Rattle.check_signals.specs.declared.source.TheConstants.{MAX_WIDTH}
 use Rattle.check_signals.specs.declared.wanted.Wanted.{Wanted}
-use Rattle.check_signals.specs.declared.wanted.Wanted.TheVariants.{Exactly, AtMost, Optional}
+use Rattle.check_signals.specs.declared.wanted.Wanted.TheVariants.{Exactly, AtMost, Optional, Extra}
 use Rattle.check_signals.specs.declared.wires.Places.{Places}
 use Rattle.check_wave_laws.proofs.Buses.{link-there}
 
@@ -62,11 +63,13 @@ abbrev HasBits : Wanted → ℕ → Type 0
 HasBits (Exactly count) bits = bits ≡ count
 HasBits (AtMost count) bits = bits ≤ count
 HasBits (Optional count) bits = bits ≤ count
+HasBits (Extra count) bits = bits ≤ count
 
 bits-fit : (wanted : Wanted) (bits : ℕ) → bits_fit wanted bits ≡ true → HasBits wanted bits
 bits-fit (Exactly count) bits is = grind (arith, nat_tests)
 bits-fit (AtMost count) bits is = grind (arith, nat_tests)
 bits-fit (Optional count) bits is = grind (arith, nat_tests)
+bits-fit (Extra count) bits is = grind (arith, nat_tests)
 
 -- the values of an identifier have its width, and a constant has a digit
 abbrev pub KeptFits : List Var → Kept → Type 0
@@ -88,6 +91,8 @@ constant-fits vars (AtMost count) digit some =
     record { kept = some; from = omega arith; inside = omega arith; bits = omega arith }
 constant-fits vars (Optional count) digit some =
     record { kept = some; from = omega arith; inside = omega arith; bits = omega arith }
+constant-fits vars (Extra count) digit some =
+    record { kept = some; from = omega arith; inside = omega arith; bits = omega arith }
 
 -- a signal that a design leaves out has no bits
 left-out-fits : (vars : List Var) (wanted : Wanted) → may_be_absent wanted ≡ true → SourceFits vars wanted left_out
@@ -95,6 +100,28 @@ left-out-fits vars (Exactly count) is = absurd (cc)
 left-out-fits vars (AtMost count) is = absurd (cc)
 left-out-fits vars (Optional count) is =
     record { kept = omega arith; from = omega arith; inside = omega arith; bits = omega arith }
+left-out-fits vars (Extra count) is =
+    record { kept = omega arith; from = omega arith; inside = omega arith; bits = omega arith }
+
+unfound-absent : (wanted : Wanted) → may_be_unfound wanted ≡ true → may_be_absent wanted ≡ true
+unfound-absent (Exactly count) is = absurd (cc)
+unfound-absent (AtMost count) is = absurd (cc)
+unfound-absent (Optional count) is = absurd (cc)
+unfound-absent (Extra count) is = refl
+
+-- nor has one that a prefix does not find
+unfound-fits : (vars : List Var) (asked : WantedSignal) (s : Source) → unfound vars asked ≡ Ok s
+    → SourceFits vars asked.wanted s
+unfound-fits vars asked s is = go asked.is_prefixed (may_be_unfound asked.wanted) refl is
+  where
+    go : (p m : Bool) → may_be_unfound asked.wanted ≡ m
+        → cond (p && m) (Ok left_out) (Err (missing vars asked)) ≡ Ok s → SourceFits vars asked.wanted s
+    go true true x e =
+        let same : left_out ≡ s = cc in
+        subst (SourceFits vars asked.wanted) same
+        (left-out-fits vars asked.wanted (unfound-absent asked.wanted x))
+    go true false x e = absurd (cc)
+    go false m x e = absurd (cc)
 
 -- the signal of a wire has its bits
 abbrev WireFits : Wire → Type 0
@@ -185,7 +212,7 @@ measured-fits vars asked wire s fits is = go (bits_fit asked.wanted (wire.places
 alone-fits : (vars : List Var) (asked : WantedSignal) (some : List Wire) (first : Option Wire) (s : Source)
     → ((wire : Wire) → first ≡ Some wire → WireFits wire) → alone vars asked some first ≡ Ok s
     → SourceFits vars asked.wanted s
-alone-fits vars asked some None s fits is = absurd (cc)
+alone-fits vars asked some None s fits is = unfound-fits vars asked s is
 alone-fits vars asked some (Some wire) s fits is =
     go (list_any (λ other. not (bytes_eq other.var.code wire.var.code)) some) is
   where
@@ -237,16 +264,18 @@ wanted-some signal.ASource bus some = omega arith
 wanted-some signal.AAddress bus some = omega arith
 wanted-some signal.AMask bus some = some
 wanted-some signal.AData bus some = omega (arith, some)
+wanted-some signal.ACorrupt bus some = omega arith
 wanted-some signal.DValid bus some = omega arith
 wanted-some signal.DReady bus some = omega arith
 wanted-some signal.DOpcode bus some = omega arith
+wanted-some signal.DParam bus some = omega arith
 wanted-some signal.DSize bus some = omega arith
 wanted-some signal.DSource bus some = omega arith
 wanted-some signal.DData bus some = omega (arith, some)
 wanted-some signal.DDenied bus some = omega arith
 wanted-some signal.DCorrupt bus some = omega arith
 
-all-fit : (vars : List Var) (owner : SignalOwner) (bus : ℕ) (signals : List Signal) (names : List (List ℕ))
+all-fit : (vars : List Var) (owner : SignalOwner) (bus : ℕ) (signals : List Signal) (names : List SignalName)
     (sources : List Source) → 0 < bus → each (source_in vars) (signals_asked owner bus signals names) ≡ Ok sources
     → FitsAll vars bus signals sources
 all-fit vars owner bus [] names sources some is =
@@ -281,7 +310,7 @@ pub record LinkFits (vars : List Var) (masters ports : List Bus) (found : LinkSo
 abbrev IsNamed : List Bus → List Bus → NamedLink → Type 0
 IsNamed masters ports named = HasBus masters ports named.link named.bus
 
-one-named : (masters ports : List Bus) (is_port : Bool) (n : ℕ) (bus : Bus) (names : Option (List (List ℕ)))
+one-named : (masters ports : List Bus) (is_port : Bool) (n : ℕ) (bus : Bus) (names : Option (List SignalName))
     (links : List NamedLink) → HasBus masters ports (link_at is_port n) bus → Each (IsNamed masters ports) links
     → Each (IsNamed masters ports) (named_before is_port n bus names links)
 one-named masters ports is_port n bus None links has rest = rest

@@ -177,12 +177,12 @@ pair-fits : (vars : List Var) (masters ports : List Bus) (kept : List Kept) (lin
     → Each (SlotFits kept) sources → channels_of_link link (map (tap_by kept) sources) ≡ Some pair
     → PairFits masters ports (map width_in kept) pair
 pair-fits vars masters ports kept link
-    (a_valid ∷ a_ready ∷ a_opcode ∷ a_param ∷ a_size ∷ a_source ∷ a_address ∷ a_mask ∷ a_data ∷ d_valid ∷ d_ready
-    ∷ d_opcode ∷ d_size ∷ d_source ∷ d_data ∷ d_denied ∷ d_corrupt ∷ [])
+    (a_valid ∷ a_ready ∷ a_opcode ∷ a_param ∷ a_size ∷ a_source ∷ a_address ∷ a_mask ∷ a_data ∷ a_corrupt ∷ d_valid
+    ∷ d_ready ∷ d_opcode ∷ d_param ∷ d_size ∷ d_source ∷ d_data ∷ d_denied ∷ d_corrupt ∷ [])
     pair one fits slots is =
     let f = fits.1.1 in
     let g = f.1.1.1.1.1 in
-    let h = g.1.1.1.1 in
+    let h = g.1.1.1.1.1 in
     let r = slots.1.1.1.1.1.1.1 in
     let bus = bus_of_link masters ports link in
     let ask : Channel = record {
@@ -197,6 +197,7 @@ pair-fits vars masters ports kept link
         address = tap_by kept a_address;
         mask = tap_by kept a_mask;
         «data» = tap_by kept a_data;
+        corrupt = tap_by kept a_corrupt;
       });
     } in
     let reply : Channel = record {
@@ -205,6 +206,7 @@ pair-fits vars masters ports kept link
       ready = tap_by kept d_ready;
       beat = D (record {
         opcode = tap_by kept d_opcode;
+        param = tap_by kept d_param;
         size = tap_by kept d_size;
         source = tap_by kept d_source;
         «data» = tap_by kept d_data;
@@ -223,17 +225,20 @@ pair-fits vars masters ports kept link
           source = f.1.1.1.0.bits;
           mask = takes kept a_mask bus g.0.from g.0.inside g.0.bits r.0;
           lanes = takes kept a_data (8 * bus) g.1.0.from g.1.0.inside g.1.0.bits r.1.0;
+          corrupt = g.1.1.0.bits;
         };
       },
       record {
         link = one;
         taps = record {
           opcode = h.0.bits;
-          size = h.1.0.bits;
-          source = h.1.1.0.bits;
-          lanes = takes kept d_data (8 * bus) h.1.1.1.0.from h.1.1.1.0.inside h.1.1.1.0.bits r.1.1.1.1.1.1.1.0;
-          denied = h.1.1.1.1.0.bits;
-          corrupt = h.1.1.1.1.1.0.bits;
+          param = h.1.0.bits;
+          size = h.1.1.0.bits;
+          source = h.1.1.1.0.bits;
+          lanes = takes kept d_data (8 * bus) h.1.1.1.1.0.from h.1.1.1.1.0.inside h.1.1.1.1.0.bits
+              r.1.1.1.1.1.1.1.1.1.0;
+          denied = h.1.1.1.1.1.0.bits;
+          corrupt = h.1.1.1.1.1.1.0.bits;
         };
       },
     )
@@ -442,7 +447,7 @@ reset-fits vars (Some name) reset is s e = go (system_source vars name) refl is
         let same : Some found ≡ reset = cc in
         let is : found ≡ s = cc in
         subst (SourceFits vars (AtMost 1)) is
-        (source-fits vars (record { owner = owner.System; name = name; wanted = AtMost 1 }) found (omega arith) x)
+        (source-fits vars (record { owner = owner.System; name = name; is_prefixed = false; wanted = AtMost 1 }) found (omega arith) x)
 
 pub sources-fit : (vars : List Var) (masters ports : List Bus) (names : SignalNames) (sources : FoundSources)
     → sources_in vars masters ports names ≡ Ok sources → AllFit vars masters ports sources
@@ -466,7 +471,7 @@ sources-fit vars masters ports names sources is =
         record { clock = clock; reset = reset; ports = of_ports; masters = of_masters } in
         let same : made ≡ sources = cc in
         subst (AllFit vars masters ports) same (record {
-          clock = source-fits vars (record { owner = owner.System; name = names.clock; wanted = AtMost 1 }) clock
+          clock = source-fits vars (record { owner = owner.System; name = names.clock; is_prefixed = false; wanted = AtMost 1 }) clock
               (omega arith) x;
           reset = λ s is. reset-fits vars names.reset reset y s is;
           of_ports = ports-fit vars masters ports names.ports of_ports z;

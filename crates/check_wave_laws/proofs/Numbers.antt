@@ -13,7 +13,7 @@ use Rattle.tl_text.proofs.NumberLemmas.{digits_of-digits, hex_last, hex_more, he
 use Rattle.tl_text.specs.Number.{are_digits, below_64_bits}
 use Rattle.tl_text.specs.Number.{number_of as number_in_base}
 use Rattle.check_rows.specs.Columns.{flag_of, index_of}
-use Rattle.check_rows.specs.Number.{address_of, decimal_of, hex_of}
+use Rattle.check_rows.specs.Number.{address_of, decimal_of, decimal_or_zero, hex_of}
 use Rattle.tl_text.specs.Reading.{◌>>=◌}
 use Rattle.check_rows.specs.declared.fault.RowFault.{RowFault}
 use Rattle.check_rows.specs.declared.fault.RowFault.TheVariants.{Number, Range, Link}
@@ -49,6 +49,17 @@ decimal-read most n small fits =
     ∙ ap (λ (v : ℕ). at-most most (below_64_bits v)) is.1
     ∙ ap (λ (t : Bool). at-most most (cond t (Some n) None)) (lt-ltb n (2 ^ 64) small)
     ∙ ap (λ (t : Bool). cond t (Ok n) (Err Range)) (le-leb n most fits)
+
+-- a number that may be absent
+pub zero-read : (most : ℕ) → decimal_or_zero most [] ≡ Ok 0
+unfolding decimal_or_zero
+zero-read most = refl
+
+pub given-read : (most : ℕ) (word : List ℕ) (n : ℕ) → decimal_of most word ≡ Ok n → decimal_or_zero most word ≡ Ok n
+unfolding decimal_of decimal_or_zero
+given-read most [] n is = absurd (cc)
+given-read most (byte ∷ word) n is =
+    let some : (length (byte ∷ word) == 0) ≡ false = grind (arith, nat_tests) in rw some is
 
 pub index-read : (count n : ℕ) → n < count → n < 2 ^ 64 → index_of count (decimal n) ≡ Ok n
 unfolding index_of

@@ -73,9 +73,11 @@ beat-fits bus values widths (A taps) some has takes = record {
   source = bits-few values taps.source 16 takes.source;
   mask = bits-all values widths taps.mask bus has some takes.mask;
   data_bits = bits-all values widths taps.data (8 * bus) has (omega (arith, some)) takes.lanes;
+  corrupt = bits-few values taps.corrupt 1 takes.corrupt;
 }
 beat-fits bus values widths (D taps) some has takes = record {
   opcode = bits-few values taps.opcode 8 takes.opcode;
+  param = bits-few values taps.param 8 takes.param;
   size = bits-few values taps.size 8 takes.size;
   source = bits-few values taps.source 16 takes.source;
   data_bits = bits-all values widths taps.data (8 * bus) has (omega (arith, some)) takes.lanes;

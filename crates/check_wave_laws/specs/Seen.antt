@@ -1,6 +1,6 @@
 -- What the signals of a beat show, in the terms of captures. It is this project's own; the order of bits and lanes is that
 -- of the TileLink specification ("Signal descriptions").
-use Rattle.std.specs.Prelude.{ℕ, ◌-◌, ◌*◌, ◌≡◌, ◌≤◌, ◌==◌, Bool, false, List, [], ◌∷◌, drop, length, map, take, Option}
+use Rattle.std.specs.Prelude.{ℕ, ◌-◌, ◌*◌, ◌≡◌, ◌≤◌, ◌==◌, Bool, List, [], ◌∷◌, drop, length, map, take, Option}
 use Rattle.std.specs.List.{range_with_len}
 use Rattle.std.specs.Str.Parse.{digits_value}
 use Rattle.tl_text.specs.Number.{number_of}
@@ -30,7 +30,7 @@ lane_in bus bits lane = number_of 2 8 (take 8 (drop (8 * (bus - 1 - lane)) bits)
 abbrev pub lanes_in : ℕ → List (List ℕ) → Tap → SeenLanes
 lanes_in bus values tap = seen_of (map (lane_in bus (bits_of values tap)) (range_with_len 0 bus))
 
--- the beat of channel A that signals show, with its lanes
+-- the beat of channel A that signals show, with its lanes. If there is no `a_corrupt`, it has no bits: it is not corrupt
 abbrev pub ask_in : ℕ → List (List ℕ) → AskTaps → SeenBeat
 ask_in bus values taps = record {
   beat = beat.A (record {
@@ -40,7 +40,7 @@ ask_in bus values taps = record {
     source = number_in values taps.source;
     address = number_in values taps.address;
     mask = number_in values taps.mask;
-    corrupt = false;
+    corrupt = number_in values taps.corrupt == 1;
   });
   lanes = lanes_in bus values taps.data;
 }
@@ -50,12 +50,12 @@ abbrev pub flag_by : Bool → List ℕ → Bool
 flag_by absent [] = absent
 flag_by absent (bit ∷ bits) = digits_value 2 (bit ∷ bits) == 1
 
--- and of channel D. If there is no `d_corrupt`, a beat is marked as the standard asks
+-- and of channel D. If there is no `d_param`, it is 0; and if there is no `d_corrupt`, a beat is marked as the standard asks
 abbrev pub reply_in : ℕ → List (List ℕ) → ReplyTaps → SeenBeat
 reply_in bus values taps = record {
   beat = beat.D (record {
     opcode = number_in values taps.opcode;
-    param = 0;
+    param = number_in values taps.param;
     size = number_in values taps.size;
     source = number_in values taps.source;
     denied = number_in values taps.denied == 1;
@@ -91,9 +91,11 @@ pub record AskFits (bus : ℕ) (values : List (List ℕ)) (taps : AskTaps) : Typ
   pub source : length (bits_of values taps.source) ≤ 16
   pub mask : length (bits_of values taps.mask) ≡ bus
   pub data_bits : length (bits_of values taps.data) ≡ 8 * bus
+  pub corrupt : length (bits_of values taps.corrupt) ≤ 1
 
 pub record ReplyFits (bus : ℕ) (values : List (List ℕ)) (taps : ReplyTaps) : Type 0 where
   pub opcode : length (bits_of values taps.opcode) ≤ 8
+  pub param : length (bits_of values taps.param) ≤ 8
   pub size : length (bits_of values taps.size) ≤ 8
   pub source : length (bits_of values taps.source) ≤ 16
   pub data_bits : length (bits_of values taps.data) ≡ 8 * bus

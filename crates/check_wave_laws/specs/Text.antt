@@ -59,9 +59,11 @@ pub record AskTakes (bus : ℕ) (widths : List ℕ) (taps : AskTaps) : Type 0 wh
   pub source : taps.source.to - taps.source.from ≤ 16
   pub mask : TakesBeat widths taps.mask bus
   pub lanes : TakesBeat widths taps.data (8 * bus)
+  pub corrupt : taps.corrupt.to - taps.corrupt.from ≤ 1
 
 pub record ReplyTakes (bus : ℕ) (widths : List ℕ) (taps : ReplyTaps) : Type 0 where
   pub opcode : taps.opcode.to - taps.opcode.from ≤ 8
+  pub param : taps.param.to - taps.param.from ≤ 8
   pub size : taps.size.to - taps.size.from ≤ 8
   pub source : taps.source.to - taps.source.from ≤ 16
   pub lanes : TakesBeat widths taps.data (8 * bus)

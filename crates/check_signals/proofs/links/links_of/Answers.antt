@@ -4,7 +4,7 @@ use Rattle.std.proofs.lemmas.List.{map-append}
 use Rattle.check_beats.specs.declared.bus.Bus.TheVariants.{One}
 use Rattle.check_vcd.specs.Header.{var_view}
 use Rattle.check_signals.specs.Found.{link_sources_view, links_view}
-use Rattle.check_signals.specs.Names.{link_view}
+use Rattle.check_signals.specs.Names.{link_view, name_view}
 use Rattle.check_signals.specs.Source.{fault_view, source_view}
 use Rattle.check_signals.proofs.LinkLemmas.{finds-fault, link-fails, link-found, link-without}
 use Rattle.check_signals.proofs.links.links_of.Goals.{in-Some+in_ok-sources+in_ok-push, in_default}
@@ -20,7 +20,7 @@ returns-in_err-sources c =
     finds-fault links_view c.from_residual.result fault _ c.from_residual.ensures.1
     (λ not_memory. link-fails (map var_view c.args.vars.now) c.args.is_port (map link_view c.args.links.now) n
     (get_or buses n One) (drop n buses) (drop (n + 1) buses) first (map link_sources_view c.loop-number.found.items) _
-    (map (λ name. name.items) c.in-Some.names.now.items) (fault_view fault) (sym c.in-Some.ensures)
+    (map name_view c.in-Some.names.now.items) (fault_view fault) (sym c.in-Some.ensures)
     (rw (c.deref.ensures.value, c.owner_of.ensures, c.link_at-link.ensures) at (c.in_err-sources.ensures not_memory))
     c.loop-number.invariant)
 
@@ -36,7 +36,7 @@ loop-number-preserved c =
     elim c.match-names_at.branch [
       | in-Some+in_ok-sources+in_ok-push w ↦
           let next = link-found vars c.args.is_port links n (get_or buses n One) (drop n buses) (drop (n + 1) buses) first
-          found _ (map (λ name. name.items) w.in-Some.names.now.items) (map source_view w.in_ok-sources.sources.items)
+          found _ (map name_view w.in-Some.names.now.items) (map source_view w.in_ok-sources.sources.items)
           (sym w.in-Some.ensures)
           (rw (w.deref.ensures.value, w.owner_of.ensures, w.link_at-link.ensures) at w.in_ok-sources.ensures)
           c.loop-number.invariant in
