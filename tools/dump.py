@@ -38,8 +38,8 @@ def section(words):
 
 
 class Variables:
-    """What a header declares: for each name with its scopes the identifier and the width, in the order of the dump. Names that two
-    identifiers have are in `twice`: tlvcd refuses them."""
+    """What a header declares: for each name with its scopes the identifier and the width, in the order of the dump. If a name stands twice
+    with one identifier, it is as wide as its widest declaration. Names that two identifiers have are in `twice`: tlvcd refuses them."""
 
     def __init__(self):
         self.named, self.twice, self.scopes = {}, set(), []
@@ -48,9 +48,12 @@ class Variables:
         """Takes a $var: its type, width, identifier and name. A range behind the name is not part of it."""
         if len(fields) < 4 or not fields[1].isdecimal():
             raise NoDump("not a dump")
-        name = ".".join([*self.scopes, RANGE.sub("", fields[3])])
-        if self.named.setdefault(name, (fields[2], int(fields[1])))[0] != fields[2]:
+        name, net = ".".join([*self.scopes, RANGE.sub("", fields[3])]), (fields[2], int(fields[1]))
+        identifier, bits = self.named.setdefault(name, net)
+        if identifier != net[0]:
             self.twice.add(name)
+        elif bits < net[1]:
+            self.named[name] = net
 
     def take(self, keyword, fields):
         """Takes a section of the header."""

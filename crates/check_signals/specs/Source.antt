@@ -7,7 +7,7 @@ use Rattle.check_vcd.specs.Header.{Var}
 use Rattle.check_vcd.specs.declared.codes.Coded.{Coded}
 use Rattle.check_keys.specs.Nearest.{nearest}
 use Rattle.check_signals.specs.Wanted.{bits_fit, count_of, may_be_absent, may_be_unfound}
-use Rattle.check_signals.specs.Wires.{Wire, first_of, wires_called}
+use Rattle.check_signals.specs.Wires.{Wire, wires_called, widest_of}
 use Rattle.check_signals.specs.declared.signal_fault.SignalOwner.{SignalOwner}
 use Rattle.check_signals.specs.declared.signal_fault.SignalFault.{SignalFault}
 use Rattle.check_signals.specs.declared.signal_fault.SignalFault.TheVariants as code_fault
@@ -65,7 +65,7 @@ is_left_out asked = may_be_absent asked.wanted && bytes_eq asked.name (codes "-"
 
 -- ---- a signal
 
--- how many bits the values of an identifier have: those of the first signal that has it
+-- how many bits the values of an identifier have: those of the widest signal that has it
 abbrev pub width_by : Option Coded → ℕ
 width_by None = 0
 width_by (Some coded) = coded.width
@@ -104,7 +104,7 @@ may_lack asked = asked.is_prefixed && may_be_unfound asked.wanted
 abbrev pub unfound : List Var → WantedSignal → Result Source SearchFault
 unfound vars asked = if may_lack asked then Ok left_out else Err (missing vars asked)
 
--- the first of the wires that a name means: all of them have its identifier
+-- the widest of the wires that a name means: all of them have its identifier
 abbrev pub alone : List Var → WantedSignal → List Wire → Option Wire → Result Source SearchFault
 alone vars asked wires None = unfound vars asked
 alone vars asked wires (Some wire) =
@@ -113,7 +113,7 @@ alone vars asked wires (Some wire) =
 
 abbrev pub signal_in : List Var → WantedSignal → Result Source SearchFault
 signal_in vars asked =
-    let wires = wires_called vars asked.name in alone vars asked wires (first_of wires)
+    let wires = wires_called vars asked.name in alone vars asked wires (widest_of wires)
 
 -- ---- what a name finds
 

@@ -50,6 +50,19 @@ abbrev pub first_of : {A : Type 0} → List A → Option A
 first_of [] = None
 first_of (x ∷ xs) = Some x
 
+-- the one of a wider signal, or else the first
+abbrev pub wider : Wire → Wire → Wire
+wider wire other = if nat_lt wire.var.width other.var.width then other else wire
+
+-- the one of the widest signal, of several the first, if there is one
+abbrev pub widest_from : Wire → List Wire → Wire
+widest_from wire [] = wire
+widest_from wire (other ∷ wires) = widest_from (wider wire other) wires
+
+abbrev pub widest_of : List Wire → Option Wire
+widest_of [] = None
+widest_of (wire ∷ wires) = Some (widest_from wire wires)
+
 -- what is looked for by a name: all bits of a signal of this name; or else, if the name ends in a range, the bits that it
 -- means of a signal of the rest of the name
 abbrev pub cut_by : List ℕ → Option (List ℕ × Span) → List ℕ × Option Span
@@ -65,6 +78,15 @@ abbrev pub wires_called : List Var → List ℕ → List Wire
 wires_called vars name = wires (sought vars name).0 (sought vars name).1 vars
 
 -- ---- what calls answer
+
+-- the same beside a wire that may be absent, and beside all of a list
+abbrev pub wider_by : Option Wire → Wire → Wire
+wider_by None other = other
+wider_by (Some wire) other = wider wire other
+
+abbrev pub widest_with : Option Wire → List Wire → Option Wire
+widest_with None wires = widest_of wires
+widest_with (Some wire) wires = Some (widest_from wire wires)
 
 -- the signal has the bits of a wire
 abbrev pub IsInside : code_wire.Wire → Type 0

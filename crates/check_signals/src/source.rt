@@ -8,7 +8,7 @@ ghost use Rattle.check_signals.specs.declared.signal_fault.SignalFault.TheVarian
 
 use crate::signal_fault::{SignalFault, SignalOwner};
 use crate::wanted::Wanted;
-use crate::wires::{Wire, first_wire, has_another, sought};
+use crate::wires::{Wire, has_another, sought, widest_wire};
 use check_keys::nearest;
 use check_vcd::{MAX_WORD, Var};
 use std::alloc::{AllocError, Global};
@@ -83,16 +83,17 @@ fn is_left_out(asked: WantedSignal<'_>) -> bool
     asked.wanted.may_be_absent() && asked.name == b"-".as_slice()
 }
 
-/// How many bits the values of an identifier have: those of the first signal that has it.
+/// How many bits the values of an identifier have: those of the widest signal that has it.
 fn width_of(vars: &[Var], code: &[u8]) -> u64
     ensures { result ≡ width_of (map var_view vars.now) code.now }
 {
+    let mut width = 0;
     for var in vars {
-        if var.code.as_slice() == code {
-            return var.width;
+        if var.code.as_slice() == code && width < var.width {
+            width = var.width;
         }
     }
-    0
+    width
 }
 
 /// A text that may be absent, copied.
@@ -220,7 +221,7 @@ fn unfound<'a>(
     Err(missing(alloc, vars, asked))
 }
 
-/// The first of the wires that a name means: all of them have its identifier.
+/// The widest of the wires that a name means: all of them have its identifier.
 fn signal_in<'a>(
     alloc: Global,
     vars: &'a [Var],
@@ -229,7 +230,7 @@ fn signal_in<'a>(
     ensures { Finds source_view result (signal_in (map var_view vars.now) (asked_view asked.entry)) }
 {
     let (name, part) = sought(vars, asked.name);
-    let Some(wire) = first_wire(vars, name, part) else {
+    let Some(wire) = widest_wire(vars, name, part) else {
         return unfound(alloc, vars, asked);
     };
     if has_another(vars, name, part, wire.var.code.as_slice()) {

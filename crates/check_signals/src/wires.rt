@@ -3,7 +3,7 @@ ghost use Rattle.std.specs.Prelude.{◌≡◌, IfSome, map, option_map, not};
 ghost use Rattle.std.specs.List.{list_any};
 ghost use Rattle.std.specs.Str.{bytes_eq};
 ghost use Rattle.check_vcd.specs.Header.{var_view};
-ghost use Rattle.check_signals.specs.Wires.{IsInside, first_of, places_in, sought as sought_in, sought_view, wire_by, wire_of, wire_view, wires};
+ghost use Rattle.check_signals.specs.Wires.{IsInside, first_of, places_in, sought as sought_in, sought_view, wider_by, widest_of, wire_by, wire_of, wire_view, wires};
 
 use check_vcd::{Span, Var, split_range};
 
@@ -85,6 +85,33 @@ pub(crate) fn first_wire<'a>(vars: &'a [Var], name: &[u8], part: Option<Span>) -
         }
     }
     None
+}
+
+/// The one of a wider signal, or else the first.
+fn wider<'a>(best: Option<Wire<'a>>, wire: Wire<'a>) -> Wire<'a>
+    requires best { IfSome best IsInside }
+    requires wire { IsInside wire }
+    ensures wire { wire_view result ≡ wider_by (option_map wire_view best.entry) (wire_view wire.entry) }
+    ensures inside { IsInside result }
+{
+    match best {
+        Some(best) if wire.var.width <= best.var.width => best,
+        _ => wire,
+    }
+}
+
+/// The widest wire that a name and a range mean, of several the first.
+pub(crate) fn widest_wire<'a>(vars: &'a [Var], name: &[u8], part: Option<Span>) -> Option<Wire<'a>>
+    ensures wire { option_map wire_view result ≡ widest_of (wires name.now part (map var_view vars.now)) }
+    ensures inside { IfSome result IsInside }
+{
+    let mut best: Option<Wire<'a>> = None;
+    for var in vars {
+        if let Some(wire) = wire_of(var, name, part) {
+            best = Some(wider(best, wire));
+        }
+    }
+    best
 }
 
 /// Whether a name and a range mean a wire of another identifier.

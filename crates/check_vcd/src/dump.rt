@@ -1,6 +1,6 @@
 //! A dump, read from a stream: its header, and then what happens in it.
 ghost use Rattle.std.specs.Prelude.{◌≡◌, ℕ, List, Err, IfOk, OnOk, map};
-ghost use Rattle.check_vcd.specs.Codes.{coded_in, find_in};
+ghost use Rattle.check_vcd.specs.Codes.{coded_in, find_in, as_widest};
 ghost use Rattle.check_vcd.specs.Dump.{Happened, IsNoDump, IsOpened, IsMistakeAt, IsWrong, KeepsValue, Opens};
 ghost use Rattle.check_vcd.specs.Header.{var_view};
 ghost use Rattle.check_vcd.specs.declared.fault.Mistake.{Mistake};
@@ -14,20 +14,25 @@ use std::alloc::{AllocError, Global};
 use std::io::Read;
 use std::marker::Model;
 
-/// The identifiers that signals have. If two signals have one, the first says how many bits there are.
+/// An identifier that one more signal has, of so many bits: it is as wide as the widest.
+fn as_widest(known: Option<Coded>, width: u64) -> Coded
+    ensures { result ≡ as_widest known width }
+{
+    match known {
+        Some(known) if width <= known.width => known,
+        _ => Coded { width, slot: None },
+    }
+}
+
+/// The identifiers that signals have. If two signals have one, the widest says how many bits there are.
 fn codes_of(alloc: Global, vars: &[Var]) -> Result<Codes, AllocError>
     ensures { IfOk result (λ codes. (code : List ℕ)
         → find_in codes code ≡ coded_in (map var_view vars.now) code) }
 {
     let mut codes = Codes::new(alloc);
     for var in vars {
-        if codes.find(&var.code).is_none() {
-            let coded = Coded {
-                width: var.width,
-                slot: None,
-            };
-            codes.put(alloc, &var.code, coded)?;
-        }
+        let coded = as_widest(codes.find(&var.code), var.width);
+        codes.put(alloc, &var.code, coded)?;
     }
     Ok(codes)
 }

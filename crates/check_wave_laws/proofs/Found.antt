@@ -18,7 +18,7 @@ use Rattle.check_signals.specs.Found.{LinkSources, NamedLink, NamesOf, asked_by,
 use Rattle.check_signals.specs.Names.{SignalName}
 use Rattle.check_signals.specs.Source.{WantedSignal, Changing, Constant, SearchFault, Kept, Source, Twice, alone, constant_of, digit_in, left_out, measured, missing, source_by, source_in, too_wide, unfound, width_of, within}
 use Rattle.check_signals.specs.Wanted.{bits_fit, count_of, may_be_absent, may_be_unfound, wanted_of}
-use Rattle.check_signals.specs.Wires.{Wire, first_of, places_in, sought, wire_at, wire_by, wire_of, wires, wires_called}
+use Rattle.check_signals.specs.Wires.{Wire, places_in, sought, wider, widest_from, widest_of, wire_at, wire_by, wire_of, wires, wires_called}
 use Rattle.check_signals.specs.declared.keys.TheConstants.{SIGNALS}
 use Rattle.check_signals.specs.declared.signal_fault.SignalOwner.{SignalOwner}
 use Rattle.check_signals.specs.declared.source.TheConstants.{MAX_WIDTH}
@@ -152,18 +152,37 @@ wire-fits name part var wire is = go (bytes_eq var.name name) part is
         subst WireFits same (omega arith, omega arith)
     go true (Some part) e = wire-at-fits var (option_and_then (λ span. places_in span part) var.span) wire e
 
-first-fits : (name : List ℕ) (part : Option Span) (vars : List Var) (wire : Wire)
-    → first_of (wires name part vars) ≡ Some wire → WireFits wire
-first-fits name part [] wire is = absurd (cc)
-first-fits name part (var ∷ vars) wire is =
-    go (wire_of name part var) refl (λ rest. first-fits name part vars wire rest) is
+wider-fits : (wire other : Wire) → WireFits wire → WireFits other → WireFits (wider wire other)
+wider-fits wire other one two = go (nat_lt wire.var.width other.var.width)
   where
-    go : (o : Option Wire) → wire_of name part var ≡ o → (first_of (wires name part vars) ≡ Some wire → WireFits wire)
-        → first_of (cons_option o (wires name part vars)) ≡ Some wire → WireFits wire
+    go : (t : Bool) → WireFits (cond t other wire)
+    go true = two
+    go false = one
+
+widest-from-fits : (name : List ℕ) (part : Option Span) (vars : List Var) (best : Wire) → WireFits best
+    → WireFits (widest_from best (wires name part vars))
+widest-from-fits name part [] best fits = fits
+widest-from-fits name part (var ∷ vars) best fits =
+    go (wire_of name part var) refl (λ other other_fits. widest-from-fits name part vars other other_fits)
+  where
+    go : (o : Option Wire) → wire_of name part var ≡ o
+        → ((other : Wire) → WireFits other → WireFits (widest_from other (wires name part vars)))
+        → WireFits (widest_from best (cons_option o (wires name part vars)))
+    go None x rest = rest best fits
+    go (Some found) x rest = rest (wider best found) (wider-fits best found fits (wire-fits name part var found x))
+
+widest-fits : (name : List ℕ) (part : Option Span) (vars : List Var) (wire : Wire)
+    → widest_of (wires name part vars) ≡ Some wire → WireFits wire
+widest-fits name part [] wire is = absurd (cc)
+widest-fits name part (var ∷ vars) wire is =
+    go (wire_of name part var) refl (λ rest. widest-fits name part vars wire rest) is
+  where
+    go : (o : Option Wire) → wire_of name part var ≡ o → (widest_of (wires name part vars) ≡ Some wire → WireFits wire)
+        → widest_of (cons_option o (wires name part vars)) ≡ Some wire → WireFits wire
     go None x others e = others e
     go (Some found) x others e =
-        let same : found ≡ wire = cc in
-        subst WireFits same (wire-fits name part var found x)
+        let same : widest_from found (wires name part vars) ≡ wire = cc in
+        subst WireFits same (widest-from-fits name part vars found (wire-fits name part var found x))
 
 within-fits : (vars : List Var) (asked : WantedSignal) (wire : Wire) (width : ℕ) (s : Source)
     → width ≡ width_of vars wire.var.code → WireFits wire → HasBits asked.wanted (wire.places.to - wire.places.from)
@@ -233,8 +252,8 @@ source-fits vars asked s some is =
         subst (SourceFits vars asked.wanted) same (constant-fits vars asked.wanted digit some)
     go None e =
         let looked = sought vars asked.name in
-        alone-fits vars asked (wires_called vars asked.name) (first_of (wires_called vars asked.name)) s
-        (λ wire is. first-fits looked.0 looked.1 vars wire is) e
+        alone-fits vars asked (wires_called vars asked.name) (widest_of (wires_called vars asked.name)) s
+        (λ wire is. widest-fits looked.0 looked.1 vars wire is) e
 
     absent : (m n : Bool) → may_be_absent asked.wanted ≡ m
         → cond (m && n) (Ok left_out) (source_by vars asked (digit_in asked.name)) ≡ Ok s

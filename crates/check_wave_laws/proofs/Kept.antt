@@ -1,5 +1,6 @@
 -- What is kept has the bits of all that is looked at.
-use Rattle.std.proofs.Common.{◌≡◌, ◌∙◌, ℕ, suc, ◌+◌, ◌-◌, ◌*◌, ◌<◌, ◌≤◌, ◌==◌, Bool, true, false, ◌||◌, cond, List, [], ◌∷◌, ◌++◌, length, get_or, map, replicate, Option, Some, None, Result, Ok, Err, arith, refl, sym, ap, subst, append_assoc, length-append}
+use Rattle.std.proofs.Common.{◌≡◌, ◌∙◌, ℕ, suc, ◌+◌, ◌-◌, ◌*◌, ◌<◌, ◌≤◌, ◌==◌, nat_lt, Bool, true, false, ◌||◌, cond, List, [], ◌∷◌, ◌++◌, length, get_or, map, replicate, Option, Some, None, Result, Ok, Err, arith, refl, sym, ap, subst, append_assoc, length-append}
+use Rattle.std.specs.Prelude.{⊤}
 use Rattle.std.specs.List.{cons_option}
 use Rattle.std.specs.Str.{bytes_eq}
 use Rattle.std.proofs.lemmas.Bool.Decides.{nat_tests}
@@ -10,7 +11,7 @@ use Rattle.check_beats.specs.declared.bus.Bus.{Bus}
 use Rattle.check_watch.specs.declared.beat.Link.{Link}
 use Rattle.check_rows.specs.Buses.{IsLinkOf, bus_of_link}
 use Rattle.check_vcd.specs.Body.{Find}
-use Rattle.check_vcd.specs.Codes.{coded_in}
+use Rattle.check_vcd.specs.Codes.{coded_from, coded_in, as_widest}
 use Rattle.check_vcd.specs.Dump.{with_slot}
 use Rattle.check_vcd.specs.Header.{Var}
 use Rattle.check_vcd.specs.declared.codes.Coded.{Coded}
@@ -313,17 +314,33 @@ record FindIs (vars : List Var) (widths : List ℕ) (find : Find) : Type 0 where
       → coded.width ≤ get_or widths slot 0
   width : (code : List ℕ) (coded : Coded) → find code ≡ Some coded → coded.width ≡ width_of vars code
 
-coded-none : (vars : List Var) (code : List ℕ) (coded : Coded) → coded_in vars code ≡ Some coded → coded.slot ≡ None
-coded-none [] code coded is = absurd (cc)
-coded-none (var ∷ vars) code coded is = go (bytes_eq var.code code) (λ rest. coded-none vars code coded rest) is
+-- an identifier has no slot, if it is known
+abbrev NoSlot : Option Coded → Type 0
+NoSlot None = ⊤
+NoSlot (Some coded) = coded.slot ≡ None
+
+widened-none : (known : Option Coded) (width : ℕ) → NoSlot known → NoSlot (Some (as_widest known width))
+widened-none None width none = refl
+widened-none (Some known) width none = go (nat_lt known.width width)
   where
-    go : (t : Bool) → (coded_in vars code ≡ Some coded → coded.slot ≡ None)
-        → cond t (Some (record { width = var.width; slot = None })) (coded_in vars code) ≡ Some coded
+    go : (t : Bool) → NoSlot (Some (cond t (record { width = width; slot = None }) known))
+    go true = refl
+    go false = none
+
+coded-none : (known : Option Coded) (vars : List Var) (code : List ℕ) (coded : Coded) → NoSlot known
+    → coded_from known vars code ≡ Some coded → coded.slot ≡ None
+coded-none known [] code coded none is = subst NoSlot is none
+coded-none known (var ∷ vars) code coded none is =
+    go (bytes_eq var.code code)
+    (λ rest. coded-none (Some (as_widest known var.width)) vars code coded (widened-none known var.width none) rest)
+    (λ rest. coded-none known vars code coded none rest) is
+  where
+    go : (t : Bool) → (coded_from (Some (as_widest known var.width)) vars code ≡ Some coded → coded.slot ≡ None)
+        → (coded_from known vars code ≡ Some coded → coded.slot ≡ None)
+        → cond t (coded_from (Some (as_widest known var.width)) vars code) (coded_from known vars code) ≡ Some coded
         → coded.slot ≡ None
-    go true rest e =
-        let made : Coded = record { width = var.width; slot = None } in
-        let same : made ≡ coded = cc in subst (λ (c : Coded). c.slot ≡ None) same refl
-    go false rest e = rest e
+    go true one two e = one e
+    go false one two e = two e
 
 one-fits : (vars : List Var) (widths : List ℕ) (value : Kept) (n : ℕ) (find : Find) → KeptFits vars value
     → get_or widths n 0 ≡ width_in value → FindIs vars widths find
@@ -379,7 +396,7 @@ find-fits vars kept fits code coded slot e s =
     all-slots vars (map width_in kept) kept 0 (coded_in vars) fits
     (λ k h. ap (λ (j : ℕ). get_or (map width_in kept) j 0) (omega arith))
     (record {
-      slot = λ other known at is has. absurd (cc (coded-none vars other known is));
+      slot = λ other known at is has. absurd (cc (coded-none None vars other known tt is));
       width = λ other known is. sym (ap width_by is);
     }) code coded slot e s
 
