@@ -3,6 +3,7 @@
 //! A put of four bytes is under way when a get of one of them begins, and the get is answered first. Then the source of
 //! the get asks for another byte, 6 after its reply.
 use crate::tests::files::Disk;
+use crate::tests::holds;
 use crate::tests::streams::{Drips, Trickle, Trouble};
 use check_description::Parts;
 use check_flight::Order;
@@ -164,8 +165,12 @@ fn is_judged(rt: &impl Abort, alloc: Global, row: &Judged) {
     let text = joined(rt, alloc, ROWS, end);
     let mut covered = joined(rt, alloc, HELD, b"");
     let answer = judge(alloc, parts, &text, options, &mut covered);
-    assert!(rt; is_answer(answer, *lawful));
-    assert!(rt; covered == joined(rt, alloc, HELD, added));
+    holds(rt, "the verdict", is_answer(answer, *lawful));
+    holds(
+        rt,
+        "what is covered",
+        covered == joined(rt, alloc, HELD, added),
+    );
 }
 
 #[test]
@@ -232,6 +237,6 @@ const DISK: Disk<'static> = Disk {
 fn what_was_covered_is_written_or_write_fails(rt: HostRuntime) {
     for (files, name, text, is_whole) in &WRITTEN {
         let answer = write_coverage(files, name, text);
-        assert!(rt; answer.is_ok() == *is_whole);
+        holds(&rt, "whether all is written", answer.is_ok() == *is_whole);
     }
 }

@@ -1,6 +1,7 @@
 //! What no clause of `check_waves` says: the lines and statuses of faults, and readers and writers that are slow or
 //! fail at each place.
 use crate::tests::ends::{End, Outcome, Run, fault, without_trouble};
+use crate::tests::holds;
 use crate::tests::streams::{Drips, Trickle, Trouble};
 use check_keys::SystemFault;
 use check_samples::{EdgeFault, Signal, UnknownBit};
@@ -247,8 +248,8 @@ const OF_REPLY: UnknownBit = UnknownBit {
 /// A fault has this line and this status.
 fn has_line(rt: &impl Abort, alloc: Global, fault: WaveFault, line: &str, status: u8) {
     let (text, found) = line_of(rt, alloc, &fault);
-    assert!(rt; text.as_str() == line);
-    assert!(rt; found == status);
+    holds(rt, line, text.as_str() == line);
+    holds(rt, line, found == status);
 }
 
 /// Edges at which no beats can be taken, and their lines.

@@ -1,4 +1,5 @@
 //! How a run of tlcheck or tlvcd ends.
+use super::holds;
 use super::streams::Trouble;
 use std::process::Abort;
 
@@ -52,12 +53,16 @@ pub(super) fn fault(line: &'static str, status: u8) -> End<'static> {
 impl Outcome {
     /// The outcome is this end.
     pub(super) fn is_end(&self, rt: &impl Abort, end: &End) {
-        assert!(rt; self.written.as_slice() == end.written);
+        holds(
+            rt,
+            "what is written",
+            self.written.as_slice() == end.written,
+        );
         match (&self.answer, &end.answer) {
-            (Ok(found), Ok(lawful)) => assert!(rt; found == lawful),
+            (Ok(found), Ok(lawful)) => holds(rt, "whether all is lawful", found == lawful),
             (Err((text, found)), Err((line, status))) => {
-                assert!(rt; text.as_str() == *line);
-                assert!(rt; found == status);
+                holds(rt, line, text.as_str() == *line);
+                holds(rt, line, found == status);
             }
             _ => panic!(rt; "a fault too many, or none"),
         }

@@ -1,4 +1,5 @@
 //! What stands on a terminal while a capture is read, and after something else is written there.
+use crate::tests::holds;
 use check_program::{Erasing, Meter, Shown};
 use std::alloc::Global;
 use std::cell::{Cell, RefCell};
@@ -43,11 +44,7 @@ impl Screen {
                 line.truncate(self.cursor.get());
                 skipped = 2;
             } else {
-                if let Some(place) = line.get_mut(self.cursor.get()) {
-                    *place = *byte;
-                } else {
-                    line.push(*byte)?;
-                }
+                put_sign(&mut line, self.cursor.get(), *byte)?;
                 self.cursor.set(self.cursor.get().saturating_add(1));
             }
         }
@@ -61,6 +58,15 @@ impl Screen {
             Err(_) => false,
         }
     }
+}
+
+/// Puts a sign in its place, or at the end.
+fn put_sign(line: &mut Vec<u8>, cursor: usize, sign: u8) -> io::Result<()> {
+    match line.get_mut(cursor) {
+        Some(place) => *place = sign,
+        None => line.push(sign)?,
+    }
+    Ok(())
 }
 
 impl Clock for Screen {
@@ -113,8 +119,14 @@ fn shown<'a>(rt: &impl Abort, screen: &'a Screen) -> Meter<'a, Screen> {
     meter.count(b"time,link\n");
     screen.millis.set(1_000);
     meter.count(ROWS);
-    assert!(rt; screen.shows("10 rows, 10 rows a second"));
+    holds(rt, "a line", screen.shows("10 rows, 10 rows a second"));
     meter
+}
+
+/// All of these bytes are written.
+fn writes(rt: &impl Abort, output: &mut impl Write, bytes: &[u8]) {
+    let count = output.write(bytes).expect(rt, "bytes");
+    holds(rt, "a write", count == bytes.len());
 }
 
 #[test]
@@ -123,7 +135,11 @@ fn a_shorter_line_leaves_no_tail(rt: HostRuntime) {
     let meter = shown(&rt, &screen);
     screen.millis.set(20_000);
     meter.count(ROWS);
-    assert!(rt; screen.shows("20 rows, 1 rows a second"));
+    holds(
+        &rt,
+        "a shorter line",
+        screen.shows("20 rows, 1 rows a second"),
+    );
 }
 
 #[test]
@@ -131,10 +147,16 @@ fn what_is_written_stands_alone(rt: HostRuntime) {
     let screen = Screen::new(rt.alloc());
     let meter = shown(&rt, &screen);
     let mut output = Erasing::new(Output { screen: &screen }, Some(&meter));
-    assert!(rt; output.write(b"unlaw").expect(&rt, "bytes") == 5);
-    assert!(rt; output.write(b"ful").expect(&rt, "bytes") == 3);
-    assert!(rt; output.flush().is_ok());
-    assert!(rt; screen.shows("unlawful"));
+    writes(&rt, &mut output, b"unlaw");
+    writes(&rt, &mut output, b"ful");
+    holds(&rt, "a flush", output.flush().is_ok());
+    holds(&rt, "a verdict", screen.shows("unlawful"));
+}
+
+/// A reader is at its end.
+fn ends(rt: &impl Abort, reader: &mut impl Read) {
+    let count = reader.read(&mut [0u8; 1]).expect(rt, "an end");
+    holds(rt, "an end", count == 0);
 }
 
 #[test]
@@ -142,10 +164,9 @@ fn a_line_is_erased_once(rt: HostRuntime) {
     let screen = Screen::new(rt.alloc());
     let meter = shown(&rt, &screen);
     meter.erase();
-    assert!(rt; screen.shows(""));
-    assert!(rt; screen.put(b"x\r").is_ok());
+    holds(&rt, "nothing", screen.shows(""));
+    holds(&rt, "a sign", screen.put(b"x\r").is_ok());
     meter.erase();
-    let mut capture = Shown::new(b"".as_slice(), Some(&meter));
-    assert!(rt; capture.read(&mut [0u8; 1]).expect(&rt, "an end") == 0);
-    assert!(rt; screen.shows("x"));
+    ends(&rt, &mut Shown::new(b"".as_slice(), Some(&meter)));
+    holds(&rt, "the sign", screen.shows("x"));
 }

@@ -1,9 +1,12 @@
 //! Files that fail, for the tests of programs: each can only be made and written.
 use crate::tests::streams::Trouble;
 use std::alloc::Allocator;
-use std::fs::{Metadata, OpenFile, OpenOptions};
+use std::fs::{Metadata, OpenFile, OpenOptions, Permissions};
 use std::io;
-use std::io::{ErrorKind, Read, Seek, SeekFrom, Write};
+use std::io::{ErrorKind, PipeReader, PipeWriter, Read, Seek, SeekFrom, Write};
+use std::os::fd::BorrowedFd;
+use std::os::unix::net::SocketAddr;
+use std::path::PathBuf;
 use std::rt::Files;
 
 /// Files of a system: each that is made wants the same bytes, and its writes have trouble.
@@ -128,6 +131,47 @@ impl<'a> Files for Disk<'a> {
     }
 
     fn remove_dir_all<B: Allocator>(&self, _alloc: B, _path: &str) -> io::Result<()> {
+        unsupported()
+    }
+
+    // What follows would be unsupported without these lines too. With them it is cheaper to prove.
+    fn canonicalize<B: Allocator>(&self, _alloc: B, _path: &str) -> io::Result<PathBuf<B>> {
+        unsupported()
+    }
+
+    fn read_link<B: Allocator>(&self, _alloc: B, _path: &str) -> io::Result<PathBuf<B>> {
+        unsupported()
+    }
+
+    fn hard_link(&self, _original: &str, _link: &str) -> io::Result<()> {
+        unsupported()
+    }
+
+    fn set_permissions(&self, _path: &str, _perm: Permissions) -> io::Result<()> {
+        unsupported()
+    }
+
+    fn symlink(&self, _original: &str, _link: &str) -> io::Result<()> {
+        unsupported()
+    }
+
+    fn pipe(&self) -> io::Result<(PipeReader, PipeWriter)> {
+        unsupported()
+    }
+
+    fn chown(&self, _path: &str, _uid: Option<u32>, _gid: Option<u32>) -> io::Result<()> {
+        unsupported()
+    }
+
+    fn lchown(&self, _path: &str, _uid: Option<u32>, _gid: Option<u32>) -> io::Result<()> {
+        unsupported()
+    }
+
+    fn create_dir_with_mode(&self, _path: &str, _mode: u32) -> io::Result<()> {
+        unsupported()
+    }
+
+    fn bind_unix(&self, _socket: BorrowedFd<'_>, _addr: &SocketAddr) -> io::Result<()> {
         unsupported()
     }
 }

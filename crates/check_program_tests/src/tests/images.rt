@@ -1,4 +1,5 @@
 //! The images of ports, of files that tell what they hold.
+use crate::tests::holds;
 use check_description::{Parts, read_parts};
 use check_program::{ImageFiles, read_images};
 use std::alloc::Global;
@@ -54,6 +55,12 @@ fn parts(rt: &impl Abort, alloc: Global) -> Parts {
     read_parts(alloc, SYSTEM).ok().expect(rt, "a system")
 }
 
+/// A port's image has these bytes.
+fn has_image(rt: &impl Abort, images: &[Vec<u8>], port: usize, bytes: &[u8]) {
+    let image = images.get(port).expect(rt, "an image");
+    holds(rt, "an image", image.as_slice() == bytes);
+}
+
 #[test]
 fn each_port_has_the_bytes_of_its_file(rt: HostRuntime) {
     let folder = Folder {
@@ -64,7 +71,7 @@ fn each_port_has_the_bytes_of_its_file(rt: HostRuntime) {
     let images = read_images(rt.alloc(), &folder, "/a/system.toml", &parts);
     let images = images.ok().expect(&rt, "images");
     assert!(rt; images.len() == 3);
-    for (image, bytes) in images.iter().zip([b"boot".as_slice(), b"", b"boot"]) {
-        assert!(rt; image.as_slice() == bytes);
-    }
+    has_image(&rt, &images, 0, b"boot");
+    has_image(&rt, &images, 1, b"");
+    has_image(&rt, &images, 2, b"boot");
 }

@@ -1,7 +1,10 @@
 //! The command line, row by row.
+use crate::tests::holds;
 use check_flight::Order;
 use check_options::{CheckOptions, read_check_options};
 use check_sides::Links;
+use std::alloc::Global;
+use std::process::Abort;
 use tl_cli::line_status;
 
 /// The options of a command line that has a system alone.
@@ -118,11 +121,16 @@ static LINES: [(&[&str], CheckOptions<'static>); 14] = [
     ),
 ];
 
+/// The words ask for these options.
+fn ask_for(rt: &impl Abort, alloc: Global, words: &[&str], wanted: &CheckOptions) {
+    let options = read_check_options(alloc, words).expect(rt, "options");
+    holds(rt, "the options", options == *wanted);
+}
+
 #[test]
 fn words_give_options(rt: HostRuntime) {
     for (words, wanted) in &LINES {
-        let options = read_check_options(rt.alloc(), words).expect(&rt, "options");
-        assert!(rt; options == *wanted);
+        ask_for(&rt, rt.alloc(), words, wanted);
     }
 }
 
@@ -147,12 +155,15 @@ static OTHERS: [(&[&str], u8); 17] = [
     (&["tlcheck", "--help"], 0),
 ];
 
+/// The words end the program with this status.
+fn end_with(rt: &impl Abort, alloc: Global, words: &[&str], status: u8) {
+    let error = read_check_options(alloc, words).err().expect(rt, "options");
+    holds(rt, "the status", line_status(&error) == status);
+}
+
 #[test]
 fn other_words_have_a_status(rt: HostRuntime) {
     for (words, status) in &OTHERS {
-        match read_check_options(rt.alloc(), words) {
-            Ok(_) => panic!(&rt; "options"),
-            Err(error) => assert!(rt; line_status(&error) == *status),
-        }
+        end_with(&rt, rt.alloc(), words, *status);
     }
 }

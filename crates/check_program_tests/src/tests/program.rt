@@ -3,6 +3,7 @@
 ghost use Rattle.std.specs.Prelude.{◌<◌};
 
 use crate::tests::ends::{End, Outcome, Run, fault, without_trouble};
+use crate::tests::holds;
 use crate::tests::streams::{Drips, Trickle, Trouble};
 use check_description::Parts;
 use check_flight::Order;
@@ -85,7 +86,7 @@ fn expect(rt: &impl Abort, alloc: Global, run: &Run, end: &End) {
         Ok(lawful) => Ok(lawful),
         Err(fault) => Err(line_of(rt, alloc, &fault)),
     };
-    assert!(rt; covered.is_empty());
+    holds(rt, "nothing is covered", covered.is_empty());
     let outcome = Outcome {
         answer,
         written: writer.held,
@@ -253,8 +254,8 @@ fn a_failed_write_is_write(rt: HostRuntime) {
 /// A fault has this line and this status.
 fn has_line(rt: &impl Abort, alloc: Global, fault: CheckFault, line: &str, status: u8) {
     let (text, found) = line_of(rt, alloc, &fault);
-    assert!(rt; text.as_str() == line);
-    assert!(rt; found == status);
+    holds(rt, line, text.as_str() == line);
+    holds(rt, line, found == status);
 }
 
 #[test]
@@ -332,10 +333,9 @@ fn image_of(
 fn is_image(rt: &impl Abort, alloc: Global, parts: &Parts, bytes: &[u8]) {
     for trouble in &[Trouble::Never, Trouble::BeforeEach] {
         let file = Trickle::new(bytes, *trouble);
-        match image_of(rt, alloc, parts, file) {
-            Ok(image) => assert!(rt; image.as_slice() == bytes),
-            Err(_) => panic!(rt; "no image"),
-        }
+        let image = image_of(rt, alloc, parts, file).ok();
+        let image = image.expect(rt, "no image");
+        holds(rt, "an image", image.as_slice() == bytes);
     }
 }
 
@@ -380,13 +380,10 @@ static NO_IMAGES: [(&[u8], Trouble, &str); 5] = [
 
 /// A file is refused by this line.
 fn is_refused(rt: &impl Abort, alloc: Global, parts: &Parts, file: Trickle, line: &str) {
-    match image_of(rt, alloc, parts, file) {
-        Ok(_) => panic!(rt; "an image"),
-        Err((text, status)) => {
-            assert!(rt; text.as_str() == line);
-            assert!(rt; status == 1);
-        }
-    }
+    let refused = image_of(rt, alloc, parts, file).err();
+    let (text, status) = refused.expect(rt, "an image");
+    holds(rt, line, text.as_str() == line);
+    holds(rt, line, status == 1);
 }
 
 #[test]

@@ -1,4 +1,5 @@
 //! The progress of a capture: when its lines come, and what they are.
+use crate::tests::holds;
 use check_program::{Line, Meter, Shown};
 use std::alloc::Global;
 use std::cell::{Cell, RefCell};
@@ -92,12 +93,16 @@ fn prints(alloc: Global, moments: &[Moment]) -> bool {
 
 #[test]
 fn a_line_comes_after_a_second_and_then_every_half(rt: HostRuntime) {
-    assert!(rt; prints(rt.alloc(), &LONG));
+    holds(&rt, "a long capture", prints(rt.alloc(), &LONG));
 }
 
 #[test]
 fn nothing_is_printed_of_a_short_capture(rt: HostRuntime) {
-    assert!(rt; prints(rt.alloc(), &[(0, b"time,link\n1\n", ""), (5_000, b"", "")]));
+    holds(
+        &rt,
+        "a short capture",
+        prints(rt.alloc(), &[(0, b"time,link\n1\n", ""), (5_000, b"", "")]),
+    );
 }
 
 /// A line, and how it is spelled.
@@ -163,13 +168,17 @@ static LINES: [(Line, &str); 6] = [
 fn lines_are_spelled(rt: HostRuntime) {
     for (line, spelled) in &LINES {
         let text = line.to_string(rt.alloc()).expect(&rt, "memory");
-        assert!(rt; text.as_str() == *spelled);
+        holds(&rt, spelled, text.as_str() == *spelled);
     }
 }
 
 /// So many bytes are read.
 fn take(rt: &impl Abort, reader: &mut impl Read, buffer: &mut [u8], count: usize) {
-    assert!(rt; reader.read(buffer).expect(rt, "bytes") == count);
+    holds(
+        rt,
+        "bytes",
+        reader.read(buffer).expect(rt, "bytes") == count,
+    );
 }
 
 #[test]
@@ -180,9 +189,13 @@ fn what_is_read_is_handed_on(rt: HostRuntime) {
     let mut buffer = [0u8; 3];
     desk.millis.set(2_000);
     take(&rt, &mut shown, &mut buffer, 3);
-    assert!(rt; buffer == *b"123");
-    assert!(rt; desk.has_said("0 rows, 0 rows a second, 60 %\u{1b}[K\r"));
+    holds(&rt, "the bytes", buffer == *b"123");
+    holds(
+        &rt,
+        "a line",
+        desk.has_said("0 rows, 0 rows a second, 60 %\u{1b}[K\r"),
+    );
     take(&rt, &mut shown, &mut buffer, 2);
     take(&rt, &mut shown, &mut buffer, 0);
-    assert!(rt; desk.has_said("\u{1b}[K"));
+    holds(&rt, "no line", desk.has_said("\u{1b}[K"));
 }

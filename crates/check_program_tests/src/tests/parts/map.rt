@@ -3,6 +3,7 @@ ghost use Rattle.std.specs.Prelude.{◌↔◌, IsTrue, ◌≡◌, ◌<◌, true,
 ghost use Rattle.tl_map.specs.Map.{AreRanges, IsLawfulRange, lists_in};
 ghost use Rattle.check_program_tests.specs.Port.{IsPort};
 
+use crate::tests::holds;
 use std::alloc::Global;
 use std::process::Abort;
 use tl_map::{AddressMap, AddressMapFault, MAX_JUDGED_PORTS, MAX_RANGES_OF_PORT, Range};
@@ -134,13 +135,13 @@ static ROUTES: [(u64, u8, usize); 20] = [
 /// A request of this size at this address goes to this port.
 fn is_routed(rt: &impl Abort, map: &AddressMap, address: u64, size: u8, wanted: usize) {
     let ask = Ask::new(AskOp::Get, size, 0, address, &[]).expect(rt, "a request");
-    assert!(rt; map.route(&ask) == wanted);
+    holds(rt, "a port", map.route(&ask) == wanted);
 }
 
 #[test]
 fn bytes_go_to_the_port_one_of_whose_ranges_holds_them_all(rt: HostRuntime) {
     let map = map_of(&rt, rt.alloc(), &SYSTEM);
-    assert!(rt; map.ports() == 4);
+    holds(&rt, "ports", map.ports() == 4);
     for (address, size, wanted) in &ROUTES {
         is_routed(&rt, &map, *address, *size, *wanted);
     }
@@ -149,8 +150,8 @@ fn bytes_go_to_the_port_one_of_whose_ranges_holds_them_all(rt: HostRuntime) {
 #[test]
 fn a_map_may_have_no_port(rt: HostRuntime) {
     let map = map_of(&rt, rt.alloc(), &[]);
-    assert!(rt; map.ports() == 1);
-    assert!(rt; map.route_bytes(0, 0) == 0);
+    holds(&rt, "ports", map.ports() == 1);
+    holds(&rt, "no port", map.route_bytes(0, 0) == 0);
 }
 
 #[test]
@@ -158,7 +159,7 @@ fn ports_keep_their_ranges_in_order(rt: HostRuntime) {
     let map = map_of(&rt, rt.alloc(), &SYSTEM);
     for port in 0..3 {
         assert!(rt; port + 1 < map.ports());
-        assert!(rt; map.ranges(port) == SYSTEM[port]);
+        holds(&rt, "ranges", map.ranges(port) == SYSTEM[port]);
     }
 }
 
@@ -205,9 +206,17 @@ static OVERLAPS: [(&[&[Range]], usize, usize); 9] = [
 fn ranges_have_a_first_fault(rt: HostRuntime) {
     for (ports, one, other) in &OVERLAPS {
         let wanted = Some(AddressMapFault::Overlap(*one, *other));
-        assert!(rt; fault_of(&rt, rt.alloc(), ports) == wanted);
+        holds(
+            &rt,
+            "an overlap",
+            fault_of(&rt, rt.alloc(), ports) == wanted,
+        );
     }
-    assert!(rt; fault_of(&rt, rt.alloc(), &[&[RAM], &[NEXT], &[FAR]]) == None);
+    holds(
+        &rt,
+        "no overlap",
+        fault_of(&rt, rt.alloc(), &[&[RAM], &[NEXT], &[FAR]]) == None,
+    );
 }
 
 /// A port's first range: those of later ports stand at lower addresses.
@@ -243,17 +252,29 @@ fn look_up(rt: &impl Abort, map: &AddressMap, range: Range, port: u64) {
     assert!(rt;
         0 < range.base && range.base <= 1 << 40 && 0 < range.length && range.length <= 1 << 20
     );
-    assert!(rt; map.route_bytes(range.base, 0) as u64 == port);
-    assert!(rt; map.route_bytes(range.base + range.length - 1, 0) as u64 == port);
-    assert!(rt; map.route_bytes(range.base - 1, 0) == 255);
-    assert!(rt; map.route_bytes(range.base + range.length, 0) == 255);
+    holds(
+        rt,
+        "the first byte",
+        map.route_bytes(range.base, 0) as u64 == port,
+    );
+    holds(
+        rt,
+        "the last byte",
+        map.route_bytes(range.base + range.length - 1, 0) as u64 == port,
+    );
+    holds(rt, "before it", map.route_bytes(range.base - 1, 0) == 255);
+    holds(
+        rt,
+        "after it",
+        map.route_bytes(range.base + range.length, 0) == 255,
+    );
 }
 
 #[test]
 fn a_port_is_found_among_255_with_300_ranges(rt: HostRuntime) {
     let ports = many_ranges(&rt, rt.alloc());
     let map = made(&rt, rt.alloc(), &ports).expect(&rt, "a map");
-    assert!(rt; map.ports() == 256);
+    holds(&rt, "ports", map.ports() == 256);
     for port in 0..255 {
         look_up(&rt, &map, low_range(port), port);
         if port < 45 {
@@ -270,10 +291,14 @@ fn a_port_may_have_sixteen_ranges(rt: HostRuntime) {
     }
     let map = map_of(&rt, rt.alloc(), &[&ranges, &[range(1016, 8)]]);
     for place in 0..MAX_RANGES_OF_PORT as u64 {
-        assert!(rt; map.route_bytes(1000 - 32 * place, 4) == 0);
-        assert!(rt; map.route_bytes(999 - 32 * place, 0) == 2);
+        holds(&rt, "a range", map.route_bytes(1000 - 32 * place, 4) == 0);
+        holds(
+            &rt,
+            "between ranges",
+            map.route_bytes(999 - 32 * place, 0) == 2,
+        );
     }
-    assert!(rt; map.route_bytes(1016, 3) == 1);
+    holds(&rt, "the next port", map.route_bytes(1016, 3) == 1);
 }
 
 static TEXTS: [(AddressMapFault, &str); 2] = [
@@ -285,6 +310,6 @@ static TEXTS: [(AddressMapFault, &str); 2] = [
 fn faults_have_their_texts(rt: HostRuntime) {
     for (fault, wanted) in &TEXTS {
         let text = format!(in rt.alloc(); "{fault}").expect(&rt, "memory");
-        assert!(rt; text.as_str() == *wanted);
+        holds(&rt, wanted, text.as_str() == *wanted);
     }
 }

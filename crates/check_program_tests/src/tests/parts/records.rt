@@ -1,6 +1,7 @@
 //! Texts with the records and lines that they have, worked out by hand; and readers that give a text bit by bit.
 ghost use Rattle.std.specs.Prelude.{◌<◌, Some};
 
+use crate::tests::holds;
 use check_records::{RecordFault, Records};
 use std::alloc::Global;
 use std::io;
@@ -160,8 +161,12 @@ static TEXTS: [(&[u8], &str); 22] = [
 /// A text is listed so.
 fn is_listed(rt: &impl Abort, alloc: Global, reader: Trickle, in_place: bool, records: &str) {
     let mut text = String::new(alloc);
-    assert!(rt; list(rt, &mut text, alloc, reader, in_place) == None);
-    assert!(rt; text.as_str() == records);
+    holds(
+        rt,
+        "no fault",
+        list(rt, &mut text, alloc, reader, in_place) == None,
+    );
+    holds(rt, "records", text.as_str() == records);
 }
 
 /// A text has these records, read whole, in parts of each size, and byte by byte with interruptions. So each record,
@@ -206,7 +211,7 @@ fn reads(
     answers: &[Result<bool, RecordFault>],
 ) {
     for answer in answers {
-        assert!(rt; read_next(records, in_place) == *answer);
+        holds(rt, "an answer", read_next(records, in_place) == *answer);
     }
 }
 
@@ -214,7 +219,7 @@ fn reads(
 fn behind_the_first<'t>(rt: &impl Abort, alloc: Global, text: &'t [u8]) -> Records<Trickle<'t>> {
     let mut records = Records::new(alloc, whole(text)).expect(rt, "memory");
     reads(rt, &mut records, false, &[Ok(true)]);
-    assert!(rt; records.line() == 1);
+    holds(rt, "its line", records.line() == 1);
     records
 }
 
@@ -222,7 +227,8 @@ fn behind_the_first<'t>(rt: &impl Abort, alloc: Global, text: &'t [u8]) -> Recor
 fn is_read(rt: &impl Abort, alloc: Global, text: &[u8], size: usize) {
     let mut records = behind_the_first(rt, alloc, text);
     reads(rt, &mut records, false, &[Ok(true)]);
-    assert!(rt; (records.line(), records.columns().as_slice().len()) == (3, size));
+    holds(rt, "its line", records.line() == 3);
+    holds(rt, "its length", records.columns().as_slice().len() == size);
     reads(rt, &mut records, false, &[Ok(false)]);
 }
 
@@ -266,8 +272,9 @@ fn comma_text(rt: &impl Abort, alloc: Global, count: usize) -> Vec<u8> {
 fn is_left(rt: &impl Abort, alloc: Global, text: &[u8], size: usize) {
     let mut records = behind_the_first(rt, alloc, text);
     reads(rt, &mut records, true, &[Ok(true)]);
-    assert!(rt; records.line() == 3);
-    assert!(rt; records.bare().expect(rt, "not in place").len() == size);
+    holds(rt, "its line", records.line() == 3);
+    let length = records.bare().expect(rt, "not in place").len();
+    holds(rt, "its length", length == size);
     reads(rt, &mut records, true, &[Ok(false)]);
 }
 
@@ -291,12 +298,16 @@ fn commas_count_as_bytes(rt: HostRuntime) {
 fn is_long(rt: &impl Abort, alloc: Global, text: &[u8], longer: &[u8], step: usize) {
     let mut records = String::new(alloc);
     let reader = reader_of(text, step.max(1), 0, 0);
-    assert!(rt; list(rt, &mut records, alloc, reader, false) == None);
+    holds(
+        rt,
+        "no fault",
+        list(rt, &mut records, alloc, reader, false) == None,
+    );
     // line 1 is `1:|a`; line 3 is `3:` and a bar before each of its 4,097 fields; each ends in a line feed
-    assert!(rt; records.len() == 5 + 2 + 4097 + 1);
+    holds(rt, "its length", records.len() == 5 + 2 + 4097 + 1);
     let reader = reader_of(longer, step.max(1), 0, 0);
     let refused = list(rt, &mut records, alloc, reader, false);
-    assert!(rt; refused == Some(RecordFault::TooLong(3)));
+    holds(rt, "too long", refused == Some(RecordFault::TooLong(3)));
 }
 
 #[test]
@@ -310,7 +321,11 @@ fn a_record_may_be_long_over_many_reads(rt: HostRuntime) {
 
 fn fails(rt: &impl Abort, alloc: Global, reader: Trickle) {
     let mut text = String::new(alloc);
-    assert!(rt; list(rt, &mut text, alloc, reader, false) == Some(RecordFault::Read));
+    holds(
+        rt,
+        "a failed read",
+        list(rt, &mut text, alloc, reader, false) == Some(RecordFault::Read),
+    );
 }
 
 #[test]

@@ -2,6 +2,7 @@
 //! that each request may be refused in turn (`rt try --test --fail-alloc N`): the answer is the right one, or that
 //! memory was refused.
 use super::map::made;
+use crate::tests::holds;
 use std::alloc::{AllocError, Global};
 use tl_map::{AddressMapFault, Owner, Range, SourceOwnerFault, SourceOwners, blocks};
 
@@ -22,10 +23,10 @@ static OWNERS: [Owner; 2] = [
 fn sources_are_made_or_memory_is_refused(rt: HostRuntime) {
     match SourceOwners::new(rt.alloc(), &OWNERS) {
         Ok(sources) => {
-            assert!(rt; sources.owner(10) == Some((0, 2)));
-            assert!(rt; sources.wides() == 11);
+            holds(&rt, "an owner", sources.owner(10) == Some((0, 2)));
+            holds(&rt, "sources", sources.wides() == 11);
         }
-        Err(fault) => assert!(rt; fault == SourceOwnerFault::Memory),
+        Err(fault) => holds(&rt, "memory", fault == SourceOwnerFault::Memory),
     }
 }
 
@@ -40,7 +41,7 @@ fn blocks_are_made_or_memory_is_refused(rt: HostRuntime) {
                     stride: 1,
                 })
         ),
-        Err(fault) => assert!(rt; fault == SourceOwnerFault::Memory),
+        Err(fault) => holds(&rt, "memory", fault == SourceOwnerFault::Memory),
     }
 }
 
@@ -71,10 +72,10 @@ fn a_map_is_made_or_memory_is_refused(rt: HostRuntime) {
     };
     match made(&rt, rt.alloc(), &ports) {
         Ok(map) => {
-            assert!(rt; map.ports() == 3);
-            assert!(rt; map.route_bytes(79, 0) == 0);
-            assert!(rt; map.route_bytes(80, 0) == 2);
+            holds(&rt, "ports", map.ports() == 3);
+            holds(&rt, "a port", map.route_bytes(79, 0) == 0);
+            holds(&rt, "no port", map.route_bytes(80, 0) == 2);
         }
-        Err(fault) => assert!(rt; fault == AddressMapFault::Memory),
+        Err(fault) => holds(&rt, "memory", fault == AddressMapFault::Memory),
     }
 }

@@ -1,4 +1,5 @@
 //! The sources of masters.
+use crate::tests::holds;
 use std::alloc::Global;
 use std::process::Abort;
 use tl_map::{Owner, SourceOwnerFault, SourceOwners, blocks};
@@ -63,9 +64,13 @@ static WIDENED: [(&[Owner], usize, u16, u16); 8] = [
 
 /// A master's source is this wide one, and this is its owner.
 fn is_widened(rt: &impl Abort, sources: &SourceOwners, master: usize, source: u16, wide: u16) {
-    assert!(rt; sources.widen(master, source) == Some(wide));
-    assert!(rt; sources.owner(wide) == Some((master, source)));
-    assert!(rt; sources.is_owned(wide));
+    holds(rt, "widened", sources.widen(master, source) == Some(wide));
+    holds(
+        rt,
+        "its owner",
+        sources.owner(wide) == Some((master, source)),
+    );
+    holds(rt, "owned", sources.is_owned(wide));
 }
 
 /// The sources of these owners.
@@ -83,15 +88,15 @@ fn sources_are_widened_and_owned(rt: HostRuntime) {
 
 /// A wide source has no owner.
 fn is_nobodys(rt: &impl Abort, sources: &SourceOwners, wide: u16) {
-    assert!(rt; sources.owner(wide) == None);
-    assert!(rt; !sources.is_owned(wide));
+    holds(rt, "no owner", sources.owner(wide) == None);
+    holds(rt, "not owned", !sources.is_owned(wide));
 }
 
 #[test]
 fn other_sources_are_nobodys(rt: HostRuntime) {
     let hosts = sources_of(&rt, rt.alloc(), &HOSTS);
     for (master, source) in [(0, 4), (1, 2), (2, 3), (3, 0)] {
-        assert!(rt; hosts.widen(master, source) == None);
+        holds(&rt, "no source", hosts.widen(master, source) == None);
     }
     for wide in [3, 7, 9, 13, 14, 65_535] {
         is_nobodys(&rt, &hosts, wide);
@@ -101,11 +106,15 @@ fn other_sources_are_nobodys(rt: HostRuntime) {
 #[test]
 fn masters_and_wide_sources_are_counted(rt: HostRuntime) {
     let hosts = sources_of(&rt, rt.alloc(), &HOSTS);
-    assert!(rt; hosts.masters() == 3);
-    assert!(rt; hosts.at(1) == Some(owner(1, 2, 4)));
-    assert!(rt; hosts.at(3) == None);
-    assert!(rt; hosts.wides() == 13);
-    assert!(rt; sources_of(&rt, rt.alloc(), &CLIENTS).wides() == 65_536);
+    holds(&rt, "masters", hosts.masters() == 3);
+    holds(&rt, "an owner", hosts.at(1) == Some(owner(1, 2, 4)));
+    holds(&rt, "no owner", hosts.at(3) == None);
+    holds(&rt, "sources", hosts.wides() == 13);
+    holds(
+        &rt,
+        "sources",
+        sources_of(&rt, rt.alloc(), &CLIENTS).wides() == 65_536,
+    );
 }
 
 /// The first source, the count and the stride of a master.
@@ -153,7 +162,7 @@ fn fault_of(rt: &impl Abort, alloc: Global, blocks: &[Block]) -> Option<SourceOw
 #[test]
 fn owners_have_a_first_fault(rt: HostRuntime) {
     for (blocks, wanted) in &FAULTS {
-        assert!(rt; fault_of(&rt, rt.alloc(), blocks) == *wanted);
+        holds(&rt, "a fault", fault_of(&rt, rt.alloc(), blocks) == *wanted);
     }
 }
 
@@ -170,7 +179,7 @@ static TEXTS: [(SourceOwnerFault, &str); 3] = [
 fn faults_have_their_texts(rt: HostRuntime) {
     for (fault, wanted) in &TEXTS {
         let text = format!(in rt.alloc(); "{fault}").expect(&rt, "memory");
-        assert!(rt; text.as_str() == *wanted);
+        holds(&rt, wanted, text.as_str() == *wanted);
     }
 }
 
@@ -187,11 +196,15 @@ fn in_a_row(rt: &impl Abort, alloc: Global, masters: u16) -> Vec<Owner> {
 #[test]
 fn sixty_four_masters_and_no_more(rt: HostRuntime) {
     let sources = sources_of(&rt, rt.alloc(), &in_a_row(&rt, rt.alloc(), 64));
-    assert!(rt; sources.widen(63, 15) == Some(1023));
-    assert!(rt; sources.owner(1008) == Some((63, 0)));
-    assert!(rt; sources.wides() == 1024);
+    holds(&rt, "widened", sources.widen(63, 15) == Some(1023));
+    holds(&rt, "its owner", sources.owner(1008) == Some((63, 0)));
+    holds(&rt, "sources", sources.wides() == 1024);
     let owners = in_a_row(&rt, rt.alloc(), 65);
-    assert!(rt; SourceOwners::new(rt.alloc(), &owners).err() == TOO_MANY);
+    holds(
+        &rt,
+        "too many",
+        SourceOwners::new(rt.alloc(), &owners).err() == TOO_MANY,
+    );
 }
 
 /// Counts of sources, the number of a master, and its block, if it has one.
@@ -253,7 +266,11 @@ fn block(rt: &impl Abort, alloc: Global, counts: &[u32], master: usize) -> Optio
 #[test]
 fn counts_alone_make_blocks(rt: HostRuntime) {
     for (counts, master, wanted) in &BLOCKS {
-        assert!(rt; block(&rt, rt.alloc(), counts, *master) == *wanted);
+        holds(
+            &rt,
+            "a block",
+            block(&rt, rt.alloc(), counts, *master) == *wanted,
+        );
     }
 }
 
@@ -262,6 +279,10 @@ static REFUSED: [&[u32]; 4] = [&[0], &[257], &[1, 0], &[1; 65]];
 #[test]
 fn other_counts_make_no_blocks(rt: HostRuntime) {
     for counts in &REFUSED {
-        assert!(rt; blocks(rt.alloc(), counts).err() == TOO_MANY);
+        holds(
+            &rt,
+            "too many",
+            blocks(rt.alloc(), counts).err() == TOO_MANY,
+        );
     }
 }

@@ -1,6 +1,7 @@
 //! Dumps whose bytes come a few at a time, with interruptions, or not at all, and dumps if memory is refused.
 //!
 //! `examples/waves` has dumps with their rows and their faults.
+use crate::tests::holds;
 use check_beats::Bus;
 use check_rows::Buses;
 use check_samples::{Progress, Rows, RowsFault, Sampler};
@@ -48,6 +49,22 @@ fn reader_of(text: &[u8], step: usize) -> Trickle<'_> {
     }
 }
 
+/// Appends the rows that are to come of a dump, up to its end or a fault.
+fn read_rest(
+    rt: &impl Abort,
+    rows: &mut Rows<Trickle<'_>>,
+    text: &mut Vec<u8>,
+) -> Result<(), RowsFault> {
+    for _ in 0..u32::MAX {
+        match rows.read(text) {
+            Ok(Progress::More) => {}
+            Ok(Progress::Over) | Err(RowsFault::Edges(_)) => return Ok(()),
+            Err(fault) => return Err(fault),
+        }
+    }
+    panic!(rt; "no end")
+}
+
 /// The rows that are to come of a dump, or why there are none.
 fn rest_of(
     rt: &impl Abort,
@@ -55,39 +72,57 @@ fn rest_of(
     mut rows: Rows<Trickle<'_>>,
 ) -> Result<Vec<u8>, RowsFault> {
     let mut text = Vec::new(alloc);
-    for _ in 0..u32::MAX {
-        match rows.read(&mut text) {
-            Ok(Progress::More) => {}
-            Ok(Progress::Over) | Err(RowsFault::Edges(_)) => return Ok(text),
-            Err(fault) => return Err(fault),
+    match read_rest(rt, &mut rows, &mut text) {
+        Ok(()) => Ok(text),
+        Err(fault) => Err(fault),
+    }
+}
+
+/// A dump that is not opened: a read failed, or memory was refused.
+fn fault_of(rt: &impl Abort, fault: DumpFault) -> RowsFault {
+    match fault {
+        DumpFault::Read => RowsFault::Read,
+        DumpFault::Memory => RowsFault::Memory,
+        DumpFault::At(..) => panic!(rt; "no dump"),
+    }
+}
+
+/// Whether the values of these identifiers are kept, each in the slot of its place.
+fn keeps_all(alloc: Global, dump: &mut Dump<Trickle<'_>>, codes: &[Option<Vec<u8>>]) -> bool {
+    for (slot, code) in codes.iter().enumerate() {
+        if let Some(code) = code
+            && dump.keep(alloc, code, slot).is_err()
+        {
+            return false;
         }
     }
-    panic!(rt; "no end")
+    true
+}
+
+/// The rows of a dump with these variables.
+fn rows_with(
+    rt: &impl Abort,
+    alloc: Global,
+    vars: &[Var],
+    mut dump: Dump<Trickle<'_>>,
+) -> Result<Vec<u8>, RowsFault> {
+    let Some(resolved) = resolved_of(rt, alloc, vars) else {
+        return Err(RowsFault::Memory);
+    };
+    if !keeps_all(alloc, &mut dump, &resolved.codes) {
+        return Err(RowsFault::Memory);
+    }
+    let sampler = Sampler::new(resolved.probes, resolved.values);
+    rest_of(rt, alloc, Rows::new(dump, sampler))
 }
 
 /// The rows of the dump that a reader gives, for a master whose link has eight bytes, or that a read failed, or that memory
 /// was refused in some layer.
 fn rows_of(rt: &impl Abort, alloc: Global, reader: Trickle<'_>) -> Result<Vec<u8>, RowsFault> {
-    let (vars, mut dump) = match Dump::open(alloc, reader) {
-        Ok(pair) => pair,
-        Err(DumpFault::Read) => return Err(RowsFault::Read),
-        Err(fault) => {
-            assert!(rt; fault == DumpFault::Memory);
-            return Err(RowsFault::Memory);
-        }
-    };
-    let Some(resolved) = resolved_of(rt, alloc, &vars) else {
-        return Err(RowsFault::Memory);
-    };
-    for (slot, code) in resolved.codes.iter().enumerate() {
-        if let Some(code) = code
-            && dump.keep(alloc, code, slot).is_err()
-        {
-            return Err(RowsFault::Memory);
-        }
+    match Dump::open(alloc, reader) {
+        Ok((vars, dump)) => rows_with(rt, alloc, &vars, dump),
+        Err(fault) => Err(fault_of(rt, fault)),
     }
-    let sampler = Sampler::new(resolved.probes, resolved.values);
-    rest_of(rt, alloc, Rows::new(dump, sampler))
 }
 
 /// The signals of the master among these variables, if memory was not refused.
@@ -100,14 +135,14 @@ fn resolved_of(rt: &impl Abort, alloc: Global, vars: &[Var]) -> Option<Resolved>
     let names = match read_names(alloc, SYSTEM) {
         Ok(names) => names,
         Err(fault) => {
-            assert!(rt; fault == KeyFault::Memory);
+            holds(rt, "memory", fault == KeyFault::Memory);
             return None;
         }
     };
     match find_signals(alloc, &buses, &names, vars) {
         Ok(resolved) => Some(resolved),
         Err(fault) => {
-            assert!(rt; matches!(fault, SignalFault::Memory));
+            holds(rt, "memory", matches!(fault, SignalFault::Memory));
             None
         }
     }
@@ -124,8 +159,8 @@ const HEAD: &[u8] =
 /// A text of two parts.
 fn joined(rt: &impl Abort, alloc: Global, head: &[u8], body: &[u8]) -> Vec<u8> {
     let mut text = Vec::new(alloc);
-    assert!(rt; text.extend_from_slice(head).is_ok());
-    assert!(rt; text.extend_from_slice(body).is_ok());
+    holds(rt, "memory", text.extend_from_slice(head).is_ok());
+    holds(rt, "memory", text.extend_from_slice(body).is_ok());
     text
 }
 
@@ -142,14 +177,20 @@ const BODIES: [(&[u8], &[u8]); 3] = [
     (b"0! 1\" b101 # 1$ 1' 1& #5 1!", b""),
 ];
 
+/// How many bytes come at a time.
+static STEPS: [usize; 4] = [1, 2, 7, 100_000];
+
+/// A dump has these rows.
+fn has_rows(rt: &impl Abort, alloc: Global, reader: Trickle<'_>, rows: &[u8]) {
+    let found = rows_of(rt, alloc, reader).ok().expect(rt, "a fault");
+    holds(rt, "rows", found.as_slice() == rows);
+}
+
 /// A body has these rows, however its bytes come.
 fn expect_rows(rt: &impl Abort, alloc: Global, body: &[u8], rows: &[u8]) {
     let text = joined(rt, alloc, HEAD, body);
-    for step in [1, 2, 7, 100_000] {
-        match rows_of(rt, alloc, reader_of(&text, step)) {
-            Ok(found) => assert_eq!(rt; found.as_slice(), rows),
-            Err(_) => panic!(rt; "a fault"),
-        }
+    for step in &STEPS {
+        has_rows(rt, alloc, reader_of(&text, *step), rows);
     }
 }
 
@@ -172,7 +213,11 @@ fn a_read_that_fails_is_the_fault(rt: HostRuntime) {
         let mut reader = reader_of(&text, 1);
         reader.fails_at = fails_at;
         let outcome = rows_of(&rt, alloc, reader);
-        assert!(&rt; matches!(&outcome, Err(RowsFault::Read)));
+        holds(
+            &rt,
+            "a failed read",
+            matches!(&outcome, Err(RowsFault::Read)),
+        );
     }
 }
 
@@ -185,7 +230,7 @@ const DUMP: &[u8] =
 #[test]
 fn rows_are_whole_or_memory_is_refused(rt: HostRuntime) {
     match rows_of(&rt, rt.alloc(), reader_of(DUMP, 64)) {
-        Ok(rows) => assert_eq!(&rt; rows.as_slice(), ROW_AT_5),
-        Err(fault) => assert!(&rt; fault == RowsFault::Memory),
+        Ok(rows) => holds(&rt, "the row", rows.as_slice() == ROW_AT_5),
+        Err(fault) => holds(&rt, "memory", fault == RowsFault::Memory),
     }
 }

@@ -1,5 +1,6 @@
 //! What is answered if memory is refused. These tests hold whether their requests for memory are granted or not, so that
 //! each request may be refused in turn (`rt try --test --fail-alloc N`): what is printed is right, or memory was refused.
+use crate::tests::holds;
 use check_description::read_parts;
 use check_flight::Order;
 use check_program::{Asked, CheckFault, check};
@@ -72,7 +73,7 @@ fn judge(
 fn is_printed(rt: &impl Abort, out: &[u8], last: &[u8], wanted: &str) {
     let front = wanted.as_bytes().get(..out.len()).expect(rt, "a front");
     let end = wanted.as_bytes().get(out.len()..).expect(rt, "an end");
-    assert!(rt; front == out && end == last, "{wanted}");
+    holds(rt, wanted, front == out && end == last);
 }
 
 /// This is printed, or memory was refused.

@@ -1,6 +1,7 @@
 //! Bits past the bus, in masks and among the lanes that are known.
 //!
 //! A capture cannot spell them, and who calls the judge may give them. `examples/verdicts` has all other beats.
+use crate::tests::holds;
 use crate::tests::parts::state::expect_text;
 use check_beats::{AskHead, Bus, FormFault, LinkRules, ReplyHead, UnderWay};
 use check_cells::Pattern;
@@ -58,7 +59,7 @@ fn try_first(rt: &impl Abort, row: &Row) {
     let (bus, opcode, size, address, mask) = *row;
     let link = UnderWay::new(bus);
     let fault = link.ask_fault(STRICT, &put_of(opcode, size, address, mask), u64::MAX);
-    assert!(rt; fault == Some(FormFault::Mask));
+    holds(rt, "a wrong mask", fault == Some(FormFault::Mask));
 }
 
 /// The mask of the second beat of a put of eight bytes on a bus of four is wrong.
@@ -69,7 +70,7 @@ fn try_second(rt: &impl Abort, opcode: u8, mask: u64) {
     assert!(rt; link.bus().bytes() <= LANES.len());
     link.take_ask(&first, &LANES);
     let fault = link.ask_fault(STRICT, &put_of(opcode, 3, 8, mask), u64::MAX);
-    assert!(rt; fault == Some(FormFault::Mask));
+    holds(rt, "a wrong mask", fault == Some(FormFault::Mask));
 }
 
 #[test]
@@ -85,10 +86,14 @@ fn a_mask_has_no_bit_past_the_bus(rt: HostRuntime) {
 fn a_known_bit_past_the_bus_is_that_of_no_lane(rt: HostRuntime) {
     let link = UnderWay::new(Bus::One);
     let put = put_of(0, 8, 0, 1);
-    assert!(&rt; link.ask_fault(STRICT, &put, 0b10) == Some(FormFault::UnknownData));
+    holds(
+        &rt,
+        "unknown data",
+        link.ask_fault(STRICT, &put, 0b10) == Some(FormFault::UnknownData),
+    );
     let first = reply_of(3);
     assert!(&rt; link.reply_fault(&first).is_none());
-    assert!(&rt; !link.is_known_reply(&first, 0, 0b10));
+    holds(&rt, "no known reply", !link.is_known_reply(&first, 0, 0b10));
 }
 
 #[test]

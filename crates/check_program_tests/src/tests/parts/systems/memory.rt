@@ -1,6 +1,7 @@
 //! What is answered if memory is refused. This test holds whether its requests for memory are granted or not, so that
 //! each request may be refused in turn (`rt try --test --fail-alloc N`): the file is read, or want of memory is told.
 use super::read_system;
+use crate::tests::holds;
 use check_keys::SystemFault;
 
 const FILE: &str = "bus = 4
@@ -22,5 +23,9 @@ stride = 4
 #[test]
 fn a_file_is_read_or_memory_is_refused(rt: HostRuntime) {
     let read = read_system(rt.alloc(), FILE.as_bytes());
-    assert!(rt; matches!(&read, Ok(_) | Err(SystemFault::Memory)));
+    holds(
+        &rt,
+        "a file, or no memory",
+        matches!(&read, Ok(_) | Err(SystemFault::Memory)),
+    );
 }

@@ -17,7 +17,7 @@ fn reply_of(rt: &impl Abort, source: u16, denied: bool, text: &str) -> Pattern {
 /// A reply at the master's link: what it shows, the source, whether it is denied, the bytes, and whether the port gave it.
 type Crossed = (&'static str, u16, bool, &'static str, bool);
 
-const CROSSED: [Crossed; 5] = [
+static CROSSED: [Crossed; 5] = [
     ("the same", 9, false, "01 xx 03 04", true),
     ("another source", 2, false, "01 xx 03 04", true),
     ("a byte more is known", 2, false, "01 02 03 04", false),

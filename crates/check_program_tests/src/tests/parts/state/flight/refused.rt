@@ -22,12 +22,16 @@ fn try_put(rt: &impl Abort, alloc: Global, side: &mut Side, slave: &mut PortSlav
     }
 }
 
+/// The same at a slave that is made, if memory is granted.
+fn try_slave(rt: &impl Abort, alloc: Global, side: &mut Side) {
+    if let Ok(mut slave) = ram(rt, alloc, Order::Accept) {
+        try_put(rt, alloc, side, &mut slave);
+    }
+}
+
 #[test]
 fn a_page_is_made_or_nothing_has_changed(rt: HostRuntime) {
-    let Ok(mut side) = side_of_four(rt.alloc()) else {
-        return;
-    };
-    if let Ok(mut slave) = ram(&rt, rt.alloc(), Order::Accept) {
-        try_put(&rt, rt.alloc(), &mut side, &mut slave);
+    if let Ok(mut side) = side_of_four(rt.alloc()) {
+        try_slave(&rt, rt.alloc(), &mut side);
     }
 }

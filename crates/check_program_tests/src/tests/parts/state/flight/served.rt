@@ -1,5 +1,6 @@
 //! Requests that are served as they are accepted, as they are answered, or between, nobody knows when.
 use super::scene::{Step, play, ram};
+use crate::tests::holds;
 use check_flight::{Order, PortSlave};
 use check_memory::Slave;
 use std::alloc::Global;
@@ -20,7 +21,7 @@ const GET_SIXTEEN: Step = Step::Cross(GET, 4, 6, 0x1000, [0; 4]);
 /// What is known of 16 bytes from 0x1000 on, after eight were put at 0x1008.
 const PUT_BEHIND: &str = "xx xx xx xx xx xx xx xx 11 22 33 44 55 66 77 88";
 
-const ACCEPTED: [Step; 8] = [
+static ACCEPTED: [Step; 8] = [
     PUT_LOW,
     PUT_HIGH,
     Step::Due(5, 0, Some(false), ""),
@@ -31,7 +32,7 @@ const ACCEPTED: [Step; 8] = [
     Step::End(6),
 ];
 
-const ANSWERED: [Step; 9] = [
+static ANSWERED: [Step; 9] = [
     GET_SIXTEEN,
     PUT_LOW,
     PUT_HIGH,
@@ -44,7 +45,7 @@ const ANSWERED: [Step; 9] = [
 ];
 
 /// A get outside of the range.
-const OUTSIDE: [Step; 2] = [
+static OUTSIDE: [Step; 2] = [
     Step::Cross(GET, 2, 1, 0x2000, [0; 4]),
     Step::Due(1, 0, Some(true), "00 00 00 00"),
 ];
@@ -64,7 +65,7 @@ const HALF_KNOWN: &str = "xx xx xx xx 05 06 07 08";
 const UNKNOWN: &str = "xx xx xx xx xx xx xx xx";
 
 /// Bytes are unknown to a get that is in flight beside a write.
-const BESIDE_A_WRITE: [Step; 8] = [
+static BESIDE_A_WRITE: [Step; 8] = [
     PUT_ONE,
     Step::Answer(1, 0, ""),
     PUT_TWO,
@@ -76,7 +77,7 @@ const BESIDE_A_WRITE: [Step; 8] = [
 ];
 
 /// Bytes stay unknown after two writes that were in flight at a time.
-const AFTER_TWO_WRITES: [Step; 10] = [
+static AFTER_TWO_WRITES: [Step; 10] = [
     PUT_ONE,
     PUT_TWO,
     Step::Answer(2, 1, ""),
@@ -108,7 +109,7 @@ fn bytes_are_unknown_where_the_order_may_be_any(rt: HostRuntime) {
     at_ram(&rt, rt.alloc(), Order::Any, &AFTER_TWO_WRITES);
 }
 
-const FROM_A_DEVICE: [Step; 2] = [
+static FROM_A_DEVICE: [Step; 2] = [
     Step::Cross(GET, 2, 1, 0x2000, [0; 4]),
     Step::Due(1, 0, None, "xx xx xx xx"),
 ];
@@ -116,6 +117,6 @@ const FROM_A_DEVICE: [Step; 2] = [
 #[test]
 fn a_device_answers_as_it_likes(rt: HostRuntime) {
     let mut slave = PortSlave::new(rt.alloc(), Slave::Device, Order::Accept, false);
-    assert!(&rt; slave.may_be_unknown());
+    holds(&rt, "bytes may be unknown", slave.may_be_unknown());
     play(&rt, rt.alloc(), &mut slave, &FROM_A_DEVICE);
 }

@@ -1,5 +1,5 @@
 //! Pages: as many as were written, wherever they are, and images over several of them.
-use super::scene::{Turn, ask_of, memory_of, serve_all};
+use super::scene::{Turn, ask_of, load, memory_of, serve_all};
 use crate::tests::holds;
 use crate::tests::parts::state::expect_cells;
 use check_memory::{PartialMemory, Pattern, Sizes};
@@ -156,9 +156,13 @@ static LOADED: [Turn; 2] = [
 fn the_last_page_of_the_address_space(rt: HostRuntime) {
     let mut memory = ram(&rt, rt.alloc(), 0xffff_ffff_ffff_f000, 0x1000);
     serve_all(&rt, rt.alloc(), "the last page", &mut memory, &LAST);
-    memory
-        .load(rt.alloc(), 0xffff_ffff_ffff_fffc, &[0xaa, 0xbb, 0xcc, 0xdd])
-        .expect(&rt, "memory refused");
+    load(
+        &rt,
+        rt.alloc(),
+        &mut memory,
+        0xffff_ffff_ffff_fffc,
+        &[0xaa, 0xbb, 0xcc, 0xdd],
+    );
     serve_all(&rt, rt.alloc(), "loaded", &mut memory, &LOADED);
     holds(&rt, "pages", memory.pages() == 1);
 }
@@ -188,9 +192,7 @@ fn an_image_goes_over_pages(rt: HostRuntime) {
     let mut memory = ram(&rt, rt.alloc(), 0, 0x10000);
     let bytes = image(&rt, rt.alloc(), 10_000);
     assert!(rt; bytes.len() == 10_000);
-    memory
-        .load(rt.alloc(), 0x1ffa, &bytes)
-        .expect(&rt, "memory refused");
+    load(&rt, rt.alloc(), &mut memory, 0x1ffa, &bytes);
     // those of 256 bytes from 0x1f00 to 0x4700
     holds(&rt, "pages", memory.pages() == 41);
     serve_all(&rt, rt.alloc(), "seams", &mut memory, &SEAMS);

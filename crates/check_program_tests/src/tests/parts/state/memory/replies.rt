@@ -138,9 +138,9 @@ const TO_PUT: [(Reply, bool); 3] = [
 ];
 
 /// A get that is not aligned, and one of which nothing is known.
-const DENIED: Asked = (AskOp::Get, 2, "", &TO_DENIED);
+static DENIED: Asked = (AskOp::Get, 2, "", &TO_DENIED);
 
-const UNKNOWN: Asked = (AskOp::Get, 4, "", &TO_UNKNOWN);
+static UNKNOWN: Asked = (AskOp::Get, 4, "", &TO_UNKNOWN);
 
 #[test]
 fn replies_fit_what_is_expected(rt: HostRuntime) {
@@ -154,9 +154,9 @@ fn replies_fit_what_is_expected(rt: HostRuntime) {
     try_slave(&rt, rt.alloc(), &mut slave, &DENIED, &UNKNOWN);
 }
 
-const PUT: Asked = (AskOp::PutFull, 4, "11 22 33 44", &TO_PUT);
+static PUT: Asked = (AskOp::PutFull, 4, "11 22 33 44", &TO_PUT);
 
-const GET: Asked = (AskOp::Get, 5, "", &TO_DEVICE);
+static GET: Asked = (AskOp::Get, 5, "", &TO_DEVICE);
 
 #[test]
 fn a_device_answers_what_it_likes(rt: HostRuntime) {

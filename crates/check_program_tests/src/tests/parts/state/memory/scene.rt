@@ -1,4 +1,6 @@
 //! What the scenes of the tests share: memories, and requests that are served.
+ghost use Rattle.std.specs.Prelude.{◌+◌, ◌^◌, ◌≤◌, length};
+
 use crate::tests::holds;
 use crate::tests::parts::state::{bytes_of, expect_cells};
 use check_memory::{PartialMemory, Pattern, Sizes, are_within};
@@ -47,11 +49,23 @@ fn serve(rt: &impl Abort, alloc: Global, row: &str, memory: &mut PartialMemory, 
     holds(rt, row, answer.op() == op.reply_op());
     holds(rt, row, answer.size() == size);
     holds(rt, row, answer.source() == 0);
-    holds(rt, row, answer.denied() == Some(denied));
-    holds(rt, row, early.denied() == Some(denied));
     let bytes = bytes_of(rt, read);
-    expect_cells(rt, row, answer.cells(), &bytes);
-    expect_cells(rt, row, early.cells(), &bytes);
+    expect_reply(rt, row, &answer, denied, &bytes);
+    expect_reply(rt, row, &early, denied, &bytes);
+}
+
+/// A reply has this flag and these bytes.
+fn expect_reply(rt: &impl Abort, row: &str, reply: &Pattern, denied: bool, bytes: &[Option<u8>]) {
+    holds(rt, row, reply.denied() == Some(denied));
+    expect_cells(rt, row, reply.cells(), bytes);
+}
+
+/// Bytes are loaded from an address on.
+pub fn load(rt: &impl Abort, alloc: Global, memory: &mut PartialMemory, address: u64, bytes: &[u8])
+    requires { address + length bytes.now ≤ 2 ^ 64 }
+{
+    let loaded = memory.load(alloc, address, bytes);
+    holds(rt, "memory is granted", loaded.is_ok());
 }
 
 /// A memory serves one request after the other.
