@@ -28,7 +28,7 @@ SIGNALS = ("a_valid", "a_ready", "a_opcode", "a_param", "a_size", "a_source", "a
 SYSTEM_KEYS = {"": ("bus", "unaligned", "decode", "port", "master", "clock", "reset", "reset_active", "slots", "extra"),
                "port": ("name", "kind", "base", "length", "ranges", "reset", "image", "unknown", "sizes", "order", "bus", "signals", "wires",
                         "extra"),
-               "master": ("name", "sources", "first", "stride", "bus", "signals", "wires", "ops", "extra"),
+               "master": ("name", "sources", "first", "stride", "bus", "reach", "signals", "wires", "ops", "extra"),
                "sizes": ("get", "putfull", "putpart", "arithmetic", "logical", "intent", "extra"),
                "wires": (*SIGNALS, "extra")}
 

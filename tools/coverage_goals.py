@@ -2,7 +2,7 @@
 
 from common import BUS, GROUP_OF
 from coverage_text import AFTER, ERROR, MOST_IN_FLIGHT, NAMES, SHAPES, SIZES
-from partial_memory import SUPPORT, ranges_of
+from partial_memory import SUPPORT, ranges_of, reached_by
 
 
 def is_supported(port, name, size):
@@ -42,14 +42,16 @@ def goals_of_port(system, master, number, port):
 def goals_of(system):
     """All bins that a system can be covered in, in no order."""
     ports, masters = system.get("port", []), system["master"]
-    in_all = sum(master["sources"] for master in masters)
+    reached = [reached_by(system, number) for number in range(len(masters))]
     for number, master in enumerate(masters):
-        for place, port in enumerate(ports):
-            yield from goals_of_port(system, number, place, port)
+        for place in sorted(reached[number]):
+            yield from goals_of_port(system, number, place, ports[place])
         for name in NAMES:
             yield from (("answered", number, ERROR, name, size, "denied") for size in SIZES)
         yield from (("in_flight", number, count) for count in range(1, min(master["sources"], MOST_IN_FLIGHT) + 1))
         yield from (("again", number, after) for after in AFTER)
     for place in range(len(ports)):
+        in_all = sum(master["sources"] for number, master in enumerate(masters) if place in reached[number])
         yield from (("at_port", place, count) for count in range(1, min(in_all, MOST_IN_FLIGHT) + 1))
-        yield "contested", place
+        if in_all:
+            yield "contested", place

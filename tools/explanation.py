@@ -104,7 +104,7 @@ class Explainer:
             if holder:
                 yield f"the source is in flight: {self.text(holder)}"
         elif fault == "not this port's address":
-            port = system.names.get(f"p{system.port_of(row.address(), row.number(5))}", "no port")
+            port = system.names.get(f"p{system.port_of(link, row.number(6), row.address(), row.number(5))}", "no port")
             yield f"{bytes_of(row.number(5))} at {row.address():#x}: the address of {port}"
         elif fault == "no master sent this request":
             yield from self.of_stray(row, begun)
@@ -179,7 +179,7 @@ class Explainer:
     def of_given(self, row, message):
         """What the port gave for a request that is answered at its master's link."""
         wide = next((wide for wide, owner in self.system.owners.items() if f"m{owner[0]}" == row.link and owner[1] == message.source), None)
-        port = f"p{self.system.port_of(message.address, message.size)}"
+        port = f"p{self.system.port_to(message)}"
         given = self.story.over.get((port, wide))
         here = f"{' denied' if row.words[10] == '1' else ''} {hexadecimal(self.captured(row, message))}".rstrip()
         if given is None or given.asked[0].time < message.asked[0].time:
@@ -192,7 +192,7 @@ class Explainer:
 
     def of_wrong(self, message, found):
         """Explains a reply with other bytes than the slave expects: lines, and runs of wrong bytes of one origin."""
-        port = self.system.port_of(message.address, message.size)
+        port = self.system.port_to(message)
         if bool(found[2]) != bool(found[5]):
             return [self.denial(message, port)], []
         pairs = zip(message.window(), re.findall("..", found[3] or ""), re.findall("..", found[6] or ""))

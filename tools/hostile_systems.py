@@ -22,7 +22,7 @@ SYSTEM_FAULT = re.compile(
     rf"|unknown key {UNKNOWN}"
     r"|port \d+: image can't be read|port \d+: image is longer than its range|ports \d+ and \d+ overlap|too many masters or sources"
     r"|masters \d+ and \d+ share source \d+)\n")
-CAPTURE_FAULT = re.compile(r"capture: line \d+: (wrong header|row too long|wrong count of columns|bad number|number out of range|no such link"
+CAPTURE_FAULT = re.compile(r"capture: line \d+: (wrong header|row too long|cut by a fault|wrong count of columns|bad number|number out of range|no such link"
                            r"|no such channel|time falls|two beats at one time)\n")
 REPLY = rf"({'|'.join(REPLIES)})( denied)?( ([0-9a-f]{{2}}|xx)+)?"
 TRACE = re.compile(rf"m\d+ s\d+ ({'|'.join(OPERATIONS)}) 0x[0-9a-f]+ [0-8]( ([0-9a-f]{{2}}|--)+)? -> {REPLY} p\d+ #\d+")
@@ -132,6 +132,9 @@ def valued(rng, wild):
         text.append(f"[[master]]\nsources = {rng.choice([1, 2, 4] + [0, 257, 65536, 65537] * (wild and rng.random() < 0.2))}")
         if wild and rng.random() < 0.2:
             text.append(f"first = {rng.choice([0, place * 8, 65535, 65536, -1])}\nstride = {rng.choice([1, 4, 65535, 0, 65536])}")
+        if rng.random() < 0.2:
+            reached = ["[]", "[0]", "['s0']", "[0, 1]"] + ["[0, 0]", "[255]", "[-1]", "[1.0]", "[[]]", "0"] * wild
+            text.append(f"reach = {rng.choice(reached)}")
     return "\n".join(text).encode()
 
 

@@ -84,6 +84,8 @@ class Rows:
         if len(text) > LONGEST_ROW:
             raise NoRow("row too long")
         words = text.split(",")
+        if words == ["fault"]:
+            raise NoRow("cut by a fault")
         if len(words) != 12:
             raise NoRow("wrong count of columns")
         time = number_of(words[0], LONGEST_TIME)
@@ -227,9 +229,10 @@ class Judge:
 
     def begun(self, link, row):
         """The flight that a request's first beat begins."""
-        owner, port = self.owner_of(link, row.source), port_of(self.system, row.address, row.size)
+        owner = self.owner_of(link, row.source)
         if owner is None:
             raise Unlawful("no such source")
+        port = port_of(self.system, owner[0], row.address, row.size)
         if self.is_in_flight(link, row.source):
             raise Unlawful("source in flight")
         if link.side == "p" and port != link.number:

@@ -88,7 +88,15 @@ def system_of(rng):
     for number, master in enumerate(system["master"]):
         if rng.random() < 0.3:
             master["name"] = f"host.{number}"
+        if rng.random() < 0.3:
+            master["reach"] = reach_of(rng, system["port"])
     return system, images
+
+
+def reach_of(rng, ports):
+    """Some of the ports, in any order, by number or by name."""
+    some = rng.sample(range(len(ports)), rng.randint(0, len(ports)))
+    return [ports[number].get("name", number) if rng.random() < 0.5 else number for number in some]
 
 
 def address_of(rng, ports, size, is_unaligned=False):
@@ -232,7 +240,7 @@ class Run:
                 source = self.rng.choice(sorted(self.free[master]))
                 self.free[master].remove(source)
                 ask = asks.pop()
-                transfer = Transfer(ask, master, source, port_of(self.system, ask.address, ask.size))
+                transfer = Transfer(ask, master, source, port_of(self.system, master, ask.address, ask.size))
                 channel.waiting.append(lambda transfer=transfer: self.ask_at_master(transfer))
 
     def ask_at_master(self, transfer):

@@ -114,9 +114,15 @@ class System:
                       for number, it in enumerate(tables)}
         self.owners = owners_of(self.tables["m"])
 
-    def port_of(self, address, size):
-        """The number of the port to which a request goes."""
-        return port_of(self.table, address, size)
+    def port_of(self, link, source, address, size):
+        """The number of the port to which a request of a source at a link goes, by its master's paths; if nobody has the source, by its address
+        alone."""
+        master = int(link[1:]) if link[0] == "m" else self.owners.get(source, (None, None))[0]
+        return port_of(self.table, master, address, size)
+
+    def port_to(self, message):
+        """The number of the port to which a message goes."""
+        return self.port_of(message.link, message.source, message.address, message.size)
 
     def slave(self, port):
         """A port's slave at reset."""
@@ -195,7 +201,7 @@ class Story:
             self.take_reply(row)
 
     def order_of(self, message):
-        port = self.system.port_of(message.address, message.size)
+        port = self.system.port_to(message)
         tables = self.system.tables["p"]
         return tables[port].get("order", self.order) if port < len(tables) else self.order
 

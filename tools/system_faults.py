@@ -280,6 +280,42 @@ MASTERS = ("[[master]]\n", {
     f"sources = 1\nname = '{'n' * 32}'": "",
     f"sources = 1\nname = '{'n' * 33}'": "name out of range",
 })
+# The ports to which a master has a path: port 0 is called `a`, port 1 is called `b`, and port 2, which is called `0`, is the last.
+REACH = ("port = [{ name = 'a', kind = 'ram', base = 0, length = 1 }, { name = 'b', kind = 'ram', base = 1, length = 1 }, "
+         "{ name = '0', kind = 'ram', base = 2, length = 1 }]\n[[master]]\nname = 'host'\nsources = 1\n", {
+    "reach = 1": "wrong type of reach",
+    "reach = 'a'": "wrong type of reach",
+    "reach = { a = 1 }": "wrong type of reach",
+    "reach = [true]": "wrong type of reach",
+    "reach = [1.0]": "wrong type of reach",
+    "reach = [[0]]": "wrong type of reach",
+    # a wrong type comes before all that is out of range
+    "reach = [-1, 'x', 0, 0, 1.0]": "wrong type of reach",
+    f"reach = {[0] * 256 + [[]]}": "wrong type of reach",
+    "reach = []": "",
+    "reach = [0]": "",
+    "reach = ['b', 0]": "",
+    "reach = [2, 'a', 'b']": "",
+    # a text is a name, and no number
+    "reach = ['0', 0, 1]": "",
+    "reach = ['0', 2]": "reach out of range",
+    "reach = ['1']": "reach out of range",
+    "reach = ['']": "reach out of range",
+    "reach = ['A']": "reach out of range",
+    "reach = ['host']": "reach out of range",
+    "reach = [-1]": "reach out of range",
+    # the error port
+    "reach = [3]": "reach out of range",
+    "reach = [9223372036854775807]": "reach out of range",
+    "reach = [1, 1]": "reach out of range",
+    "reach = ['a', 'b', 'a']": "reach out of range",
+    "reach = [0, 'a']": "reach out of range",
+    f"reach = {[0] * 256}": "reach out of range",
+    # after the bus, and before the next master
+    "reach = 1\nbus = 3": "bus out of range",
+    "reach = [9]\n[[master]]": "reach out of range",
+    "reach = [1]\n[[master]]": "missing sources",
+})
 # If one of two masters has a first wide source, the other has to have one.
 TWO_MASTERS = (MASTER, {
     "[[master]]": "missing sources",
@@ -359,7 +395,8 @@ IMAGES = (f"{MASTER}{PORT}", {
     "image = 'two.bin'\n[[port]]\nkind = 'ram'\nbase = 0\nlength = 1": "ports 0 and 1 overlap",
     "image = 'none.bin'\n[[master]]\nsources = 257": "port 0: image can't be read",
 })
-TABLES = (DOCUMENTS, UNKNOWN_KEYS, NAMES, PLAIN_PORTS, RANGES, DEVICE_RANGES, CONTENTS, ONE_RANGE, SIZES, ORDERS_AND_BUSES, MASTERS, TWO_MASTERS, PARTS, IMAGES)
+TABLES = (DOCUMENTS, UNKNOWN_KEYS, NAMES, PLAIN_PORTS, RANGES, DEVICE_RANGES, CONTENTS, ONE_RANGE, SIZES, ORDERS_AND_BUSES, MASTERS, REACH, TWO_MASTERS, PARTS,
+          IMAGES)
 
 
 def rows():

@@ -74,22 +74,22 @@ class Folder:
         subprocess.run(["vvp", "-n", bench, *arguments], cwd=os.path.dirname(bench), check=True, stdout=subprocess.DEVNULL)
         return os.path.join(os.path.dirname(bench), name + ".csv")
 
-    def can_send(self, line, reaches):
-        """Whether a host that reaches addresses below a limit alone can send an operation. Its bytes lie in one range, or in none."""
+    def can_send(self, line):
+        """Whether a host can send an operation: addresses have 32 bits, and its bytes lie in one range, or in none."""
         if line == "wait":
             return True
         first, size = int(line.split()[2], 16), 1 << int(line.split()[3])
         held = [base <= first and first + size <= base + length for base, length in self.ranges]
         met = [base < first + size and first < base + length for base, length in self.ranges]
-        return first + size <= reaches and held == met
+        return first + size <= 1 << 32 and held == met
 
-    def stimulate(self, seed, reach):
+    def stimulate(self, seed):
         """Writes the operations of a script of tools/stimulate into a folder of its own: the folder, and how many they are. Those that no host can
         send are left out."""
         words = [self.system, "--seed", str(seed), "--ops", str(OPERATIONS), "--limits", "judge", "--mix", os.path.join(self.folder, "mix.toml")]
         script = subprocess.run([os.path.join(TOP, "tools", "stimulate"), *words], stdout=subprocess.PIPE, text=True, check=True).stdout
         asked = [master["ops"] for master in tomllib.loads(script)["master"]]
-        sent = [[line for line in lines if self.can_send(line, reach.get(name, 1 << 32))] for name, lines in zip(self.hosts, asked)]
+        sent = [[line for line in lines if self.can_send(line)] for lines in asked]
         directory = os.path.join(self.directory, f"operations_{seed}")
         os.makedirs(directory, exist_ok=True)
         rtl.stimulus.write_operations(sent, self.bus, directory)
@@ -156,19 +156,19 @@ def check_design(folder, pool, name, defines, lawful):
     print(f"{name}: {runs[0][2]['both', 'accept'].rstrip()}")
 
 
-def run_script(folder, bench, seed, reach):
+def run_script(folder, bench, seed):
     """One run of a script: how many operations it has, what each view says of it in any order, and the file of what it covers."""
-    directory, count = folder.stimulate(seed, reach)
+    directory, count = folder.stimulate(seed)
     capture = folder.run(bench, seed, operations=directory)
     coverage = os.path.join(directory, "coverage")
     rtl.judge_of(folder.system, capture, "--coverage", coverage)
     return count, {view: folder.judge(capture, view, "any") for view in VIEWS}, coverage
 
 
-def check_scripts(folder, pool, name, defines, reach):
+def check_scripts(folder, pool, name, defines):
     """A design without a bug is lawful under scripts of tools/stimulate, and each of their operations is asked and answered."""
     bench = folder.build(name, *defines)
-    runs = [*pool.map(lambda seed: (seed, *run_script(folder, bench, seed, reach)), SEEDS)]
+    runs = [*pool.map(lambda seed: (seed, *run_script(folder, bench, seed)), SEEDS)]
     for seed, count, verdicts, _ in runs:
         for view, verdict in verdicts.items():
             # what an error responder answers comes to no port
@@ -243,8 +243,8 @@ def check_readme(folder, table):
         rtl.tell(f"{path}: {done.stdout}", done.stdout.splitlines()[-1:] == [expected])
 
 
-def main(where, sources, designs, reach):
-    """The check of a folder: its status. `reach` has the first address that a host does not reach, for those that do not reach all."""
+def main(where, sources, designs):
+    """The check of a folder: its status."""
     for program in ("iverilog", "verilator"):
         if shutil.which(program) is None:
             print(f"{program} is missing; on Debian and Ubuntu: apt-get install {program}", file=sys.stderr)
@@ -260,7 +260,7 @@ def main(where, sources, designs, reach):
         for design in designs:
             check_design(folder, pool, *design)
         for name, defines, _ in designs:
-            check_scripts(folder, pool, name, defines, reach)
+            check_scripts(folder, pool, name, defines)
         for bug, runs in zip(table, pool.map(lambda bug: judge_bug(folder, bug), table)):
             check_bug(folder, bug, table[bug], runs)
         check_readme(folder, table)

@@ -11,7 +11,7 @@ use Rattle.check_watch.specs.declared.beat.Link.{Link}
 use Rattle.check_watch.specs.declared.beat.Link.TheVariants.{Master, Port}
 use Rattle.check_watch.specs.declared.seen.Ended.{Ended}
 use Rattle.check_watch.specs.declared.seen.Ended.TheVariants as ends
-use Rattle.check_watch.specs.Plan.{Sighting, source_of, wide_of}
+use Rattle.check_watch.specs.Plan.{Sighting, route_of, source_of, wide_of}
 use Rattle.check_watch.specs.Scene.{ended_by}
 use Rattle.check_watch.specs.declared.links.Links.{Links}
 use Rattle.check_watch.specs.declared.links.Links.TheVariants.{Both, Masters, Ports, Each}
@@ -89,7 +89,7 @@ abbrev pub begun : Plan → ℕ → AskHead → InFlight
 begun plan wide beat = record {
   wide = wide;
   master = master_of plan.layout.owners wide;
-  port = plan.route beat.address beat.size;
+  port = route_of plan (master_of plan.layout.owners wide) beat.address beat.size;
   first = beat;
   given = [];
   is_whole = false;

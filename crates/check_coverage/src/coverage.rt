@@ -92,10 +92,11 @@ fn begun(watch: &Watch, wide: u16, beat: &AskHead) -> CountedFlight
     ensures { (plan : Plan) → Suits plan watch.now → result ≡ kept (begun plan wide beat.now) }
 {
     let span = width(beat.size) as u64;
+    let master = master_of(watch.sources(), wide);
     CountedFlight {
         wide,
-        master: master_of(watch.sources(), wide),
-        port: watch.route(beat.address, beat.size),
+        master,
+        port: watch.route(master, beat.address, beat.size),
         first: *beat,
         span,
         is_unaligned: beat.address % span != 0,

@@ -10,7 +10,7 @@ use Rattle.tl_text.specs.Reading.{◌>>=◌}
 use Rattle.check_keys.specs.declared.fault.SystemFault.{SystemFault}
 use Rattle.check_keys.specs.declared.fault.SystemFault.TheVariants.{TooLong, NotToml}
 use Rattle.check_description.specs.Rules.{rules_in}
-use Rattle.check_description.specs.Port.{Port, port_view, ports_of}
+use Rattle.check_description.specs.Port.{Port, names_of_ports, port_view, ports_of}
 use Rattle.check_description.specs.Master.{Master, master_view, masters_of}
 use Rattle.check_description.specs.declared.parts.Image as code_image
 use Rattle.check_description.specs.declared.parts.Parts as code_parts
@@ -36,7 +36,7 @@ parts_in members = do
   bus ← bus_in_table Eight members
   rules ← rules_in members
   ports ← ports_of bus members
-  masters ← masters_of bus members
+  masters ← masters_of bus (names_of_ports ports) members
   Ok (record { rules = rules; ports = ports; masters = masters })
 
 -- the parts that a file names, or the first fault on the way to them

@@ -1,5 +1,6 @@
 pub mod Master
 pub mod Rules
+pub mod Reach
 pub mod File
 pub mod Unknown
 pub mod Name

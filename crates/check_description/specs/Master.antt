@@ -16,16 +16,19 @@ use Rattle.tl_map.specs.declared.owners.Owner.{Owner}
 use Rattle.tl_map.specs.declared.owners.SourceOwnerFault.{SourceOwnerFault}
 use Rattle.tl_map.specs.declared.owners.SourceOwnerFault.TheVariants.{TooMany}
 use Rattle.tl_map.specs.declared.limits.TheConstants.{MAX_JUDGED_MASTERS, MAX_JUDGED_SOURCES, MAX_WIDE}
+use Rattle.check_description.specs.Reach.{reach_at}
 use Rattle.check_description.specs.declared.masters.Master as code_master
 
 -- a master: its name, how many sources it has, the wide source of its source 0 where the file says it, how far apart the
--- wide sources of its next sources are, and the data bus of its link
+-- wide sources of its next sources are, the data bus of its link, and for each port whether it has a path to it, where the
+-- file says it
 pub record Master : Type 0 where
   pub name : Option (List ℕ)
   pub sources : ℕ
   pub first : Option ℕ
   pub stride : ℕ
   pub bus : Bus
+  pub reach : Option (List Bool)
 
 -- the table says where the master's wide sources begin
 abbrev pub has_first : Members → Bool
@@ -40,15 +43,16 @@ unfoldable pub stride_at : Members → Result ℕ SystemFault
 stride_at members = number_if_any Stride 1 MAX_WIDE members >>= (λ stride. Ok (unwrap_or stride 1))
 
 -- the master that a table describes, by its keys in the order in which they are looked at; without a bus of its own it
--- has that of the system
-unfoldable pub master_of : Bus → Bool → Members → Result Master SystemFault
-master_of bus placed members = do
+-- has that of the system. The ports have these names
+unfoldable pub master_of : Bus → List (Option (List ℕ)) → Bool → Members → Result Master SystemFault
+master_of bus ports placed members = do
   name ← name_at members
   sources ← number_at Sources 1 MAX_JUDGED_SOURCES members
   first ← first_at placed members
   stride ← stride_at members
   own ← bus_in_table bus members
-  Ok (record { name = name; sources = sources; first = first; stride = stride; bus = own })
+  reach ← reach_at ports members
+  Ok (record { name = name; sources = sources; first = first; stride = stride; bus = own; reach = reach })
 
 -- the tables of the masters, of which there is at least one
 unfoldable pub master_tables : Members → Result (List Members) SystemFault
@@ -57,8 +61,9 @@ master_tables members = do
   tables ← tables_of MasterKey value
   one_up_to MasterKey MAX_JUDGED_MASTERS tables
 
-unfoldable pub masters_of : Bus → Members → Result (List Master) SystemFault
-masters_of bus members = master_tables members >>= (λ tables. each (master_of bus (list_any has_first tables)) tables)
+unfoldable pub masters_of : Bus → List (Option (List ℕ)) → Members → Result (List Master) SystemFault
+masters_of bus ports members =
+    master_tables members >>= (λ tables. each (master_of bus ports (list_any has_first tables)) tables)
 
 -- ---- the wide sources of masters
 
@@ -104,4 +109,5 @@ master_view master = record {
   first = master.first;
   stride = master.stride;
   bus = master.bus;
+  reach = option_map (λ flags. flags.items) master.reach;
 }

@@ -1,5 +1,5 @@
 -- The ports of a system file. This project's own.
-use Rattle.std.specs.Prelude.{ℕ, List, [], Option, None, Some, option_map, string_bytes, Result, Ok}
+use Rattle.std.specs.Prelude.{ℕ, List, [], map, Option, None, Some, option_map, string_bytes, Result, Ok}
 use Rattle.toml.specs.Data.{Data, Members, get_member}
 use Rattle.tl_map.specs.declared.range.Range.{Range}
 use Rattle.tl_map.specs.declared.limits.TheConstants.{MAX_JUDGED_PORTS}
@@ -67,6 +67,10 @@ port_tables members = tables_by (get_member (key_name PortKey) members)
 -- the ports of a file, in order
 unfoldable pub ports_of : Bus → Members → Result (List Port) SystemFault
 ports_of bus members = port_tables members >>= each (port_of bus)
+
+-- the name of each port that has one
+abbrev pub names_of_ports : List Port → List (Option (List ℕ))
+names_of_ports ports = map (λ (port : Port). port.name) ports
 
 -- ---- what contracts see
 

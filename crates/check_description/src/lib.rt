@@ -26,6 +26,7 @@ mod parts;
 mod port;
 mod ports;
 mod ranges;
+mod reach;
 mod read;
 mod rules;
 mod sizes;

@@ -4,8 +4,11 @@ ghost use Rattle.std.specs.List.{list_any};
 ghost use Rattle.toml.specs.View.{table_view};
 ghost use Rattle.tl_text.specs.Reading.{each};
 ghost use Rattle.check_keys.specs.Reading.{Gives};
+ghost use Rattle.check_description.specs.Port.{names_of_ports, port_view};
 ghost use Rattle.check_description.specs.Master.{first_at as first_of_table, has_first as has_first_key, master_of, master_tables, master_view, masters_of, stride_at as stride_of_table};
 
+use crate::port::Port;
+use crate::reach::reach_at;
 use check_beats::Bus;
 use check_keys::{
     Key, SystemFault, array_of, bus_in_table, find_value, name_at, number_at, number_if_any,
@@ -15,7 +18,8 @@ use std::alloc::Global;
 use tl_map::{MAX_JUDGED_MASTERS, MAX_JUDGED_SOURCES, MAX_WIDE};
 use toml::Table;
 
-/// A master: its source `s` has the wide source `first + stride * s`, if it has a `first`.
+/// A master: its source `s` has the wide source `first + stride * s`, if it has a `first`. It has a path to each port whose
+/// flag in `reach` is set, and to all ports if it has none.
 #[derive(Debug, Drop)]
 pub struct Master {
     pub name: Option<String>,
@@ -23,6 +27,7 @@ pub struct Master {
     pub first: Option<u16>,
     pub stride: u16,
     pub bus: Bus,
+    pub reach: Option<Vec<bool>>,
 }
 
 /// Whether a master's table says where its wide sources begin.
@@ -69,20 +74,29 @@ fn stride_at(table: &Table) -> Result<u16, SystemFault>
 
 /// The master that a table describes, in a system whose links have this bus.
 #[tactic(auto, unfolding(crate::specs::Master::master_of))]
-fn read_master(alloc: Global, bus: Bus, placed: bool, table: &Table) -> Result<Master, SystemFault>
-    ensures { Gives master_view result (master_of bus placed (table_view table.now)) }
+fn read_master(
+    alloc: Global,
+    bus: Bus,
+    ports: &[Port],
+    placed: bool,
+    table: &Table,
+) -> Result<Master, SystemFault>
+    ensures { Gives master_view result
+        (master_of bus (names_of_ports (map port_view ports.now)) placed (table_view table.now)) }
 {
     let name = name_at(alloc, table)?;
     let sources = number_at(table, Key::Sources, 1, u64::from(MAX_JUDGED_SOURCES))?;
     let first = first_at(placed, table)?;
     let stride = stride_at(table)?;
     let bus = bus_in_table(table, bus)?;
+    let reach = reach_at(alloc, ports, table)?;
     Ok(Master {
         name,
         sources: sources as u32,
         first,
         stride,
         bus,
+        reach,
     })
 }
 
@@ -90,15 +104,16 @@ fn read_master(alloc: Global, bus: Bus, placed: bool, table: &Table) -> Result<M
 fn read_each_master(
     alloc: Global,
     bus: Bus,
+    ports: &[Port],
     placed: bool,
     tables: &[&Table],
 ) -> Result<Vec<Master>, SystemFault>
     ensures { Gives (λ masters. map master_view masters.items) result
-        (each (master_of bus placed) (map (λ table. table_view table.now) tables.now)) }
+        (each (master_of bus (names_of_ports (map port_view ports.now)) placed) (map (λ table. table_view table.now) tables.now)) }
 {
     let mut masters = Vec::new(alloc);
     for table in tables {
-        masters.push(read_master(alloc, bus, placed, table)?)?;
+        masters.push(read_master(alloc, bus, ports, placed, table)?)?;
     }
     Ok(masters)
 }
@@ -117,12 +132,17 @@ fn tables_of_masters<'a>(alloc: Global, table: &'a Table) -> Result<Vec<&'a Tabl
     Ok(tables)
 }
 
-/// The masters, in a system whose links have this bus.
+/// The masters, in a system with these ports whose links have this bus.
 #[tactic(auto, unfolding(crate::specs::Master::masters_of))]
-pub fn read_masters(alloc: Global, bus: Bus, table: &Table) -> Result<Vec<Master>, SystemFault>
+pub fn read_masters(
+    alloc: Global,
+    bus: Bus,
+    ports: &[Port],
+    table: &Table,
+) -> Result<Vec<Master>, SystemFault>
     ensures { Gives (λ masters. map master_view masters.items) result
-        (masters_of bus (table_view table.now)) }
+        (masters_of bus (names_of_ports (map port_view ports.now)) (table_view table.now)) }
 {
     let tables = tables_of_masters(alloc, table)?;
-    read_each_master(alloc, bus, has_any_first(&tables), &tables)
+    read_each_master(alloc, bus, ports, has_any_first(&tables), &tables)
 }

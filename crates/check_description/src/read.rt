@@ -46,7 +46,7 @@ fn read_tables(alloc: Global, table: &Table) -> Result<Parts, SystemFault>
     let bus = bus_in_table(table, Bus::Eight)?;
     let rules = read_rules(table)?;
     let ports = read_ports(alloc, bus, table)?;
-    let masters = read_masters(alloc, bus, table)?;
+    let masters = read_masters(alloc, bus, &ports, table)?;
     Ok(Parts {
         rules,
         ports,

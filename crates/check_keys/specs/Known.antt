@@ -30,7 +30,7 @@ known_keys Port =
     codes "image" ∷ codes "unknown" ∷ codes "sizes" ∷ codes "order" ∷ codes "bus" ∷ codes "signals" ∷
     codes "wires" ∷ codes "extra" ∷ []
 known_keys Master =
-    codes "name" ∷ codes "sources" ∷ codes "first" ∷ codes "stride" ∷ codes "bus" ∷ codes "signals" ∷
+    codes "name" ∷ codes "sources" ∷ codes "first" ∷ codes "stride" ∷ codes "bus" ∷ codes "reach" ∷ codes "signals" ∷
     codes "wires" ∷ codes "ops" ∷ codes "extra" ∷ []
 known_keys Sizes =
     codes "get" ∷ codes "putfull" ∷ codes "putpart" ∷ codes "arithmetic" ∷ codes "logical" ∷ codes "intent" ∷

@@ -1,10 +1,12 @@
 -- What stands at the keys of a table of a system file: of its type, and in its range. This project's own.
-use Rattle.std.specs.Prelude.{ℕ, Bool, false, ◌-◌, ◌^◌, ◌&&◌, ℤ, pos, negsuc, nat_le, nat_lt, List, [], ◌∷◌, length, Option, unwrap_or, Result, Ok, Err, if◌then◌else◌, ok_or}
+use Rattle.std.specs.Prelude.{ℕ, Bool, false, ◌-◌, ◌^◌, ◌&&◌, ℤ, pos, negsuc, nat_le, nat_lt, List, [], ◌∷◌, length, Option, None, Some, unwrap_or, Result, Ok, Err, if◌then◌else◌, ok_or}
 use Rattle.toml.specs.Data.{Data, Members, get_member, as_integer, as_bool, as_str, as_table, as_array}
 use Rattle.tl_script.specs.Port.{pairs_of}
 use Rattle.tl_script.specs.Value.{list_of}
 use Rattle.check_keys.specs.Key.{key_name}
 use Rattle.tl_text.specs.Reading.{◌>>=◌, each, if_any, unless}
+use Rattle.check_keys.specs.declared.value.IntegerOrText as code_value
+use Rattle.check_keys.specs.declared.value.IntegerOrText.TheVariants as code_values
 use Rattle.check_keys.specs.declared.fault.Key.{Key}
 use Rattle.check_keys.specs.declared.fault.SystemFault.{SystemFault}
 use Rattle.check_keys.specs.declared.fault.SystemFault.TheVariants.{Missing, WrongType, OutOfRange}
@@ -60,6 +62,27 @@ text_if_any key members = if_any (text_of key) (get_member (key_name key) member
 -- the bytes that pairs of hexadecimal digits spell
 abbrev pub bytes_of : Key → List ℕ → Result (List ℕ) SystemFault
 bytes_of key text = ok_or (pairs_of text) (OutOfRange key)
+
+-- ---- integers or texts
+
+-- a value that is an integer, or a text
+pub data IntegerOrText : Type 0 where
+  Number : ℤ → IntegerOrText
+  Text : List ℕ → IntegerOrText
+
+-- the text of a value that is no integer, or the integer
+abbrev pub integer_or_text_by : Option ℤ → Option (List ℕ) → Option IntegerOrText
+integer_or_text_by (Some n) text = Some (Number n)
+integer_or_text_by None (Some text) = Some (Text text)
+integer_or_text_by None None = None
+
+abbrev pub integer_or_text_of : Key → Data → Result IntegerOrText SystemFault
+integer_or_text_of key value = ok_or (integer_or_text_by (as_integer value) (as_str value)) (WrongType key)
+
+-- what contracts see of such a value
+abbrev pub integer_or_text_view : code_value.IntegerOrText → IntegerOrText
+integer_or_text_view (code_values.Number n) = Number n
+integer_or_text_view (code_values.Text text) = Text text.now
 
 -- ---- arrays and tables
 

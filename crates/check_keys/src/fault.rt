@@ -31,6 +31,7 @@ pub enum Key {
     Sources,
     First,
     Stride,
+    Reach,
 }
 
 impl Key {
@@ -57,6 +58,7 @@ impl Key {
             Key::Sources => "sources",
             Key::First => "first",
             Key::Stride => "stride",
+            Key::Reach => "reach",
         }
     }
 }

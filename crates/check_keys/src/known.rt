@@ -113,8 +113,8 @@ impl TableKind {
                 b"sizes", b"order", b"bus", b"signals", b"wires", b"extra",
             ],
             TableKind::Master => &[
-                b"name", b"sources", b"first", b"stride", b"bus", b"signals", b"wires", b"ops",
-                b"extra",
+                b"name", b"sources", b"first", b"stride", b"bus", b"reach", b"signals", b"wires",
+                b"ops", b"extra",
             ],
             TableKind::Sizes => &[
                 b"get",

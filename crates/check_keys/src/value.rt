@@ -5,7 +5,7 @@ ghost use Rattle.toml.specs.View.{view, table_view};
 ghost use Rattle.tl_text.specs.Reading.{each};
 ghost use Rattle.check_keys.specs.Key.{key_name};
 ghost use Rattle.check_keys.specs.Reading.{Gives};
-ghost use Rattle.check_keys.specs.Value.{array_of as array_of_value, bytes_of as bytes_of_text, flag_at as flag_of_key, in_range as range_of_key, integer_of as integer_of_value, number_at as number_of_key, number_if_any as any_number_of_key, number_in_value as number_of_value, pair_in_value as pair_of_value, table_of as table_of_value, text_if_any as any_text_of_key, text_of as text_of_value, two_of as two_of_values, value_at as value_of_key};
+ghost use Rattle.check_keys.specs.Value.{array_of as array_of_value, bytes_of as bytes_of_text, integer_or_text_of as integer_or_text_of_value, integer_or_text_view, flag_at as flag_of_key, in_range as range_of_key, integer_of as integer_of_value, number_at as number_of_key, number_if_any as any_number_of_key, number_in_value as number_of_value, pair_in_value as pair_of_value, table_of as table_of_value, text_if_any as any_text_of_key, text_of as text_of_value, two_of as two_of_values, value_at as value_of_key};
 
 use crate::fault::{Key, SystemFault};
 use std::alloc::Global;
@@ -131,6 +131,26 @@ pub fn text_if_any(table: &Table, key: Key) -> Result<Option<&str>, SystemFault>
     match find_value(table, key) {
         Some(value) => Ok(Some(text_of(value, key)?)),
         None => Ok(None),
+    }
+}
+
+/// A value that is an integer or a text.
+#[derive(Debug, Clone, Copy)]
+pub enum IntegerOrText<'a> {
+    Number(i64),
+    Text(&'a str),
+}
+
+/// The integer or the text that a value is.
+pub fn integer_or_text_of(value: &Value, key: Key) -> Result<IntegerOrText<'_>, SystemFault>
+    ensures { Gives integer_or_text_view result (integer_or_text_of_value key (view value.now)) }
+{
+    if let Some(number) = value.as_integer() {
+        return Ok(IntegerOrText::Number(number));
+    }
+    match value.as_str() {
+        Some(text) => Ok(IntegerOrText::Text(text)),
+        None => Err(SystemFault::WrongType(key)),
     }
 }
 

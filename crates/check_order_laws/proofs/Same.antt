@@ -23,7 +23,7 @@ module _ (plan : Plan) (before after : List PortSlave) where
   same_exchanges port wide past = refl
 
   pub same_plan : IsPlan one → IsPlan other
-  same_plan is = record { owners = is.owners; wide = is.wide; route = is.route }
+  same_plan is = record { owners = is.owners; wide = is.wide; decode = is.decode }
 
   asks_at : (past : List Sighting) (wide : ℕ) (link : Link) → AsksAt other past wide link → AsksAt one past wide link
   asks_at past wide link at = record { first = at.first; more = at.more; begun = at.begun; of = at.of }

@@ -225,6 +225,7 @@ fault_of plan file row judge fault.TwoBeats moment judges has =
       All-contains (λ r. r.time ≡ judge.moment.time) judge.moment.rows other moment.at_time there ∙ sym has.0,
       has.1.2,
     )
+fault_of plan file row judge fault.Cut moment judges has = has
 fault_of plan file row judge fault.Columns moment judges has = has
 fault_of plan file row judge fault.Number moment judges has = has
 fault_of plan file row judge fault.Range moment judges has = has

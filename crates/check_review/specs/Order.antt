@@ -39,6 +39,7 @@ abbrev pub HasRowFault : List SeenRow → SeenRow → RowFault → Type 0
 HasRowFault file row fault.TimeFalls = (other : SeenRow) × Contains file other × (row.time < other.time)
 HasRowFault file row fault.TwoBeats =
     (other : SeenRow) × Contains file other × (other.time ≡ row.time) × (place_of_row other ≡ place_of_row row)
+HasRowFault file row fault.Cut = ⊥
 HasRowFault file row fault.Columns = ⊥
 HasRowFault file row fault.Number = ⊥
 HasRowFault file row fault.Range = ⊥

@@ -3,10 +3,13 @@ use Rattle.std.proofs.Common.{◌≡◌, ℕ, zero, suc, ◌+◌, ◌<◌, ◌�
 use Rattle.std.specs.Borrow.{Bor}
 use Rattle.std.specs.Option.{option_map, unwrap_or}
 use Rattle.std.specs.List.{All}
+use Rattle.std.specs.Prelude.{◌&&◌, codes}
+use Rattle.std.specs.Str.{bytes_eq}
+use Rattle.std.proofs.lemmas.Bool.Decides.{nat_tests}
 use Rattle.std.proofs.lemmas.List.{drop_more, length-map, length-set, length-take-le, map-append, take_more_set}
 use Rattle.std.proofs.lemmas.List.Splits.{length-slice_split, slice_split_at, slice_split_none}
 use Rattle.csv.specs.Records.{field_at}
-use Rattle.check_rows.specs.Column.{or_empty, column_parts}
+use Rattle.check_rows.specs.Column.{or_empty, column_parts, is_cut}
 
 -- ---- columns
 
@@ -83,3 +86,16 @@ words-all all i word size =
 -- a line has a part
 pub some-part : (line : List ℕ) → 0 < length (column_parts line)
 some-part line = let size = length-slice_split (λ (byte : ℕ). byte == 44) line in omega (arith, size)
+
+-- ---- where a fault cut a capture short
+
+pub cut_word : (word : List ℕ) → bytes_eq word (codes "fault") ≡ is_cut (word ∷ [])
+unfolding field_at
+cut_word word =
+    let one : (length (word ∷ []) == 1) ≡ true = grind (arith, nat_tests) in
+    sym (ap (λ b. b && bytes_eq word (codes "fault")) one)
+
+pub cut_more : (word : List ℕ) (words : List (List ℕ)) → 0 < length words → is_cut (word ∷ words) ≡ false
+cut_more word words some =
+    let more : (length (word ∷ words) == 1) ≡ false = grind (arith, nat_tests, some) in
+    ap (λ b. b && bytes_eq (or_empty (field_at (word ∷ words) 0)) (codes "fault")) more

@@ -1,6 +1,7 @@
 -- The columns of a capture, and its header. The format is this project's own.
-use Rattle.std.specs.Prelude.{ℕ, ◌==◌, List, [], ◌∷◌, ◌++◌, codes, map, Option, Some, None}
+use Rattle.std.specs.Prelude.{ℕ, ◌==◌, ◌&&◌, Bool, List, [], ◌∷◌, ◌++◌, codes, length, map, Option, Some, None}
 use Rattle.std.specs.List.{slice_split}
+use Rattle.std.specs.Str.{bytes_eq}
 use Rattle.csv.specs.Records.{field_at}
 use Rattle.check_rows.specs.declared.column.Column.{Column}
 use Rattle.check_rows.specs.declared.column.Columns.{Columns}
@@ -66,6 +67,10 @@ column columns which = or_empty (field_at columns (place_of_column which))
 -- what stands between the commas of a line
 abbrev pub column_parts : List ℕ → List (List ℕ)
 column_parts line = slice_split (λ byte. byte == 44) line
+
+-- the record stands where a fault cut a capture short: it is this one word, which its writer puts there
+abbrev pub is_cut : List (List ℕ) → Bool
+is_cut columns = length columns == 1 && bytes_eq (or_empty (field_at columns 0)) (codes "fault")
 
 -- what stands in the columns of a row
 abbrev pub column_words : Columns → List (List ℕ)

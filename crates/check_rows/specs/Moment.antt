@@ -53,6 +53,7 @@ HasBeat moment row = (other : SeenRow) × Contains moment.rows other × (place_o
 abbrev pub HasFault : Moment → SeenRow → RowFault → Type 0
 HasFault moment row fault.TimeFalls = row.time < moment.time
 HasFault moment row fault.TwoBeats = (row.time ≡ moment.time) × HasBeat moment row
+HasFault moment row fault.Cut = ⊥
 HasFault moment row fault.Columns = ⊥
 HasFault moment row fault.Number = ⊥
 HasFault moment row fault.Range = ⊥

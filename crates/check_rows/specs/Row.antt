@@ -6,7 +6,7 @@ use Rattle.check_watch.specs.Plan.{Sighting, seen_at}
 use Rattle.check_watch.specs.declared.beat.Beat.{Beat}
 use Rattle.check_watch.specs.declared.beat.Beat.TheVariants as beat
 use Rattle.check_rows.specs.Buses.{bus_of_link}
-use Rattle.check_rows.specs.Column.{column}
+use Rattle.check_rows.specs.Column.{column, is_cut}
 use Rattle.check_rows.specs.Columns.{link_of, channel_of, flag_of, flag_or, nothing_of}
 use Rattle.check_rows.specs.declared.column.Column.TheVariants as named
 use Rattle.check_rows.specs.Lanes.{SeenLanes, lanes_of}
@@ -15,7 +15,7 @@ use Rattle.tl_text.specs.Reading.{◌>>=◌}
 use Rattle.check_rows.specs.declared.columns.RowChannel.{RowChannel}
 use Rattle.check_rows.specs.declared.columns.RowChannel.TheVariants as channel
 use Rattle.check_rows.specs.declared.fault.RowFault.{RowFault}
-use Rattle.check_rows.specs.declared.fault.RowFault.TheVariants.{Columns}
+use Rattle.check_rows.specs.declared.fault.RowFault.TheVariants.{Columns, Cut}
 use Rattle.check_rows.specs.declared.row.Row.{Row}
 
 -- a beat with its lanes
@@ -88,7 +88,8 @@ abbrev pub beat_of : ℕ → RowChannel → List (List ℕ) → Result SeenBeat 
 beat_of bus channel.A columns = ask_of_words bus columns
 beat_of bus channel.D columns = reply_of_words bus columns
 
--- the row that twelve columns on this line spell, in a system whose masters' and ports' links have these buses
+-- the row that twelve columns on this line spell, in a system whose masters' and ports' links have these buses. Before any other
+-- fault comes that the capture was cut short there
 unfoldable pub row_of : List Bus → List Bus → ℕ → List (List ℕ) → Result SeenRow RowFault
 row_of masters ports line columns =
     if length columns == 12 then (do
@@ -101,6 +102,7 @@ row_of masters ports line columns =
         time = time;
         sighting = seen_at link seen.beat seen.lanes.known seen.lanes.bytes;
       }))
+    else if is_cut columns then Err Cut
     else Err Columns
 
 -- ---- what is read

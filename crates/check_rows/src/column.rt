@@ -1,12 +1,15 @@
 //! The columns of a capture.
 ghost use Rattle.std.specs.Prelude.{◌≡◌, ◌≢◌, ◌==◌, ◌≤◌, ◌<◌, ℕ, [], ◌∷◌, true, false, length, map, get_or, IfSome, IfNone};
 ghost use Rattle.csv.specs.Records.{fields_of};
-ghost use Rattle.check_rows.specs.Column.{column, header, name_of_column, column_parts, place_of_column, column_words};
+ghost use Rattle.check_rows.specs.Column.{column, header, is_cut, name_of_column, column_parts, place_of_column, column_words};
 
 use csv::ByteRecord;
 
 /// How many columns a row has.
 pub const COLUMNS: usize = 12;
+
+/// The one word of the record that stands where a fault cut a capture short.
+const CUT: &[u8] = b"fault";
 
 /// A column of a capture, in the order of the header.
 #[derive(Debug, Clone, Copy, PartialEq, Eq)]
@@ -126,6 +129,23 @@ pub(crate) fn cut_line(line: &[u8]) -> Option<Columns<'_>>
             Some(Columns { words })
         }
     }
+}
+
+/// Whether a line stands where a fault cut the capture short.
+pub(crate) fn is_cut_line(line: &[u8]) -> bool
+    ensures { result ≡ is_cut (column_parts line.now) }
+{
+    match cut_part(line) {
+        Some(_) => false,
+        None => line == CUT,
+    }
+}
+
+/// The same of a record.
+pub(crate) fn is_cut_record(found: &ByteRecord) -> bool
+    ensures { result ≡ is_cut (fields_of found.now) }
+{
+    found.len() == 1 && found.get(0) == Some(CUT)
 }
 
 /// The name of the column at a place, counted from 0.

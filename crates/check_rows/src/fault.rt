@@ -4,6 +4,8 @@ use thiserror::Error;
 /// Why a record is no row, or no row that may stand where it does.
 #[derive(Debug, Clone, Copy, PartialEq, Eq, Error)]
 pub enum RowFault {
+    #[error("cut by a fault")]
+    Cut,
     #[error("wrong count of columns")]
     Columns,
     #[error("bad number")]

@@ -1,13 +1,14 @@
 //! The rows of a capture.
-ghost use Rattle.std.specs.Prelude.{◌≡◌, IfOk};
+ghost use Rattle.std.specs.Prelude.{◌≡◌, IfOk, if◌then◌else◌};
 ghost use Rattle.csv.specs.Records.{fields_of};
 ghost use Rattle.check_beats.specs.Bus.{bus_bytes};
 ghost use Rattle.check_rows.specs.Buses.{HasBus, IsLinkOf};
 ghost use Rattle.check_rows.specs.Column.{column_parts, column_words};
+ghost use Rattle.check_rows.specs.declared.fault.RowFault.TheVariants.{Cut, Columns as WrongCount};
 ghost use Rattle.check_rows.specs.Row.{ask_of_words, asks_for_mark, beat_in, beat_of, reply_of_words, row_in, row_of};
 
 use crate::buses::Buses;
-use crate::column::{Column, Columns, columns_of, cut_line};
+use crate::column::{Column, Columns, columns_of, cut_line, is_cut_line, is_cut_record};
 use crate::columns::{RowChannel, read_channel, read_flag, read_flag_or, read_link, read_nothing};
 use crate::fault::RowFault;
 use crate::lanes::read_lanes;
@@ -163,6 +164,17 @@ fn read_columns(
     })
 }
 
+/// What is wrong with a record of another count of columns, which stands where a fault cut the capture short, or not.
+fn count_fault(is_cut: bool) -> RowFault
+    ensures { result ≡ if is_cut then Cut else WrongCount }
+{
+    if is_cut {
+        RowFault::Cut
+    } else {
+        RowFault::Columns
+    }
+}
+
 /// The row that the columns of a record spell, in a system whose links have these buses, or the first fault that they
 /// have, from the left. The lanes of the row stand in the first places of the buffer, as many as its bus has bytes.
 /// After a fault nothing is said of the buffer.
@@ -182,7 +194,7 @@ pub fn read_row(
 {
     match columns_of(columns) {
         Some(columns) => read_columns(buses, line, &columns, lanes),
-        None => Err(RowFault::Columns),
+        None => Err(count_fault(is_cut_record(columns))),
     }
 }
 
@@ -206,6 +218,6 @@ pub fn read_bare_row(
     }
     match cut_line(text) {
         Some(columns) => read_columns(buses, line, &columns, lanes),
-        None => Err(RowFault::Columns),
+        None => Err(count_fault(is_cut_line(text))),
     }
 }

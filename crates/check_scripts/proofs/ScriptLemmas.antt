@@ -28,13 +28,14 @@ use Rattle.tl_script.specs.declared.fault.ScriptKey.TheVariants.{Slots as OldSlo
 use Rattle.tl_script.specs.declared.fault.ScriptFault.{ScriptFault}
 use Rattle.tl_script.specs.declared.fault.ScriptFault.TheVariants.{Missing as OldMissing, WrongType as OldWrongType, NotToml as OldNotToml, TooLong as OldTooLong}
 use Rattle.check_description.specs.File.{Parts, document_of, parts_in, parts_of}
+use Rattle.check_description.specs.Reach.{reach_at}
 use Rattle.check_description.specs.Rules.{by_address_in, rules_in}
 use Rattle.check_scripts.specs.Instance.{ArePortsOf, DescribesTheSame, IsAbsent, IsPlainMaster, IsPlainPort, NamesTheSame, SaysNothingNew, plain_master, strict_rules}
 use Rattle.check_keys.specs.Key.{key_name}
 use Rattle.tl_map.specs.declared.owners.Owner.{Owner}
 use Rattle.check_description.specs.Master.{HasOwners, IsInBlocks, Master, counts_of, said_owners, first_at, has_first, master_of, master_tables, masters_of, stride_at}
 use Rattle.check_keys.specs.Name.{name_at}
-use Rattle.check_description.specs.Port.{Port, port_tables, ports_of, tables_by}
+use Rattle.check_description.specs.Port.{Port, names_of_ports, port_tables, ports_of, tables_by}
 use Rattle.tl_text.specs.Reading as steps
 use Rattle.check_beats.specs.declared.bus.Bus.TheVariants.{Eight}
 use Rattle.check_keys.specs.Bus.{bus_in_table}
@@ -137,32 +138,34 @@ sources_read (Ok count) (Ok ls) master is =
     let same : record { sources = count; lines = ls } ≡ master = cc in
     ap (λ (m : OldMaster). Ok m.sources) same
 
-master_same : (members : Members) (master : OldMaster) → IsPlainMaster members → 0 < master.sources
-    → old_master_of members ≡ Ok master → master_of Eight false members ≡ Ok (plain_master master.sources)
-unfolding old_master_of master_of name_at first_at stride_at bus_in_table text_if_any number_if_any
-master_same members master plain some is =
+master_same : (ports : List (Option (List ℕ))) (members : Members) (master : OldMaster) → IsPlainMaster members
+    → 0 < master.sources → old_master_of members ≡ Ok master
+    → master_of Eight ports false members ≡ Ok (plain_master master.sources)
+unfolding old_master_of master_of name_at first_at stride_at bus_in_table reach_at text_if_any number_if_any
+master_same ports members master plain some is =
     let read = sources_read (old_number_at OldSources 0 65535 members) (old_lines_at members) master is in
     let few = (number_at_within OldSources 0 65535 master.sources members read).1 in
     let sources : number_at Sources 1 MAX_JUDGED_SOURCES members ≡ Ok master.sources =
     number_at_same OldSources Sources 0 65535 1 MAX_JUDGED_SOURCES master.sources members refl read (omega (arith, some))
     (omega (arith, few)) in
-    rw (plain.name, sources, plain.stride, plain.bus) refl
+    rw (plain.name, sources, plain.stride, plain.bus, plain.reach) refl
 
 -- how many sources the masters of a script have
 abbrev pub said_counts : List OldMaster → List ℕ
 said_counts masters = map (λ (master : OldMaster). master.sources) masters
 
-masters_same : (tables : List Members) (masters : List OldMaster) → AllByRecursion IsPlainMaster tables
+masters_same : (ports : List (Option (List ℕ))) (tables : List Members) (masters : List OldMaster)
+    → AllByRecursion IsPlainMaster tables
     → AllByRecursion (λ count. 0 < count) (said_counts masters) → steps.each old_master_of tables ≡ Ok masters
-    → steps.each (master_of Eight false) tables ≡ Ok (map plain_master (said_counts masters))
-masters_same [] [] plain some is = refl
-masters_same [] (master ∷ masters) plain some is = absurd cc
-masters_same (table ∷ tables) [] plain some is =
+    → steps.each (master_of Eight ports false) tables ≡ Ok (map plain_master (said_counts masters))
+masters_same ports [] [] plain some is = refl
+masters_same ports [] (master ∷ masters) plain some is = absurd cc
+masters_same ports (table ∷ tables) [] plain some is =
     absurd (each_none (old_master_of table) (steps.each old_master_of tables) is)
-masters_same (table ∷ tables) (master ∷ masters) plain some is =
+masters_same ports (table ∷ tables) (master ∷ masters) plain some is =
     let both = each_first (old_master_of table) (steps.each old_master_of tables) master masters is in
-    let first = master_same table master plain.0 some.0 both.0 in
-    let rest = masters_same tables masters plain.1 some.1 both.1 in
+    let first = master_same ports table master plain.0 some.0 both.0 in
+    let rest = masters_same ports tables masters plain.1 some.1 both.1 in
     rw (first, rest) refl
 
 masters_counted : (tables : List Members) (masters : List OldMaster) → steps.each old_master_of tables ≡ Ok masters
@@ -190,18 +193,20 @@ tables_read : (members : Members) (value : Data) (tables : List Members) → val
 unfolding master_tables
 tables_read fields value tables value_is tables_are some few = rw (value_is, tables_are, some, few) refl
 
-masters_read : (members : Members) (tables : List Members) (masters : List Master) → master_tables members ≡ Ok tables
-    → list_any has_first tables ≡ false → steps.each (master_of Eight false) tables ≡ Ok masters
-    → masters_of Eight members ≡ Ok masters
+masters_read : (ports : List (Option (List ℕ))) (members : Members) (tables : List Members) (masters : List Master)
+    → master_tables members ≡ Ok tables
+    → list_any has_first tables ≡ false → steps.each (master_of Eight ports false) tables ≡ Ok masters
+    → masters_of Eight ports members ≡ Ok masters
 unfolding masters_of
-masters_read fields tables masters tables_are none read = rw (tables_are, none) read
+masters_read ports fields tables masters tables_are none read = rw (tables_are, none) read
 
-pub masters_of_same : (members : Members) (masters : List OldMaster) → length masters ≤ MAX_JUDGED_MASTERS
+pub masters_of_same : (ports : List (Option (List ℕ))) (members : Members) (masters : List OldMaster)
+    → length masters ≤ MAX_JUDGED_MASTERS
     → ((tables : List Members) → master_tables members ≡ Ok tables → AllByRecursion IsPlainMaster tables)
     → AllByRecursion (λ count. 0 < count) (said_counts masters) → old_masters_of members ≡ Ok masters
-    → masters_of Eight members ≡ Ok (map plain_master (said_counts masters))
+    → masters_of Eight ports members ≡ Ok (map plain_master (said_counts masters))
 unfolding old_masters_of
-masters_of_same members masters few plain some is =
+masters_of_same ports members masters few plain some is =
     let value = taken (old_value_at OldMasterKey members)
     (λ value. steps.◌>>=◌ (old_tables_of OldMasterKey value)
     (λ tables. steps.◌>>=◌ (old_some_of OldMasterKey tables) (steps.each old_master_of))) masters is in
@@ -216,9 +221,9 @@ masters_of_same members masters few plain some is =
     let tables_are = tables_read members value.0 tables.0
     (value_at_same OldMasterKey MasterKey members value.0 refl value.1)
     (tables_of_same OldMasterKey MasterKey value.0 tables.0 tables.1) same.1 not_more in
-    masters_read members tables.0 (map plain_master (said_counts masters)) tables_are
+    masters_read ports members tables.0 (map plain_master (said_counts masters)) tables_are
     (none_has_first tables.0 (plain tables.0 tables_are))
-    (masters_same tables.0 masters (plain tables.0 tables_are) some read)
+    (masters_same ports tables.0 masters (plain tables.0 tables_are) some read)
 
 -- a script has a master
 masters_some : (members : Members) (masters : List OldMaster) → old_masters_of members ≡ Ok masters → 0 < length masters
@@ -272,7 +277,7 @@ rules_read members aligned decode = rw (aligned, decode_read members decode) ref
 
 parts_read : (members : Members) (ports : List Port) (masters : List Master) → bus_in_table Eight members ≡ Ok Eight
     → rules_in members ≡ Ok strict_rules
-    → ports_of Eight members ≡ Ok ports → masters_of Eight members ≡ Ok masters
+    → ports_of Eight members ≡ Ok ports → masters_of Eight (names_of_ports ports) members ≡ Ok masters
     → parts_in members ≡ Ok (record { rules = strict_rules; ports = ports; masters = masters })
 unfolding parts_in
 parts_read fields ports masters bus_is rules_are ports_are masters_are =
@@ -344,7 +349,7 @@ parts_of_same bytes parts plain ranges counts is =
     some_bytes read.ports in
     let few_masters : length parts.masters ≤ MAX_JUDGED_MASTERS =
     omega (arith, counts.masters, length-map parts.masters (λ (master : OldMaster). master.sources)) in
-    let masters = masters_of_same members parts.masters few_masters (λ tables. plain.masters members tables document_is)
+    let masters = masters_of_same (names_of_ports ports.same.ports) members parts.masters few_masters (λ tables. plain.masters members tables document_is)
     (recursion_from_All (λ count. 0 < count) (old_counts_of parts) counts.some) read.masters in
     record {
       ports = ports.same.ports;

@@ -10,7 +10,7 @@ use Rattle.check_beats.specs.declared.bus.Bus.TheVariants.{Eight}
 use Rattle.check_beats.specs.declared.rules.LinkRules.{LinkRules}
 use Rattle.check_keys.specs.Key.{key_name}
 use Rattle.check_keys.specs.declared.fault.Key.{Key}
-use Rattle.check_keys.specs.declared.fault.Key.TheVariants.{Bus, Unaligned, Decode, Name, Ranges, Image, Unknown, Sizes, Order, First, Stride}
+use Rattle.check_keys.specs.declared.fault.Key.TheVariants.{Bus, Unaligned, Decode, Name, Ranges, Image, Unknown, Sizes, Order, First, Stride, Reach}
 use Rattle.check_description.specs.Laws.{IsPlainMemory, store_at_reset}
 use Rattle.check_description.specs.Port.{Port, port_tables}
 use Rattle.check_description.specs.Description.{Description, Makes}
@@ -39,6 +39,7 @@ pub record IsPlainMaster (members : Members) : Type 0 where
   pub first : IsAbsent First members
   pub stride : IsAbsent Stride members
   pub bus : IsAbsent Bus members
+  pub reach : IsAbsent Reach members
 
 -- the file says nothing of its links, and no table of a port or of a master has such a key
 pub record SaysNothingNew (bytes : List ℕ) : Type 0 where
@@ -71,7 +72,7 @@ ArePortsOf (store ∷ stores) (port ∷ ports) = IsPortOf store port × ArePorts
 
 -- a master that says only how many sources it has
 abbrev pub plain_master : ℕ → Master
-plain_master count = record { name = None; sources = count; first = None; stride = 1; bus = Eight }
+plain_master count = record { name = None; sources = count; first = None; stride = 1; bus = Eight; reach = None }
 
 -- requests are aligned, and decoders look at all their bytes
 abbrev pub strict_rules : LinkRules

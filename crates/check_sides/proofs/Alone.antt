@@ -1,10 +1,11 @@
 -- A beat at a port's link that is judged by itself: the first reason why it is not lawful, or that it is.
-use Rattle.std.proofs.Common.{◌≡◌, ◌∙◌, ℕ, ◌<◌, Bool, false, List, refl, sym, subst}
+use Rattle.std.proofs.Common.{◌≡◌, ◌∙◌, ℕ, ◌<◌, Bool, false, if◌then◌else◌, List, ap, length, refl, sym, subst}
 use Rattle.std.specs.Prelude.{IsTrue}
 use Rattle.tl_types.specs.Fault.{IsFirstOf}
+use Rattle.tl_map.specs.Map.{RoutesBytes}
 use Rattle.tl_map.specs.declared.range.Range.{Range}
 use Rattle.check_beats.specs.Form.{FitsAsk, FitsReply, IsKnown}
-use Rattle.check_beats.specs.Rules.{IsAlignedBy}
+use Rattle.check_beats.specs.Rules.{IsAlignedBy, decoded_size}
 use Rattle.check_beats.specs.State.{ends_reply, first_ask, first_reply}
 use Rattle.check_beats.specs.declared.beat.AskHead.{AskHead}
 use Rattle.check_beats.specs.declared.beat.ReplyHead.{ReplyHead}
@@ -18,7 +19,8 @@ use Rattle.check_watch.specs.declared.fault.Reason.{Reason}
 use Rattle.check_watch.specs.declared.links.Links.TheVariants.{Both, Ports}
 use Rattle.check_watch.specs.Allowed.{BeginsFree, BeginsPlaced, IsAnswer, IsAllowedReply, IsMust, OfAsked}
 use Rattle.check_watch.specs.Faults.{HasAnswerReason, HasEndReason, IsFirstReplyReason, reason_rank}
-use Rattle.check_watch.specs.Plan.{Layout, HasSource}
+use Rattle.check_watch.specs.Paths.{has_path}
+use Rattle.check_watch.specs.Plan.{DecodesTo, Layout, HasSource, RoutesWide, reached}
 use Rattle.check_watch.specs.Scene.{Scene}
 use Rattle.check_watch.proofs.Judging.{AskUpTo}
 use Rattle.check_watch.proofs.Replying.{first_answer, first_end}
@@ -31,6 +33,36 @@ module _ (layout : Layout) (links : LinkRules) (map : List (List Range)) (port :
   -- every source is the link's
   pub own_source : (source : ℕ) → source < 65536 → HasSource layout (Port port) source
   own_source source small = (source, (refl, own.anybody source small))
+
+  -- requests reach the port that decoders find
+  reaches_all : (master found : ℕ) → reached layout master found ≡ found
+  reaches_all master found =
+      ap (λ paths. if has_path paths master found then found else length layout.ports) own.paths
+
+  -- a request is in place exactly if decoders find the port for it
+  pub found_if_placed : (beat : AskHead) → RoutesWide layout beat.source beat.address beat.size port
+      → RoutesBytes map beat.address (decoded_size links beat.size) port
+  found_if_placed beat placed =
+      let at : DecodesTo layout beat.address beat.size port =
+      subst (λ p. DecodesTo layout beat.address beat.size p)
+      (sym (reaches_all placed.master placed.routes.found) ∙ placed.routes.reaches) placed.routes.decodes in
+      subst (λ (r : LinkRules). RoutesBytes map beat.address (decoded_size r beat.size) port) own.rules
+      (subst (λ (m : List (List Range)). RoutesBytes m beat.address (decoded_size layout.rules beat.size) port) own.ranges at)
+
+  pub placed_if_found : (beat : AskHead) → beat.source < 65536
+      → RoutesBytes map beat.address (decoded_size links beat.size) port
+      → RoutesWide layout beat.source beat.address beat.size port
+  placed_if_found beat small found =
+      let owner = own.anybody beat.source small in
+      let at : DecodesTo layout beat.address beat.size port =
+      subst (λ (r : LinkRules). RoutesBytes layout.ports beat.address (decoded_size r beat.size) port) (sym own.rules)
+      (subst (λ (m : List (List Range)). RoutesBytes m beat.address (decoded_size links beat.size) port) (sym own.ranges)
+      found) in
+      record {
+        master = owner.0;
+        owns = owner.1;
+        routes = record { found = port; decodes = at; reaches = reaches_all owner.0 port };
+      }
 
   pub up_to : (scene : Scene) (beat : AskHead) (known : ℕ) (lanes : List ℕ) (rank : ℕ)
       → FitsAsk scene.under.bus (first_ask scene.under.asking) beat → IsAlignedBy links beat → IsKnown beat known

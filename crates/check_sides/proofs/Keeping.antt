@@ -86,7 +86,7 @@ module _ (plan : Plan) (past : List Sighting) (view : View) (port : ℕ) (beat :
 
   pub own_port : (links : LinkRules) (map : List (List Range)) → plan.layout.rules ≡ links → plan.layout.ports ≡ map
       → IsOwnPort (port_plan plan).layout links map
-  own_port links map rules ranges = record { watched = refl; rules = rules; anybody = owns_all; ranges = ranges }
+  own_port links map rules ranges = record { watched = refl; rules = rules; anybody = owns_all; ranges = ranges; paths = refl }
 
   pub kept_here : (link : PortView) → slice_get view.ports port ≡ Some link
       → KeepsPort (port_plan plan) port (port_past port past) link

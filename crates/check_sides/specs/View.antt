@@ -37,12 +37,14 @@ pub record PortView : Type 0 where
   pub flights : List (ℕ × Flight)
   pub slave : PortSlave
 
--- a layout is that of such a link, by these rules of the links, where the ports have these ranges
+-- a layout is that of such a link, by these rules of the links, where the ports have these ranges, and whoever sends a
+-- request has a path to each
 pub record IsOwnPort (layout : Layout) (links : LinkRules) (map : List (List Range)) : Type 0 where
   pub watched : layout.links ≡ Ports
   pub rules : layout.rules ≡ links
   pub anybody : (source : ℕ) → source < 65536 → IsOwned layout.owners source
   pub ranges : layout.ports ≡ map
+  pub paths : layout.paths ≡ []
 
 -- what stands of a source at the masters' side. No rule of a port's own link asks for it
 pub record Beyond : Type 0 where

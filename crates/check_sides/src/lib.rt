@@ -23,6 +23,6 @@ mod steps;
 mod watch;
 
 pub use check_watch::{
-    Beat, Change, Ended, Fault, Link, Links, Origin, Reason, Seen, SeenEntry, StepError,
+    Beat, Change, Ended, Fault, Link, Links, Origin, Paths, Reason, Seen, SeenEntry, StepError,
 };
 pub use watch::Watch;

@@ -11,7 +11,7 @@ ghost use Rattle.check_sides.specs.View.{IsSized, Keeps, fresh_links};
 use crate::port::PortLink;
 use check_beats::{Bus, LinkRules};
 use check_flight::PortSlave;
-use check_watch::{GroupWatch, Link, Links};
+use check_watch::{GroupWatch, Link, Links, Paths};
 use std::alloc::{AllocError, Global};
 use std::marker::Model;
 use tl_map::{AddressMap, SourceOwners};
@@ -59,7 +59,7 @@ fn links_of(
 }
 
 impl Watch {
-    /// The judge of a crossbar with these rules, ports and sources, before any beat. There is a slave for each port, the error
+    /// The judge of a crossbar with these rules, ports, paths and sources, before any beat. There is a slave for each port, the error
     /// port's last, as it is at reset; a bus for each master's link, and one for each port's. With `Links::Each` the same
     /// slaves are given a second time, for the ports' side; otherwise that list is not looked at.
     pub fn new(
@@ -67,6 +67,7 @@ impl Watch {
         links: Links,
         rules: LinkRules,
         map: AddressMap,
+        paths: Paths,
         sources: SourceOwners,
         master_buses: Vec<Bus>,
         port_buses: Vec<Bus>,
@@ -82,6 +83,7 @@ impl Watch {
           rules = rules;
           owners = sources;
           ports = map;
+          paths = paths;
           master_buses = master_buses.items;
           port_buses = port_buses.items;
         }) }
@@ -93,6 +95,7 @@ impl Watch {
               rules = rules;
               owners = sources;
               ports = map;
+              paths = paths;
               master_buses = master_buses.items;
               port_buses = port_buses.items;
             }
@@ -104,6 +107,7 @@ impl Watch {
             links,
             rules,
             map,
+            paths,
             sources,
             master_buses,
             port_buses,
@@ -149,12 +153,12 @@ impl Watch {
         self.shared.map()
     }
 
-    /// The port to which the address map sends requests of this address and size.
-    pub fn route(&self, address: u64, size: u8) -> usize
+    /// The port to which a master's requests of this address and size go.
+    pub fn route(&self, master: usize, address: u64, size: u8) -> usize
         requires { size ≤ MAX_SIZE }
-        ensures { (port : ℕ) → (result ≡ port) ↔ RoutesAt self.now.layout address size port }
+        ensures { (port : ℕ) → (result ≡ port) ↔ RoutesAt self.now.layout master address size port }
     {
-        self.shared.route(address, size)
+        self.shared.route(master, address, size)
     }
 
     /// The bus of a link.

@@ -9,7 +9,7 @@ ghost use Rattle.check_sides.specs.View.{Keeps};
 ghost use Rattle.check_unanswered.specs.View.{Holds};
 ghost use Rattle.check_lines.specs.Names.{texts_of};
 ghost use Rattle.check_start.specs.Slaves.{slaves_at_reset};
-ghost use Rattle.check_start.specs.Start.{ByThePlan, layout_of, master_buses as buses_of_masters, system_names, port_buses as buses_of_ports};
+ghost use Rattle.check_start.specs.Start.{ByThePlan, layout_of, master_buses as buses_of_masters, master_paths as paths_of_masters, system_names, port_buses as buses_of_ports};
 
 use crate::slaves::slaves_of;
 use check_beats::Bus;
@@ -17,7 +17,7 @@ use check_description::{Described, Description, Master, Port};
 use check_flight::{Order, PortSlave};
 use check_keys::SystemFault;
 use check_lines::Names;
-use check_sides::{Links, Watch};
+use check_sides::{Links, Paths, Watch};
 use check_unanswered::Pending;
 use std::alloc::{AllocError, Global};
 use tl_map::{AddressMap, SourceOwners};
@@ -110,6 +110,28 @@ fn master_buses(
         buses.push(master.bus)?;
     }
     Ok(buses)
+}
+
+/// A copy of a master's flags, if it has any.
+fn copy_flags(alloc: Global, flags: &Option<Vec<bool>>) -> Result<Option<Vec<bool>>, AllocError>
+    ensures { IfOk result (λ copy. option_map (λ flags. flags.items) copy
+        ≡ option_map (λ flags. flags.items) flags.now) }
+{
+    match flags {
+        Some(flags) => Ok(Some(Vec::from_slice(alloc, flags)?)),
+        None => Ok(None),
+    }
+}
+
+/// The ports to which the masters have paths.
+fn master_paths(alloc: Global, masters: &[Master]) -> Result<Paths, AllocError>
+    ensures { IfOk result (λ paths. paths ≡ paths_of_masters (map master_view masters.now)) }
+{
+    let mut flags = Vec::with_capacity(alloc, masters.len())?;
+    for master in masters {
+        flags.push(copy_flags(alloc, &master.reach)?)?;
+    }
+    Ok(Paths::new(flags))
 }
 
 /// The buses of the links of a system's masters and ports, by their numbers.
@@ -209,11 +231,13 @@ pub fn begin(
     // one for the judge, and one for the reader of rows
     let buses = buses_of(alloc, &parts)?;
     let told = buses_of(alloc, &parts)?;
+    let paths = master_paths(alloc, &parts.masters)?;
     let watch = Watch::new(
         alloc,
         terms.links,
         parts.rules,
         parts.addresses,
+        paths,
         parts.sources,
         buses.masters,
         buses.ports,

@@ -4,8 +4,6 @@ use Rattle.std.specs.Prelude.{nat_lt}
 use Rattle.std.specs.List.{AllByRecursion}
 use Rattle.tl_types.specs.Request.{Request}
 use Rattle.tl_map.specs.Map.{IsLawfulAddressMap}
-use Rattle.tl_map.proofs.Routing.{one_port}
-use Rattle.check_beats.specs.Rules.{decoded_size}
 use Rattle.check_beats.specs.Message.{op_of}
 use Rattle.check_flight.specs.Crossing.{Crossing}
 use Rattle.check_flight.specs.Crossing.Crossing.{Waiting, Crossed, Given}
@@ -13,15 +11,17 @@ use Rattle.check_flight.specs.Flight.{Turn}
 use Rattle.check_flight.specs.Flight.Turn.{Idle, Asking, Asked}
 use Rattle.check_watch.specs.Lawful.{IsLawfulGroup as IsGroupLawful}
 use Rattle.check_watch.specs.Past.{State, state}
-use Rattle.check_watch.specs.Plan.{IsPlan, Plan, LinkSide, Sighting, RoutesAt}
+use Rattle.check_watch.specs.Plan.{IsPlan, Plan, LinkSide, Sighting, RoutesWide, link_number, route_of}
 use Rattle.check_watch.specs.Plan.LinkSide.{AtMasters, AtPorts}
-use Rattle.check_watch.specs.declared.beat.Link.TheVariants.{Port}
+use Rattle.check_watch.specs.declared.beat.Link.TheVariants.{Master, Port}
+use Rattle.check_watch.proofs.Judging.{route_is as route_by_plan}
 use Rattle.check_watch_laws.specs.Crossed.{AreWatched as AreGroupWatched}
+use Rattle.check_watch_laws.specs.Crossings.{IsOfMaster}
 use Rattle.check_watch_laws.specs.Memories.{port_for, side_by, side_for}
 use Rattle.check_watch_laws.specs.Messages.{IsInPlace}
 use Rattle.check_watch_laws.specs.Moments.{RequestMoment, moments}
 use Rattle.check_watch_laws.specs.Moments.Act.{Accepts}
-use Rattle.check_watch_laws.proofs.Crossing.{all_stand, last_of_all, story_at}
+use Rattle.check_watch_laws.proofs.Crossing.{all_stand, asks_owned, last_of_all, story_at}
 use Rattle.check_watch_laws.proofs.Flights.{in_step, pending}
 use Rattle.check_watch_laws.proofs.Placing.{asks_placed}
 use Rattle.check_watch_laws.proofs.Standing.{IsOut, Stands, Story, is_out}
@@ -32,7 +32,8 @@ use Rattle.check_order_laws.proofs.InTurn.{none_open, open_after, open_here, ope
 use Rattle.check_order_laws.proofs.Turning.{are_open}
 use Rattle.check_watch.specs.declared.links.Links.{Links}
 use Rattle.check_watch.specs.declared.links.Links.TheVariants.{Both, Masters, Ports, Each}
-use Rattle.check_coverage.specs.Flights.{InFlight}
+use Rattle.check_coverage.specs.Flights.{InFlight, master_of}
+use Rattle.check_coverage.proofs.Owners.{master_is}
 use Rattle.check_text_laws.proofs.Finding.{found}
 use Rattle.check_text_laws.proofs.Kept.{AreKept, IsKeptAs, IsWholeAs}
 use Rattle.check_text_laws.proofs.Rows.{counted_side}
@@ -112,7 +113,7 @@ module _ (plan : Plan) (wide : ℕ) (story : Story) (there : Turn) (number : ℕ
   was_sent : (turn : Turn) (crossing : Crossing) → Stands plan wide story turn crossing there → IsSentAs turn ask
   was_sent Idle crossing stands = absurd (some_pending there number ask is stands.free)
   was_sent (Asking n) crossing stands = absurd (some_pending there number ask is stands.free)
-  was_sent (Asked n sent) crossing stands = sent_out n sent (is_out plan wide sent) crossing stands
+  was_sent (Asked n sent) crossing stands = sent_out n sent (is_out plan wide n sent) crossing stands
 
 -- ---- what is open is counted
 
@@ -146,30 +147,48 @@ module _ (plan : Plan) (is_plan : IsPlan plan) (map : IsLawfulAddressMap plan.la
 
   -- a port's link has requests of the port alone
   routed : (number : ℕ) → (s.flights AtPorts wide).turn ≡ Asked number ask
-      → RoutesAt plan.layout ask.address ask.size number
+      → RoutesWide plan.layout wide ask.address ask.size number
   routed number is =
       let step = in_step p past lawful AtPorts wide in
-      last_of_all (IsInPlace p.layout) step.done (record { link = Port number; ask = ask })
-      (subst (λ l. AllByRecursion (IsInPlace p.layout) l)
+      last_of_all (IsInPlace p.layout wide) step.done (record { link = Port number; ask = ask })
+      (subst (λ l. AllByRecursion (IsInPlace p.layout wide) l)
       (step.asks_are ∙ ap (λ t. step.done ++ pending AtPorts t) is) (asks_placed p past lawful AtPorts wide))
       number refl
 
-  route_is : plan.route ask.address ask.size ≡ port
+  -- the master that has the source
+  abbrev owner : ℕ
+  owner = master_of plan.layout.owners wide
+
+  -- a master's link has requests of its own sources alone
+  owned : (number : ℕ) → (s.flights AtMasters wide).turn ≡ Asked number ask → number ≡ owner
+  owned number is =
+      let step = in_step p past lawful AtMasters wide in
+      let own = last_of_all (IsOfMaster p.layout wide) step.done (record { link = Master number; ask = ask })
+      (subst (λ l. AllByRecursion (IsOfMaster p.layout wide) l)
+      (step.asks_are ∙ ap (λ t. step.done ++ pending AtMasters t) is) (asks_owned p is_plan past lawful wide)) in
+      ap link_number own.1 ∙ master_is p.layout.owners own.0 ask.source wide is_plan.owners own.2
+
+  route_is : route_of plan owner ask.address ask.size ≡ port
   route_is = go side at.number at.turn_is at.goes
     where
+      by_owner : (master : ℕ) → master ≡ owner
+          → route_of plan owner ask.address ask.size ≡ route_of plan master ask.address ask.size
+      by_owner master is = ap (λ m. route_of plan m ask.address ask.size) (sym is)
+
       go : (sd : LinkSide) (number : ℕ) → (s.flights sd wide).turn ≡ Asked number ask
-          → port_for p (link_on sd number) ask ≡ port → plan.route ask.address ask.size ≡ port
-      go AtMasters number is goes = goes
+          → port_for p (link_on sd number) ask ≡ port → route_of plan owner ask.address ask.size ≡ port
+      go AtMasters number is goes = by_owner number (owned number is) ∙ goes
       go AtPorts number is goes =
-          one_port plan.layout.ports map ask.address (decoded_size plan.layout.rules ask.size) (plan.route ask.address ask.size) number
-          (is_plan.route ask.address ask.size) (routed number is) ∙ goes
+          let there = routed number is in
+          by_owner there.master (master_is p.layout.owners there.master there.owns.0 wide is_plan.owners there.owns.1)
+          ∙ route_by_plan plan is_plan there.master ask.address ask.size number there.routes ∙ goes
 
   pub head : IsHead port (found wide flights) ask
   head = ⊎_elim
       (λ (same : side ≡ counted_side plan.layout.links).
-      let whole : IsWholeAs plan ask (found wide flights) =
-      subst (λ t. IsKeptAs plan t (found wide flights)) at.turn_is
-      (subst (λ sd. IsKeptAs plan (s.flights sd wide).turn (found wide flights)) (sym same) (kept.turns wide)) in
+      let whole : IsWholeAs plan wide ask (found wide flights) =
+      subst (λ t. IsKeptAs plan wide t (found wide flights)) at.turn_is
+      (subst (λ sd. IsKeptAs plan wide (s.flights sd wide).turn (found wide flights)) (sym same) (kept.turns wide)) in
       record {
         flight = whole.flight;
         is = whole.is;
@@ -185,14 +204,14 @@ module _ (plan : Plan) (is_plan : IsPlan plan) (map : IsLawfulAddressMap plan.la
       subst (λ sd. (s.flights sd wide).turn ≡ Asked at.number ask) both.1 at.turn_is in
       let sent = was_sent p wide (story_at p wide past) (s.flights AtPorts wide).turn at.number ask there
       (s.flights AtMasters wide).turn (s.crossings wide) (all_stand p is_plan both.0 past watched lawful wide) in
-      let whole : IsWholeAs plan sent.sent (found wide flights) =
-      subst (λ t. IsKeptAs plan t (found wide flights)) sent.turn_is
-      (subst (λ sd. IsKeptAs plan (s.flights sd wide).turn (found wide flights)) both.2 (kept.turns wide)) in
+      let whole : IsWholeAs plan wide sent.sent (found wide flights) =
+      subst (λ t. IsKeptAs plan wide t (found wide flights)) sent.turn_is
+      (subst (λ sd. IsKeptAs plan wide (s.flights sd wide).turn (found wide flights)) both.2 (kept.turns wide)) in
       record {
         flight = whole.flight;
         is = whole.is;
         whole = whole.whole;
-        port_is = whole.port ∙ (λ i. plan.route (sym sent.address i) (sym sent.size i)) ∙ route_is;
+        port_is = whole.port ∙ (λ i. route_of plan owner (sym sent.address i) (sym sent.size i)) ∙ route_is;
         op = sent.op ∙ whole.op;
         address = sent.address ∙ whole.address;
         size = sent.size ∙ whole.size;

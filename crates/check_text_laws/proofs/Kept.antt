@@ -14,7 +14,7 @@ use Rattle.check_flight.specs.Flight.Turn.{Idle, Asking, Asked}
 use Rattle.check_flight.specs.declared.answer.Answer.{Answer}
 use Rattle.check_watch.specs.Allowed.{IsAllowedAsk, IsAllowedReply, IsMust}
 use Rattle.check_watch.specs.Past.{State, scene_of, state_after}
-use Rattle.check_watch.specs.Plan.{Layout, Plan, LinkSide, is_link, is_of, link_number, same_side, side_of, wide_of}
+use Rattle.check_watch.specs.Plan.{Layout, Plan, LinkSide, is_link, is_of, link_number, route_of, same_side, side_of, wide_of}
 use Rattle.check_watch.specs.Scene.{Scene, ask_by, captured, ended_by, flight_after, is_given, must_by, seen, seen_ask, seen_reply, turn_by, under_after}
 use Rattle.check_watch.specs.declared.beat.Beat.TheVariants.{A, D}
 use Rattle.check_watch.specs.declared.beat.Link.{Link}
@@ -24,38 +24,39 @@ use Rattle.check_watch.proofs.InFlight.{ask_at, idle_or_asking, of_is, reply_at}
 use Rattle.check_watch_laws.proofs.Heads.{first_after}
 use Rattle.check_watch_laws.proofs.Links.{same_link}
 use Rattle.check_watch_laws.proofs.Turns.{AsksFly, asked_at, asking_same, is_link_by, open_before, same_side-refl, true_or_false}
-use Rattle.check_coverage.specs.Flights.{InFlight, begun, flights_after, grown, ends_an_ask, ends_a_reply}
+use Rattle.check_coverage.specs.Flights.{InFlight, master_of, begun, flights_after, grown, ends_an_ask, ends_a_reply}
 use Rattle.check_text_laws.proofs.Finding.{found, left, other_left, other_stays, own_begins, own_goes_on, own_left}
 
 -- ---- what is the same
 
 -- a request that has ended is kept, whole
-pub record IsWholeAs (plan : Plan) (ask : Request) (kept : Option InFlight) : Type 0 where
+pub record IsWholeAs (plan : Plan) (wide : ℕ) (ask : Request) (kept : Option InFlight) : Type 0 where
   pub flight : InFlight
   pub is : kept ≡ Some flight
   pub whole : flight.is_whole ≡ true
-  pub port : flight.port ≡ plan.route ask.address ask.size
+  pub port : flight.port ≡ route_of plan (master_of plan.layout.owners wide) ask.address ask.size
   pub op : ask.op ≡ op_of flight.first.opcode flight.first.param
   pub address : ask.address ≡ flight.first.address
   pub size : ask.size ≡ flight.first.size
 
 -- a request that has begun is kept, with its first beat
-pub record IsBegunAs (plan : Plan) (first : AskHead) (kept : Option InFlight) : Type 0 where
+pub record IsBegunAs (plan : Plan) (wide : ℕ) (first : AskHead) (kept : Option InFlight) : Type 0 where
   pub flight : InFlight
   pub is : kept ≡ Some flight
   pub first_is : flight.first ≡ first
-  pub port : flight.port ≡ plan.route flight.first.address flight.first.size
+  pub port : flight.port
+      ≡ route_of plan (master_of plan.layout.owners wide) flight.first.address flight.first.size
 
-abbrev pub IsKeptAs : Plan → Turn → Option InFlight → Type 0
-IsKeptAs plan Idle kept = kept ≡ None
-IsKeptAs plan (Asking number) kept = Unit {0}
-IsKeptAs plan (Asked number ask) kept = IsWholeAs plan ask kept
+abbrev pub IsKeptAs : Plan → ℕ → Turn → Option InFlight → Type 0
+IsKeptAs plan wide Idle kept = kept ≡ None
+IsKeptAs plan wide (Asking number) kept = Unit {0}
+IsKeptAs plan wide (Asked number ask) kept = IsWholeAs plan wide ask kept
 
 pub record AreKept (plan : Plan) (s : State) (side : LinkSide) (flights : List InFlight) : Type 0 where
-  pub turns : (wide : ℕ) → IsKeptAs plan (s.flights side wide).turn (found wide flights)
+  pub turns : (wide : ℕ) → IsKeptAs plan wide (s.flights side wide).turn (found wide flights)
   pub begins : (link : Link) (b : AskBegun) → side_of link ≡ side
       → (s.links (side_of link) (link_number link)).asking ≡ Some b
-      → IsBegunAs plan b.first (found (wide_of plan link b.first.source) flights)
+      → IsBegunAs plan (wide_of plan link b.first.source) b.first (found (wide_of plan link b.first.source) flights)
 
 asked_or_asking : (m n : ℕ) (ask : Request) → Asked m ask ≡ Asking n → ⊥
 asked_or_asking m n ask same = subst IsAsked same tt
@@ -140,7 +141,8 @@ module _ (plan : Plan) (s : State) (busy : AsksFly plan s) (flights : List InFli
       whole : flight.is_whole ≡ ends_an_ask end
       first_is : flight.first ≡ unwrap_or (first_ask asking) beat
       fields : SameFields flight.first beat
-      port : flight.port ≡ plan.route flight.first.address flight.first.size
+      port : flight.port
+          ≡ route_of plan (master_of plan.layout.owners own) flight.first.address flight.first.size
 
     mine : IsMine under.asking
     mine = go under.asking refl
@@ -148,7 +150,7 @@ module _ (plan : Plan) (s : State) (busy : AsksFly plan s) (flights : List InFli
         go : (asking : Option AskBegun) → under.asking ≡ asking → IsMine asking
         go None is =
             let none : found own flights ≡ None =
-            subst (λ t. IsKeptAs plan t (found own flights)) (allowed.free is) (kept.turns own) in
+            subst (λ t. IsKeptAs plan own t (found own flights)) (allowed.free is) (kept.turns own) in
             record {
               flight = grown bus beat (ends_an_ask end) (begun plan own beat);
               is = own_begins plan own beat flights bus end none;
@@ -159,8 +161,8 @@ module _ (plan : Plan) (s : State) (busy : AsksFly plan s) (flights : List InFli
             }
         go (Some b) is =
             let same = allowed.fits.same b.first (ap first_ask is) in
-            let was : IsBegunAs plan b.first (found own flights) =
-            subst (λ n. IsBegunAs plan b.first (found (wide_of p link n) flights)) (sym same.source)
+            let was : IsBegunAs plan own b.first (found own flights) =
+            subst (λ n. IsBegunAs plan (wide_of p link n) b.first (found (wide_of p link n) flights)) (sym same.source)
             (kept.begins link b refl is) in
             record {
               flight = grown bus beat (ends_an_ask end) was.flight;
@@ -171,34 +173,35 @@ module _ (plan : Plan) (s : State) (busy : AsksFly plan s) (flights : List InFli
               port = was.port;
             }
 
-    own_turn : IsKeptAs plan (turn_by (link_number link) (ask_by under beat lanes)) (found own next)
+    own_turn : IsKeptAs plan own (turn_by (link_number link) (ask_by under beat lanes)) (found own next)
     own_turn = by_end (ends_ask under.bus under.asking beat) refl
       where
         by_end : (ends : Bool) → ends_ask under.bus under.asking beat ≡ ends
-            → IsKeptAs plan (turn_by (link_number link)
+            → IsKeptAs plan own (turn_by (link_number link)
             (if ends then Some (ask_of under.bus under.asking beat lanes) else None)) (found own next)
         by_end false is = tt
         by_end true is = record {
           flight = mine.flight;
           is = mine.is;
           whole = mine.whole ∙ end_is ∙ is;
-          port = mine.port ∙ (λ i. plan.route (sym mine.fields.address i) (sym mine.fields.size i));
+          port = mine.port ∙ (λ i. route_of plan (master_of plan.layout.owners own) (sym mine.fields.address i)
+              (sym mine.fields.size i));
           op = λ i. op_of (mine.fields.opcode i) (mine.fields.param i);
           address = mine.fields.address;
           size = mine.fields.size;
         }
 
-    ask_turns : (wide : ℕ) → IsKeptAs plan (then_state.flights (side_of link) wide).turn (found wide next)
+    ask_turns : (wide : ℕ) → IsKeptAs plan wide (then_state.flights (side_of link) wide).turn (found wide next)
     ask_turns wide = go (is_of p (ask_at link known lanes beat) (side_of link) wide) refl
       where
         go : (of : Bool) → is_of p (ask_at link known lanes beat) (side_of link) wide ≡ of
-            → IsKeptAs plan (if of then flight_after p.layout link (scene_of p s link (A beat)) (A beat) lanes
+            → IsKeptAs plan wide (if of then flight_after p.layout link (scene_of p s link (A beat)) (A beat) lanes
             else s.flights (side_of link) wide).turn (found wide next)
         go true is =
-            subst (λ w. IsKeptAs plan (turn_by (link_number link) (ask_by under beat lanes)) (found w next))
+            subst (λ w. IsKeptAs plan w (turn_by (link_number link) (ask_by under beat lanes)) (found w next))
             (of_is p (ask_at link known lanes beat) (side_of link) wide is).1 own_turn
         go false is =
-            subst (λ o. IsKeptAs plan (s.flights (side_of link) wide).turn o)
+            subst (λ o. IsKeptAs plan wide (s.flights (side_of link) wide).turn o)
             (sym (other_stays plan own beat flights bus end wide (other_source own wide is))) (kept.turns wide)
 
     -- a request that is under way at another link is of another source
@@ -226,26 +229,26 @@ module _ (plan : Plan) (s : State) (busy : AsksFly plan s) (flights : List InFli
         go false is = refl
 
     own_begun : (b : AskBegun) → (under_after under (A beat) known lanes).asking ≡ Some b
-        → IsBegunAs plan b.first (found (wide_of p link b.first.source) next)
+        → IsBegunAs plan (wide_of p link b.first.source) b.first (found (wide_of p link b.first.source) next)
     own_begun b is =
         let first : mine.flight.first ≡ b.first = mine.first_is ∙ first_after under.bus under.asking beat lanes b is in
         let source : beat.source ≡ b.first.source = mine.fields.source ∙ ap (λ (h : AskHead). h.source) first in
-        subst (λ n. IsBegunAs plan b.first (found (wide_of p link n) next)) source
+        subst (λ n. IsBegunAs plan (wide_of p link n) b.first (found (wide_of p link n) next)) source
         (record { flight = mine.flight; is = mine.is; first_is = first; port = mine.port })
 
     ask_begun : (at : Link) (b : AskBegun) → side_of at ≡ side_of link
         → (then_state.links (side_of at) (link_number at)).asking ≡ Some b
-        → IsBegunAs plan b.first (found (wide_of p at b.first.source) next)
+        → IsBegunAs plan (wide_of p at b.first.source) b.first (found (wide_of p at b.first.source) next)
     ask_begun at b side = go (is_link link (side_of at) (link_number at)) refl
       where
         go : (here : Bool) → is_link link (side_of at) (link_number at) ≡ here
             → (if here then under_after under (A beat) known lanes else s.links (side_of at) (link_number at)).asking ≡ Some b
-            → IsBegunAs plan b.first (found (wide_of p at b.first.source) next)
+            → IsBegunAs plan (wide_of p at b.first.source) b.first (found (wide_of p at b.first.source) next)
         go true here is =
-            subst (λ l. IsBegunAs plan b.first (found (wide_of p l b.first.source) next)) (same_link link at here)
+            subst (λ l. IsBegunAs plan (wide_of p l b.first.source) b.first (found (wide_of p l b.first.source) next)) (same_link link at here)
             (own_begun b is)
         go false here is =
-            subst (λ o. IsBegunAs plan b.first o)
+            subst (λ o. IsBegunAs plan (wide_of p at b.first.source) b.first o)
             (sym (other_stays plan own beat flights bus end (wide_of p at b.first.source) (elsewhere at b side is here)))
             (kept.begins at b side is)
 
@@ -275,26 +278,26 @@ module _ (plan : Plan) (s : State) (busy : AsksFly plan s) (flights : List InFli
     rest ends = if ends then left owner flights else flights
 
     reply_turns : (ends : Bool) → ends_reply under.bus under.replying beat ≡ ends → (wide : ℕ)
-        → IsKeptAs plan (replied.flights (side_of link) wide).turn (found wide (rest ends))
+        → IsKeptAs plan wide (replied.flights (side_of link) wide).turn (found wide (rest ends))
     reply_turns ends is_end wide =
         go (is_of p (reply_at link known lanes beat) (side_of link) wide) refl ends is_end
       where
         go : (of : Bool) → is_of p (reply_at link known lanes beat) (side_of link) wide ≡ of
             → (ends : Bool) → ends_reply under.bus under.replying beat ≡ ends
-            → IsKeptAs plan (if of then flight_after p.layout link (scene_of p s link (D beat)) (D beat) lanes
+            → IsKeptAs plan wide (if of then flight_after p.layout link (scene_of p s link (D beat)) (D beat) lanes
             else s.flights (side_of link) wide).turn (found wide (rest ends))
         go true is true so =
             let own = (of_is p (reply_at link known lanes beat) (side_of link) wide is).1 in
-            subst (λ b. IsKeptAs plan (if b then idle else (scene_of p s link (D beat)).flight).turn
+            subst (λ b. IsKeptAs plan wide (if b then idle else (scene_of p s link (D beat)).flight).turn
             (found wide (left owner flights))) (sym so)
             (subst (λ w. found w (left owner flights) ≡ None) own (own_left owner flights))
         go true is false so =
             let own = (of_is p (reply_at link known lanes beat) (side_of link) wide is).1 in
-            subst (λ b. IsKeptAs plan (if b then idle else (scene_of p s link (D beat)).flight).turn
+            subst (λ b. IsKeptAs plan wide (if b then idle else (scene_of p s link (D beat)).flight).turn
             (found wide flights)) (sym so)
-            (subst (λ w. IsKeptAs plan (s.flights (side_of link) owner).turn (found w flights)) own (kept.turns owner))
+            (subst (λ w. IsKeptAs plan w (s.flights (side_of link) owner).turn (found w flights)) own (kept.turns owner))
         go false is true so =
-            subst (λ o. IsKeptAs plan (s.flights (side_of link) wide).turn o)
+            subst (λ o. IsKeptAs plan wide (s.flights (side_of link) wide).turn o)
             (sym (other_left owner wide (other_source owner wide is) flights)) (kept.turns wide)
         go false is false so = kept.turns wide
 
@@ -317,20 +320,20 @@ module _ (plan : Plan) (s : State) (busy : AsksFly plan s) (flights : List InFli
 
     reply_begun : (ends : Bool) (at : Link) (b : AskBegun) → side_of at ≡ side_of link
         → (replied.links (side_of at) (link_number at)).asking ≡ Some b
-        → IsBegunAs plan b.first (found (wide_of p at b.first.source) (rest ends))
+        → IsBegunAs plan (wide_of p at b.first.source) b.first (found (wide_of p at b.first.source) (rest ends))
     reply_begun ends at b side = go (is_link link (side_of at) (link_number at)) refl
       where
         stays : (ends : Bool) → (s.links (side_of at) (link_number at)).asking ≡ Some b
-            → IsBegunAs plan b.first (found (wide_of p at b.first.source) (rest ends))
+            → IsBegunAs plan (wide_of p at b.first.source) b.first (found (wide_of p at b.first.source) (rest ends))
         stays true is =
-            subst (λ o. IsBegunAs plan b.first o)
+            subst (λ o. IsBegunAs plan (wide_of p at b.first.source) b.first o)
             (sym (other_left owner (wide_of p at b.first.source) (not_answered at b side is) flights))
             (kept.begins at b side is)
         stays false is = kept.begins at b side is
 
         go : (here : Bool) → is_link link (side_of at) (link_number at) ≡ here
             → (if here then under_after under (D beat) known lanes else s.links (side_of at) (link_number at)).asking ≡ Some b
-            → IsBegunAs plan b.first (found (wide_of p at b.first.source) (rest ends))
+            → IsBegunAs plan (wide_of p at b.first.source) b.first (found (wide_of p at b.first.source) (rest ends))
         go true here is =
             stays ends (ap (λ (l : Link). (s.links (side_of l) (link_number l)).asking) (sym (same_link link at here)) ∙ is)
         go false here is = stays ends is

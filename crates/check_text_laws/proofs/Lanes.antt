@@ -7,7 +7,7 @@ use Rattle.std.proofs.lemmas.List.FromFn.{length-map-range_with_len}
 use Rattle.check_beats.specs.declared.bus.Bus.{Bus}
 use Rattle.check_rows.specs.Buses.{bus_of_link}
 use Rattle.check_rows.specs.Lanes.{SeenLanes, all_of, byte_or_zero, lane_at, lanes_of, seen_of, shown_by, zeros}
-use Rattle.check_rows.specs.Column.{column}
+use Rattle.check_rows.specs.Column.{column, is_cut}
 use Rattle.check_rows.specs.Columns.{channel_of, flag_of, flag_or, link_of, nothing_of}
 use Rattle.check_rows.specs.Number.{address_of, decimal_of, decimal_or_zero, mask_of}
 use Rattle.tl_text.specs.Reading.{◌>>=◌}
@@ -32,6 +32,13 @@ tested : {B : Type 0} (b : Bool) (r : Result B RowFault) (e : RowFault) (y : B)
     → (if b then r else Err e) ≡ Ok y → r ≡ Ok y
 tested true r e y is = is
 tested false r e y is = absurd (cc)
+
+-- the same if there is one of two faults
+tested_beside : {B : Type 0} (b c : Bool) (r : Result B RowFault) (e f : RowFault) (y : B)
+    → (if b then r else if c then Err e else Err f) ≡ Ok y → r ≡ Ok y
+tested_beside true c r e f y is = is
+tested_beside false true r e f y is = absurd (cc)
+tested_beside false false r e f y is = absurd (cc)
 
 -- ---- lanes
 
@@ -128,7 +135,7 @@ pub lanes_of_row_are : (masters ports : List Bus) (line : ℕ) (columns : List (
     → row_of masters ports line columns ≡ Ok row → HasItsLanes masters ports row
 unfolding row_of
 lanes_of_row_are masters ports line columns row is =
-    let read = tested (length columns == 12) _ _ row is in
+    let read = tested_beside (length columns == 12) (is_cut columns) _ _ _ row is in
     let time = step (decimal_of (2 ^ 64 - 1) (column columns named.Time)) _ row read in
     let link = step (link_of masters ports (column columns named.Link)) _ row time.2 in
     let channel = step (channel_of (column columns named.Channel)) _ row link.2 in

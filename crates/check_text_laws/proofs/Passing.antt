@@ -43,7 +43,7 @@ module _ (loose strict : Plan) (looser : IsLooser loose strict) where
   strict_plan : IsPlan loose → IsPlan strict
   strict_plan is =
       let there : IsPlan (record strict { resets = loose.resets }) = subst IsPlan looser.same is in
-      record { owners = there.owners; wide = there.wide; route = there.route }
+      record { owners = there.owners; wide = there.wide; decode = there.decode }
 
   strict_watched : (past : List Sighting) → AreGroupWatched loose.layout past → AreGroupWatched strict.layout past
   strict_watched past watched =

@@ -99,9 +99,9 @@ module _ (plan : Plan) (s : State) (side : LinkSide) (flights : List InFlight) (
   abbrev then_state : State
   then_state = state_after plan s x
 
-  other_turns : (wide : ℕ) → IsKeptAs plan (then_state.flights side wide).turn (found wide flights)
+  other_turns : (wide : ℕ) → IsKeptAs plan wide (then_state.flights side wide).turn (found wide flights)
   other_turns wide =
-      subst (λ (f : Flight). IsKeptAs plan f.turn (found wide flights))
+      subst (λ (f : Flight). IsKeptAs plan wide f.turn (found wide flights))
       (sym (other_stays plan s x side wide
       (ap (λ b. b && (wide_of plan x.link (source_of x.beat) == wide)) apart))) (kept.turns wide)
 
@@ -205,9 +205,10 @@ module _ (plan : Plan) (before : List SeenRow) (row : SeenRow) where
         go (D reply) allowed so =
             let asked = reply_answers plan s busy flights x.link x.known x.lanes kept (bus_of plan.layout x.link)
             reply allowed in
-            let whole : IsWholeAs plan asked.0 (found (wide_of p x.link reply.source) flights) =
-            subst (λ t. IsKeptAs plan t (found (wide_of p x.link reply.source) flights)) asked.1
-            (kept.turns (wide_of p x.link reply.source)) in
+            let own = wide_of p x.link reply.source in
+            let whole : IsWholeAs plan own asked.0 (found own flights) =
+            subst (λ t. IsKeptAs plan own t (found own flights)) asked.1
+            (kept.turns own) in
             (whole.flight, whole.is)
 
   module _ (lawful : IsLawful plan (beats_of (row ∷ before))) where

@@ -46,7 +46,7 @@ port_is_plan plan is = record {
     apart = λ one other wide both. everybody_zero one wide both.of_one ∙ sym (everybody_zero other wide both.of_other);
   };
   wide = λ master source wide. everybody_own master source wide;
-  route = is.route;
+  decode = is.decode;
 }
 
 -- ---- the links of a group

@@ -22,7 +22,7 @@ use Rattle.check_watch.specs.declared.fault.Reason.TheVariants.{Form, NoSuchSour
 use Rattle.check_watch.specs.Allowed.{IsSent, BeginsFree, BeginsPlaced, EndsSent, IsAllowedAsk}
 use Rattle.check_watch.specs.Faults.{HasAskReason, IsFirstAskReason, reason_rank}
 use Rattle.check_watch.specs.Past.{port_in, port_of}
-use Rattle.check_watch.specs.Plan.{RoutesAt, Layout, Plan, HasSource, IsWideAt, wide_of}
+use Rattle.check_watch.specs.Plan.{DecodesTo, RoutesAt, Layout, Plan, IsPlan, HasSource, IsWideAt, reached, route_of, wide_of}
 use Rattle.check_watch.specs.Scene.{Scene}
 use Rattle.check_watch.specs.View.{GroupView, SuitsGroup, under_in, flight_in, crossing_at, scene_in}
 use Rattle.check_watch.proofs.Codes.{same_op}
@@ -33,20 +33,45 @@ pub wide_is : (plan : Plan) (view : GroupView) (link : Link) (source wide : ℕ)
 wide_is plan view (Master m) source wide suits is = sym (suits.lawful.wide m source wide (rw (← suits.layout) is))
 wide_is plan view (Port p) source wide suits is = is.0
 
+-- requests go to the port that a plan says
+pub own_route : (plan : Plan) → IsPlan plan → (master address size : ℕ)
+    → RoutesAt plan.layout master address size (route_of plan master address size)
+own_route plan is master address size = record {
+  found = plan.decode address size;
+  decodes = (is.decode address size (plan.decode address size)).0 refl;
+  reaches = refl;
+}
+
+-- and to no other
+pub route_is : (plan : Plan) → IsPlan plan → (master address size port : ℕ)
+    → RoutesAt plan.layout master address size port → route_of plan master address size ≡ port
+route_is plan is master address size port at =
+    ap (λ found. reached plan.layout master found) ((is.decode address size at.found).1 at.decodes) ∙ at.reaches
+
+-- decoders find one port, and the master reaches that or the error port
+pub routes_found : (layout : Layout) (master address size found : ℕ)
+    → ((port : ℕ) → (found ≡ port) ↔ DecodesTo layout address size port) → (reach : ℕ) → reach ≡ reached layout master found
+    → (port : ℕ) → (reach ≡ port) ↔ RoutesAt layout master address size port
+routes_found layout master address size found finds reach is port = (
+  λ same. record { found = found; decodes = (finds found).0 refl; reaches = sym is ∙ same },
+  λ at. is ∙ ap (λ other. reached layout master other) ((finds at.found).1 at.decodes) ∙ at.reaches,
+)
+
 -- the port that a judge finds is that of the plan
-pub port_is : (plan : Plan) (view : GroupView) (address size port : ℕ) → SuitsGroup plan view
-    → ((other : ℕ) → (port ≡ other) ↔ RoutesAt view.layout address size other)
-    → port ≡ plan.route address size
-port_is plan view address size port suits routes =
-    (routes (plan.route address size)).1 (rw suits.layout (suits.lawful.route address size))
+pub port_is : (plan : Plan) (view : GroupView) (master address size port : ℕ) → SuitsGroup plan view
+    → ((other : ℕ) → (port ≡ other) ↔ RoutesAt view.layout master address size other)
+    → port ≡ route_of plan master address size
+port_is plan view master address size port suits routes =
+    (routes (route_of plan master address size)).1
+    (rw suits.layout (own_route plan suits.lawful master address size))
 
 pub port_found : (plan : Plan) (view : GroupView) (link : Link) (turn : Turn) (beat : AskHead) (port : ℕ) → SuitsGroup plan view
     → ((number other : ℕ) → link ≡ Master number → (port ≡ other)
-    ↔ RoutesAt view.layout beat.address beat.size other)
+    ↔ RoutesAt view.layout number beat.address beat.size other)
     → ((number : ℕ) → link ≡ Port number → port ≡ number)
     → port ≡ port_of plan link turn (A beat)
 port_found plan view (Master m) turn beat port suits master at_port =
-    port_is plan view beat.address beat.size port suits (λ other. master m other refl)
+    port_is plan view m beat.address beat.size port suits (λ other. master m other refl)
 port_found plan view (Port p) turn beat port suits master at_port = at_port p refl
 
 -- the request in flight that has ended
@@ -59,14 +84,14 @@ asked_is (Asked at other) ask is = (at, ap (λ r. Asked at r) (cc))
 pub port_asked : (plan : Plan) (view : GroupView) (link : Link) (turn : Turn) (ask : Request) (beat : ReplyHead) (port : ℕ)
     → SuitsGroup plan view → asked turn ≡ Some ask
     → ((number other : ℕ) → link ≡ Master number → (port ≡ other)
-    ↔ RoutesAt view.layout ask.address ask.size other)
+    ↔ RoutesAt view.layout number ask.address ask.size other)
     → ((number : ℕ) → link ≡ Port number → port ≡ number)
     → port ≡ port_of plan link turn (D beat)
 port_asked plan view (Port p) turn ask beat port suits is master at_port = at_port p refl
 port_asked plan view (Master m) turn ask beat port suits is master at_port =
     let found = asked_is turn ask is in
-    port_is plan view ask.address ask.size port suits (λ other. master m other refl)
-    ∙ ap (λ t. port_in plan t) (sym found.1)
+    port_is plan view m ask.address ask.size port suits (λ other. master m other refl)
+    ∙ ap (λ t. port_in plan m t) (sym found.1)
 
 -- ---- requests
 

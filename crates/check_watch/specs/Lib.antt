@@ -1,3 +1,4 @@
+pub mod Paths
 pub mod Plan
 pub mod Scene
 pub mod Past

@@ -13,7 +13,7 @@ use Rattle.check_watch.specs.declared.beat.Beat.{Beat}
 use Rattle.check_watch.specs.declared.beat.Beat.TheVariants.{A, D}
 use Rattle.check_watch.specs.declared.beat.Link.{Link}
 use Rattle.check_watch.specs.declared.beat.Link.TheVariants.{Master, Port}
-use Rattle.check_watch.specs.Plan.{Plan, Sighting, LinkSide, side_of, link_number, buses_of, source_of, wide_of, is_link, is_of}
+use Rattle.check_watch.specs.Plan.{Plan, Sighting, LinkSide, side_of, link_number, buses_of, route_of, source_of, wide_of, is_link, is_of}
 use Rattle.check_watch.specs.Plan.LinkSide.{AtMasters}
 use Rattle.check_watch.specs.Scene.{Scene, under_after, accepted, once_answered, flight_after, crossing_after}
 
@@ -41,16 +41,17 @@ reset_state plan = record {
   slaves = λ port. slave_at plan.resets port;
 }
 
--- the port that the request goes to whose beat this is, or that a reply answers
-abbrev pub port_in : Plan → Turn → ℕ
-port_in plan Idle = 0
-port_in plan (Asking number) = 0
-port_in plan (Asked number ask) = plan.route ask.address ask.size
+-- the port that a master's request in flight goes to, if it has ended
+abbrev pub port_in : Plan → ℕ → Turn → ℕ
+port_in plan master Idle = 0
+port_in plan master (Asking number) = 0
+port_in plan master (Asked number ask) = route_of plan master ask.address ask.size
 
+-- the port that the request goes to whose beat this is, or that a reply answers
 abbrev pub port_of : Plan → Link → Turn → Beat → ℕ
 port_of plan (Port p) turn beat = p
-port_of plan (Master m) turn (A beat) = plan.route beat.address beat.size
-port_of plan (Master m) turn (D beat) = port_in plan turn
+port_of plan (Master m) turn (A beat) = route_of plan m beat.address beat.size
+port_of plan (Master m) turn (D beat) = port_in plan m turn
 
 -- what a beat finds there
 abbrev pub scene_found : Plan → State → Link → Beat → Scene

@@ -1,8 +1,8 @@
 -- What a judge knows of a crossbar ahead: which links are watched, which sources the masters have, which port serves
--- which addresses, and which bus each link has. It is this project's own.
-use Rattle.std.specs.Prelude.{◌≡◌, ℕ, ◌<◌, Bool, true, false, ◌&&◌, ◌==◌, nat_lt, List, length}
+-- which addresses, to which ports each master has a path, and which bus each link has. It is this project's own.
+use Rattle.std.specs.Prelude.{◌≡◌, ◌↔◌, ℕ, ◌<◌, Bool, true, false, ◌&&◌, ◌==◌, if◌then◌else◌, nat_lt, List, Option, length}
 use Rattle.tl_map.specs.declared.range.Range.{Range}
-use Rattle.tl_map.specs.Owner.{IsOwned, IsWideSource}
+use Rattle.tl_map.specs.Owner.{IsOf, IsOwned, IsWideSource}
 use Rattle.tl_map.specs.Map.{RoutesBytes}
 use Rattle.tl_map.specs.Owners.{AreLawfulOwners}
 use Rattle.tl_map.specs.declared.owners.Owner.{Owner}
@@ -17,35 +17,57 @@ use Rattle.check_watch.specs.declared.beat.Link.{Link}
 use Rattle.check_watch.specs.declared.beat.Link.TheVariants.{Master, Port}
 use Rattle.check_watch.specs.declared.links.Links.{Links}
 use Rattle.check_watch.specs.declared.links.Links.TheVariants.{Both, Masters, Ports, Each}
+use Rattle.check_watch.specs.Paths.{has_path}
 
--- the links that are watched, what the system says of all links, the sources of each master, the ranges of each port,
--- and the buses of the masters' links and of the ports' links
+-- the links that are watched, what the system says of all links, the sources of each master, the ranges of each port, the
+-- ports to which each master has a path, and the buses of the masters' links and of the ports' links
 pub record Layout : Type 0 where
   pub links : Links
   pub rules : LinkRules
   pub owners : List Owner
   pub ports : List (List Range)
+  pub paths : List (Option (List Bool))
   pub master_buses : List Bus
   pub port_buses : List Bus
 
--- requests at this address and of this size go to this port: as much of them as decoders look at is in one of its ranges, or
--- in none of any port's, and this is the error port
-abbrev pub RoutesAt : Layout → ℕ → ℕ → ℕ → Type 0
-RoutesAt layout address size port = RoutesBytes layout.ports address (decoded_size layout.rules size) port
+-- decoders find this port for requests at this address and of this size: as much of them as decoders look at is in one of
+-- its ranges, or in none of any port's, and this is the error port
+abbrev pub DecodesTo : Layout → ℕ → ℕ → ℕ → Type 0
+DecodesTo layout address size port = RoutesBytes layout.ports address (decoded_size layout.rules size) port
+
+-- the port to which a master's request goes if decoders find this one: the error port, if the master has no path to it
+abbrev pub reached : Layout → ℕ → ℕ → ℕ
+reached layout master found = if has_path layout.paths master found then found else length layout.ports
+
+-- requests of a master at this address and of this size go to this port
+pub record RoutesAt (layout : Layout) (master address size port : ℕ) : Type 0 where
+  pub found : ℕ
+  pub decodes : DecodesTo layout address size found
+  pub reaches : reached layout master found ≡ port
+
+-- the same of the master that has this wide source
+pub record RoutesWide (layout : Layout) (wide address size port : ℕ) : Type 0 where
+  pub master : ℕ
+  pub owns : IsOf layout.owners master wide
+  pub routes : RoutesAt layout master address size port
 
 -- the slave of each port at reset, the error port's last; and as functions the wide source of a master's source, and the
--- port of requests at an address and of a size
+-- port that decoders find for requests at an address and of a size
 pub record Plan : Type 0 where
   pub layout : Layout
   pub resets : List PortSlave
   pub wide : ℕ → ℕ → ℕ
-  pub route : ℕ → ℕ → ℕ
+  pub decode : ℕ → ℕ → ℕ
 
 -- no two masters have a wide source in common, and the functions are those of the layout
 pub record IsPlan (plan : Plan) : Type 0 where
   pub owners : AreLawfulOwners plan.layout.owners
   pub wide : (master source wide : ℕ) → IsWideSource plan.layout.owners master source wide → plan.wide master source ≡ wide
-  pub route : (address size : ℕ) → RoutesAt plan.layout address size (plan.route address size)
+  pub decode : (address size port : ℕ) → (plan.decode address size ≡ port) ↔ DecodesTo plan.layout address size port
+
+-- the port of a master's requests at an address and of a size
+abbrev pub route_of : Plan → ℕ → ℕ → ℕ → ℕ
+route_of plan master address size = reached plan.layout master (plan.decode address size)
 
 -- ---- beats that were seen
 

@@ -78,14 +78,14 @@ fn begins_free(watch: &GroupWatch, link: Link, wide: usize) -> bool
     !watch.link(link).begins_ask() || watch.flight(link, wide).is_idle()
 }
 
-/// Whether the address map has a request with the port of a link.
+/// Whether a request goes to the port of a link.
 fn is_placed(watch: &GroupWatch, link: Link, beat: &AskHead) -> bool
     requires { beat.now.size ≤ MAX_SIZE }
     ensures { IsTrue result ↔ IsPlaced watch.now.layout link beat.now }
 {
     match link {
         Link::Master(_) => true,
-        Link::Port(port) => watch.is_at_port(port, beat.address, beat.size),
+        Link::Port(port) => watch.is_at_port(port, beat.source, beat.address, beat.size),
     }
 }
 

@@ -1,7 +1,7 @@
 //! The judge of what crossed the links of a crossbar, anyone's: which beat is the first that no lawful crossbar could
 //! have shown? Links have buses of 1 to 64 bytes; slaves are memories, known or unknown byte by byte, or devices.
 //!
-//! A [`GroupWatch`] is made of a system's address map, its sources, the bus of each link, the slave of each port at
+//! A [`GroupWatch`] is made of a system's address map, its paths ([`Paths`]), its sources, the bus of each link, the slave of each port at
 //! reset, and of which links are watched ([`Links`]). Sources and ports are as `tl_map` has them.
 //! [`GroupWatch::step`] takes one beat more. For every past that the judge keeps it answers `Ok` exactly if the list
 //! with this beat is lawful, and keeps that list then; an `Err` changes nothing, and is the first [`Fault`] that the
@@ -23,6 +23,7 @@ mod beat;
 mod fault;
 pub mod laws;
 mod links;
+mod paths;
 mod pending;
 mod replies;
 mod seen;
@@ -32,6 +33,7 @@ mod watch;
 pub use beat::{Beat, Link};
 pub use fault::{Fault, Reason, StepError, fault_of};
 pub use links::Links;
+pub use paths::Paths;
 pub use pending::{Change, Origin};
 pub use replies::{answer_reason, due_reason};
 pub use seen::{Ended, Seen, SeenEntry};

@@ -10,12 +10,13 @@ ghost use Rattle.check_flight.specs.Side.{flight_at};
 ghost use Rattle.check_watch.specs.declared.beat.Beat.TheVariants.{D};
 ghost use Rattle.check_beats.specs.declared.beat.ReplyHead.{ReplyHead};
 ghost use Rattle.check_watch.specs.Past.{port_of, slave_at};
-ghost use Rattle.check_watch.specs.Plan.{Plan, IsPlan, RoutesAt, HasLink, IsWideAt, IsGroupLink, are_both, bus_of, crosses_at_port};
+ghost use Rattle.check_watch.specs.Plan.{Plan, IsPlan, RoutesAt, RoutesWide, HasLink, IsWideAt, IsGroupLink, are_both, bus_of, crosses_at_port};
 ghost use Rattle.check_watch.specs.Scene.{takes_effect, is_given, must_by};
 ghost use Rattle.check_watch.specs.View.{GroupView, IsSized, wides_in, SuitsGroup, KeepsGroup, own_side, under_in, flight_in, crossing_at, is_answering_in, due_in, captured_in};
 
 use crate::beat::Link;
 use crate::links::Links;
+use crate::paths::Paths;
 use check_beats::{Bus, LinkRules, ReplyHead, UnderWay};
 use check_cells::Pattern;
 use check_flight::{Answer, Crossing, Flight, FlightPlace, Order, PortSlave, Side};
@@ -30,6 +31,7 @@ pub struct GroupWatch {
     links: Links,
     rules: LinkRules,
     map: AddressMap,
+    paths: Paths,
     sources: SourceOwners,
     master_buses: Vec<Bus>,
     port_buses: Vec<Bus>,
@@ -50,6 +52,7 @@ impl Model for GroupWatch {
         rules = w.rules;
         owners = w.sources;
         ports = w.map;
+        paths = w.paths;
         master_buses = w.master_buses.items;
         port_buses = w.port_buses.items;
       };
@@ -65,6 +68,7 @@ impl Model for GroupWatch {
         rules = w.rules;
         owners = w.sources;
         ports = w.map;
+        paths = w.paths;
         master_buses = w.master_buses.items;
         port_buses = w.port_buses.items;
       };
@@ -99,13 +103,14 @@ fn fresh_crossings(alloc: Global, count: usize) -> Result<Vec<Crossing>, AllocEr
 }
 
 impl GroupWatch {
-    /// The judge of a crossbar with these rules, ports and sources, before any beat. There is a slave for each port, the error
+    /// The judge of a crossbar with these rules, ports, paths and sources, before any beat. There is a slave for each port, the error
     /// port's last, as it is at reset; a bus for each master's link, and one for each port's.
     pub fn new(
         alloc: Global,
         links: Links,
         rules: LinkRules,
         map: AddressMap,
+        paths: Paths,
         sources: SourceOwners,
         master_buses: Vec<Bus>,
         port_buses: Vec<Bus>,
@@ -119,6 +124,7 @@ impl GroupWatch {
           rules = rules;
           owners = sources;
           ports = map;
+          paths = paths;
           master_buses = master_buses.items;
           port_buses = port_buses.items;
         }) }
@@ -129,6 +135,7 @@ impl GroupWatch {
               rules = rules;
               owners = sources;
               ports = map;
+              paths = paths;
               master_buses = master_buses.items;
               port_buses = port_buses.items;
             }
@@ -145,6 +152,7 @@ impl GroupWatch {
             links,
             rules,
             map,
+            paths,
             sources,
             master_buses,
             port_buses,
@@ -282,13 +290,18 @@ impl GroupWatch {
         }
     }
 
-    /// The port to which the address map sends requests of this address and size.
-    pub fn route(&self, address: u64, size: u8) -> usize
+    /// The port to which a master's requests of this address and size go.
+    pub fn route(&self, master: usize, address: u64, size: u8) -> usize
         requires { size ≤ MAX_SIZE }
-        ensures port { (port : ℕ) → (result ≡ port) ↔ RoutesAt self.now.layout address size port }
+        ensures port { (port : ℕ) → (result ≡ port) ↔ RoutesAt self.now.layout master address size port }
         ensures in_ports { result < length self.now.slaves }
     {
-        self.map.route_bytes(address, self.rules.decoded_size(size))
+        let found = self.map.route_bytes(address, self.rules.decoded_size(size));
+        if self.paths.has(master, found) {
+            found
+        } else {
+            self.map.ports() - 1
+        }
     }
 
     /// The port that requests at a link go to, of this address and size.
@@ -296,13 +309,13 @@ impl GroupWatch {
         requires known { HasLink self.now.layout link }
         requires in_limit { size ≤ MAX_SIZE }
         ensures master { (number port : ℕ) → link ≡ Link.Master number
-            → (result ≡ port) ↔ RoutesAt self.now.layout address size port }
+            → (result ≡ port) ↔ RoutesAt self.now.layout number address size port }
         ensures port { (number : ℕ) → link ≡ Link.Port number → result ≡ number }
         ensures in_ports { result < length self.now.slaves }
     {
         self.sized();
         match link {
-            Link::Master(_) => self.route(address, size),
+            Link::Master(master) => self.route(master, address, size),
             Link::Port(port) => port,
         }
     }
@@ -323,12 +336,15 @@ impl GroupWatch {
         }
     }
 
-    /// Whether the address map has bytes with the port of a link.
-    pub(crate) fn is_at_port(&self, port: usize, address: u64, size: u8) -> bool
+    /// Whether requests of the master that has a wide source go to a port at this address and of this size.
+    pub(crate) fn is_at_port(&self, port: usize, wide: u16, address: u64, size: u8) -> bool
         requires { size ≤ MAX_SIZE }
-        ensures { IsTrue result ↔ RoutesAt self.now.layout address size port }
+        ensures { IsTrue result ↔ RoutesWide self.now.layout wide address size port }
     {
-        self.route(address, size) == port
+        match self.sources.owner(wide) {
+            Some((master, _source)) => self.route(master, address, size) == port,
+            None => false,
+        }
     }
 
     /// Whether both sides are watched.

@@ -127,9 +127,9 @@ module _ (plan : Plan) (is_plan : IsPlan plan) (past : List Sighting) (watched :
   given_so (Master m) beat rules ask in_flight ends given =
       let wide = plan.wide m beat.source in
       let turn = (s.flights AtMasters wide).turn in
-      let both = both_of plan.layout m (port_in plan turn) given in
-      let out : is_out plan wide ask ≡ true =
-      ap (λ t. nat_lt (port_in plan t) (length plan.layout.ports)) (sym in_flight) ∙ both.1 in
+      let both = both_of plan.layout m (port_in plan m turn) given in
+      let out : is_out plan wide m ask ≡ true =
+      ap (λ t. nat_lt (port_in plan m t) (length plan.layout.ports)) (sym in_flight) ∙ both.1 in
       let stands : Stands plan wide (story_at plan wide past) (Asked m ask) (s.crossings wide)
       (s.flights AtPorts wide).turn =
       subst (λ t. Stands plan wide (story_at plan wide past) t (s.crossings wide)

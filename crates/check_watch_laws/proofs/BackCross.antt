@@ -65,7 +65,7 @@ module _ (plan : Plan) (past : List Sighting) (p known : ℕ) (lanes : List ℕ)
       → Stands plan wide (story_at plan wide past) turn far there → IsAskedAs turn ask × (far ≡ Waiting)
   sent_back Idle far there stands = absurd (too_few stands.same)
   sent_back (Asking n) far there stands = absurd (too_few stands.same)
-  sent_back (Asked n sent) far there stands = go (is_out plan wide sent) far stands
+  sent_back (Asked n sent) far there stands = go (is_out plan wide n sent) far stands
     where
       go : (out : Bool) (far : Crossing) → IsOut plan wide (story_at plan wide past) out sent far there
           → (record sent { source = ask.source } ≡ ask) × (far ≡ Waiting)

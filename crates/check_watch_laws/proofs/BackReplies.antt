@@ -200,7 +200,7 @@ module _ (plan : Plan) (past : List Sighting) (lawful : IsLawfulGroup plan past)
     (beat : ReplyHead) (ask : Request)
     (in_flight : ((state plan past).flights AtMasters (plan.wide m beat.source)).turn ≡ Asked m ask)
     (ends : ends_reply (bus_of plan.layout (Master m)) (replying_at plan.layout (Master m) past) beat ≡ true)
-    (out : is_out plan (plan.wide m beat.source) ask ≡ true)
+    (out : is_out plan (plan.wide m beat.source) m ask ≡ true)
     (crossing : MessagesCross plan (reply_at (Master m) known lanes beat ∷ past) (plan.wide m beat.source)) where
   abbrev wide : ℕ
   wide = plan.wide m beat.source

@@ -17,7 +17,7 @@ use Rattle.check_watch.specs.declared.beat.Link.TheVariants.{Master, Port}
 use Rattle.check_watch.specs.Allowed.{IsPlaced}
 use Rattle.check_watch.specs.Lawful.{IsLawfulGroup}
 use Rattle.check_watch.specs.Past.{state}
-use Rattle.check_watch.specs.Plan.{Plan, Sighting, LinkSide, side_of, link_number, wide_of, is_link, bus_of, RoutesAt}
+use Rattle.check_watch.specs.Plan.{Plan, Sighting, LinkSide, side_of, link_number, wide_of, is_link, bus_of, RoutesWide}
 use Rattle.check_watch.specs.Plan.LinkSide.{AtMasters, AtPorts}
 use Rattle.check_watch.proofs.InFlight.{ask_at, reply_at, of_own}
 use Rattle.check_watch_laws.specs.Crossed.{AskSeen, ReplySeen, ask_beat, reply_beat, more_asks, asks_over, asking_at, begun_at, replying_at, begun_replies_at, ask_ended, reply_ended, asks, replies, next_answered}
@@ -219,7 +219,7 @@ placed_back plan past (Port p) known lanes beat heads messages empty =
     go (ends_ask (bus_of plan.layout (Port p)) (asking_at plan.layout (Port p) past) beat) refl
   where
     go : (ends : Bool) → ends_ask (bus_of plan.layout (Port p)) (asking_at plan.layout (Port p) past) beat ≡ ends
-        → RoutesAt plan.layout beat.address beat.size p
+        → RoutesWide plan.layout beat.source beat.address beat.size p
     go false e =
         let b = ask_beat (bus_of plan.layout (Port p)) beat lanes in
         let begun_is : begun_at plan.layout (Port p) (ask_at (Port p) known lanes beat ∷ past) ≡ b ∷ [] =
@@ -235,11 +235,11 @@ placed_back plan past (Port p) known lanes beat heads messages empty =
           ask = ask_of (bus_of plan.layout (Port p)) (asking_at plan.layout (Port p) past) beat
               (take (bus_of plan.layout (Port p)) lanes);
         } in
-        let all : AllByRecursion (IsInPlace plan.layout) (asks plan side wide past ++ seen ∷ []) =
-        subst (λ l. AllByRecursion (IsInPlace plan.layout) l)
+        let all : AllByRecursion (IsInPlace plan.layout wide) (asks plan side wide past ++ seen ∷ []) =
+        subst (λ l. AllByRecursion (IsInPlace plan.layout wide) l)
         (asks_with_ask plan past (Port p) known lanes beat
         ∙ ap (λ b. asks plan side wide past ++ (if b then seen ∷ [] else [])) e) (messages.placed side wide) in
-        last_of_all (IsInPlace plan.layout) (asks plan side wide past) seen all p refl
+        last_of_all (IsInPlace plan.layout wide) (asks plan side wide past) seen all p refl
 
 -- ---- replies
 

@@ -3,13 +3,9 @@ use Rattle.std.proofs.Common.{◌≡◌, ◌∙◌, ℕ, ◌%◌, ◌^◌, ◌<�
 use Rattle.std.specs.Prelude.{◌==◌, ◌&&◌, nat_lt}
 use Rattle.std.specs.List.{AllByRecursion}
 use Rattle.tl_types.specs.Request.{Request}
-use Rattle.tl_map.specs.declared.range.Range.{Range}
-use Rattle.tl_map.specs.Owner.{IsWideSource}
-use Rattle.tl_map.specs.Map.{PortHolds, RoutesBytes}
+use Rattle.tl_map.specs.Owner.{IsOf, IsWideSource}
 use Rattle.tl_map.proofs.Kept.{one_owner}
-use Rattle.tl_map.proofs.Overlaps.{port_within}
 use Rattle.check_cells.specs.Pattern.{Pattern}
-use Rattle.check_beats.specs.Rules.{decoded_size}
 use Rattle.check_beats.specs.State.{Under, ends_ask, ends_reply, ask_of, reply_of}
 use Rattle.check_beats.specs.declared.beat.AskHead.{AskHead}
 use Rattle.check_beats.specs.declared.beat.ReplyHead.{ReplyHead}
@@ -25,10 +21,11 @@ use Rattle.check_watch.specs.declared.links.Links.TheVariants.{Both}
 use Rattle.check_watch.specs.Allowed.{IsAskedAs, IsMust, IsAllowedAsk, IsAllowedReply}
 use Rattle.check_watch.specs.Lawful.{IsLawfulGroup, IsAllowed}
 use Rattle.check_watch.specs.Past.{State, port_in, scene_of, state, state_after}
-use Rattle.check_watch.specs.Plan.{Plan, IsPlan, Sighting, LinkSide, side_of, link_number, is_of, are_both, bus_of, HasLink, HasSource, seen_at, RoutesAt}
+use Rattle.check_watch.specs.Plan.{Plan, IsPlan, Sighting, LinkSide, side_of, link_number, is_of, are_both, bus_of, HasLink, HasSource, RoutesWide, route_of, seen_at}
 use Rattle.check_watch.specs.Plan.LinkSide.{AtMasters, AtPorts}
 use Rattle.check_watch.specs.Scene.{ask_by, turn_by, captured, flight_after, is_given, given_by}
 use Rattle.check_watch.proofs.InFlight.{ask_at, reply_at}
+use Rattle.check_watch.proofs.Judging.{route_is}
 use Rattle.check_watch_laws.specs.Crossed.{AskSeen, ReplySeen, AreWatched, reply_beat, asking_at, replying_at, begun_replies_at, ask_ended, reply_ended, asks, replies, exchanges}
 use Rattle.check_watch_laws.specs.Crossings.{IsOfMaster, answered_from_outside, sent_out, requests_of, AreGiven, MessagesCross}
 use Rattle.check_watch_laws.proofs.Buses.{ask_on_bus, reply_on_bus}
@@ -100,20 +97,6 @@ asks_owned plan is (x ∷ past) lawful wide = go x.link x.beat lawful.1 (asks_ow
             (ask_of (bus_of plan.layout (Master m)) (asking_at plan.layout (Master m) past) beat
             (take (bus_of plan.layout (Master m)) x.lanes)) refl
             (ends_ask (bus_of plan.layout (Master m)) (asking_at plan.layout (Master m) past) beat)
-
--- ---- ports that have links
-
--- a port that holds bytes has a link
-holds_within : (ports : List (List Range)) (address size port : ℕ) → PortHolds ports address size port
-    → port < length ports
-holds_within ports address size port held = port_within ports port held.place held.range held.at
-
--- if some range holds the bytes, the port of the bytes has a link
-goes_out_by : (ports : List (List Range)) (address size port route : ℕ) → port < length ports
-    → RoutesBytes ports address size port → RoutesBytes ports address size route → route < length ports
-goes_out_by ports address size port route within at (inl held) = holds_within ports address size route held
-goes_out_by ports address size port route within (inr none) (inr nowhere) = absurd (omega (arith, within, none.0))
-goes_out_by ports address size port route within (inl held) (inr nowhere) = absurd (nowhere.1 port held)
 
 -- ---- one beat more
 
@@ -232,7 +215,7 @@ module _ (plan : Plan) (is_plan : IsPlan plan) (both : plan.layout.links ≡ Bot
         (s.flights AtPorts sender).turn) (sym (linked (Master m)))
         (subst (λ r. Stands plan sender sent_now (turn_by m (if ends_ask_here (Master m) beat then Some r else None))
         Waiting (s.flights AtPorts sender).turn) (sym (ask_is (Master m) beat))
-        (master_asks plan sender (story_at plan sender past) (Master m) m (asked_here (Master m) beat)
+        (master_asks plan sender (story_at plan sender past) m (asked_here (Master m) beat)
         (ends_ask_here (Master m) beat) (s.flights AtPorts sender).turn rest counted))
 
     master_sends : AllStand plan (state_after plan s (ask_at (Master m) known lanes beat))
@@ -288,14 +271,14 @@ module _ (plan : Plan) (is_plan : IsPlan plan) (both : plan.layout.links ≡ Bot
         (one_owner plan.layout.owners is_plan.owners m beat.source owned.0 got_answers.0.source getter
         (wide_here plan is_plan m beat.source allowed.source) owned.2).1
 
-    got : ends_reply_here (Master m) beat ≡ true → is_out plan getter got_answers.0 ≡ true
+    got : ends_reply_here (Master m) beat ≡ true → is_out plan getter m got_answers.0 ≡ true
         → IsGot plan getter got_answers.0 got_reply (s.crossings getter)
     got ends out =
-        let route_is : port_in plan
-        (s.flights AtMasters getter).turn ≡ plan.route got_answers.0.address got_answers.0.size =
-        ap (λ t. port_in plan t) got_answers.1 in
-        let given : is_given plan.layout (Master m) (port_in plan (s.flights AtMasters getter).turn) ≡ true =
-        ap (λ l. are_both l && nat_lt (port_in plan (s.flights AtMasters getter).turn) (length plan.layout.ports)) both
+        let route_is : port_in plan m
+        (s.flights AtMasters getter).turn ≡ route_of plan m got_answers.0.address got_answers.0.size =
+        ap (λ t. port_in plan m t) got_answers.1 in
+        let given : is_given plan.layout (Master m) (port_in plan m (s.flights AtMasters getter).turn) ≡ true =
+        ap (λ l. are_both l && nat_lt (port_in plan m (s.flights AtMasters getter).turn) (length plan.layout.ports)) both
         ∙ ap (λ p. nat_lt p (length plan.layout.ports)) route_is ∙ out in
         record {
           must = subst (λ (r : Pattern). IsMust true (s.crossings getter) got_flight.due r)
@@ -329,7 +312,7 @@ module _ (plan : Plan) (is_plan : IsPlan plan) (both : plan.layout.links ≡ Bot
         ∙ ap (λ (b : Bool). if b then Idle else (s.flights AtMasters getter).turn) (ends_is (Master m) beat)
         ∙ ap (λ t. if ends then Idle else t) got_answers.1 in
         subst (λ t. Stands plan getter got_now t (s.crossings getter) (s.flights AtPorts getter).turn) (sym turn_is)
-        (master_gets plan getter (story_at plan getter past) (Master m) m got_answers.0 got_step.done
+        (master_gets plan getter (story_at plan getter past) m got_answers.0 got_step.done
         got_reply (s.crossings getter)
         (s.flights AtPorts getter).turn got_asked got_step.counted stands ends got)
 
@@ -363,6 +346,17 @@ module _ (plan : Plan) (is_plan : IsPlan plan) (both : plan.layout.links ≡ Bot
     abbrev took_under : Under
     took_under = s.links AtPorts p
 
+    -- the master whose request is in flight is the one that has the source
+    owner_sent : (number : ℕ) (sent : Request) → (s.flights AtMasters took).turn ≡ Asked number sent → (master : ℕ)
+        → IsOf plan.layout.owners master took → number ≡ master
+    owner_sent number sent in_flight master owns =
+        let step = in_step plan past lawful AtMasters took in
+        let owned = last_of_all (IsOfMaster plan.layout took) step.done (record { link = Master number; ask = sent })
+        (subst (λ l. AllByRecursion (IsOfMaster plan.layout took) l)
+        (step.asks_are ∙ ap (λ t. step.done ++ pending AtMasters t) in_flight) (asks_owned plan is_plan past lawful took)) in
+        ap link_number owned.1
+        ∙ is_plan.owners.apart owned.0 master took (record { of_one = (sent.source, owned.2); of_other = owns })
+
     -- the request that ends was sent
     the_sent : ends_ask_here (Port p) beat ≡ true
         → IsTheSent plan took (s.flights AtMasters took).turn (s.crossings took) (asked_here (Port p) beat)
@@ -376,23 +370,19 @@ module _ (plan : Plan) (is_plan : IsPlan plan) (both : plan.layout.links ≡ Bot
         (ap (λ (u : Under). ask_of u.bus u.asking beat lanes) (links_are plan past (Port p)) ∙ ask_is (Port p) beat)
         sent.0 in
         let found = asked_as (s.flights AtMasters took).turn ask asked in
-        let placed : RoutesAt plan.layout beat.address beat.size p =
+        let placed : RoutesWide plan.layout took beat.address beat.size p =
         beat_placed plan s (asks_placed_so plan past lawful) (Port p) known lanes beat allowed in
-        let within : plan.route beat.address beat.size < length plan.layout.ports =
-        goes_out_by plan.layout.ports beat.address (decoded_size plan.layout.rules beat.size) p (plan.route beat.address beat.size) has placed
-        (is_plan.route beat.address beat.size) in
         let place = same_place found.1 ask ask.source found.3 in
-        let address : found.1.address ≡ beat.address = place.0 in
-        let size : found.1.size ≡ beat.size = place.1 in
+        let route : route_of plan found.0 found.1.address found.1.size ≡ p =
+        (λ i. route_of plan (owner_sent found.0 found.1 found.2 placed.master placed.owns i) (place.0 i) (place.1 i))
+        ∙ route_is plan is_plan placed.master beat.address beat.size p placed.routes in
         record {
           number = found.0;
           sent = found.1;
           in_flight = found.2;
           same = found.3;
           waits = sent.1;
-          out = ap (λ a. nat_lt (plan.route a found.1.size) (length plan.layout.ports)) address
-              ∙ ap (λ n. nat_lt (plan.route beat.address n) (length plan.layout.ports)) size
-              ∙ less (plan.route beat.address beat.size) (length plan.layout.ports) within;
+          out = ap (λ r. nat_lt r (length plan.layout.ports)) route ∙ less p (length plan.layout.ports) has;
           own = refl;
         }
 
@@ -609,7 +599,7 @@ module _ (plan : Plan) (past : List Sighting) (wide : ℕ)
           → MessagesCross plan past wide
       go Idle crossing stands = rest stands
       go (Asking n) crossing stands = rest stands
-      go (Asked n ask) crossing stands = out (is_out plan wide ask) ask crossing stands
+      go (Asked n ask) crossing stands = out (is_out plan wide n ask) ask crossing stands
 
 pub crossing : (plan : Plan) (past : List Sighting) → IsPlan plan → plan.layout.links ≡ Both
     → AreWatched plan.layout past → IsLawfulGroup plan past → (wide : ℕ) → MessagesCross plan past wide

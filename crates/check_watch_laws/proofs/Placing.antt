@@ -13,9 +13,9 @@ use Rattle.check_watch.specs.declared.beat.Link.TheVariants.{Master, Port}
 use Rattle.check_watch.specs.Allowed.{IsPlaced, IsAllowedAsk}
 use Rattle.check_watch.specs.Lawful.{IsLawfulGroup, IsAllowed}
 use Rattle.check_watch.specs.Past.{State, state, scene_of, state_after}
-use Rattle.check_watch.specs.Plan.{Plan, Layout, Sighting, LinkSide, side_of, link_number, source_of, is_link, is_of, bus_of, HasSource, RoutesAt}
+use Rattle.check_watch.specs.Plan.{Plan, Layout, Sighting, LinkSide, side_of, link_number, source_of, wide_of, is_link, is_of, bus_of, HasSource, RoutesWide}
 use Rattle.check_watch.specs.Scene.{under_after}
-use Rattle.check_watch.proofs.InFlight.{ask_at, reply_at}
+use Rattle.check_watch.proofs.InFlight.{ask_at, of_is, reply_at}
 use Rattle.check_watch_laws.specs.Crossed.{asking_at, ask_ended, asks}
 use Rattle.check_watch_laws.specs.Messages.{IsInPlace}
 use Rattle.check_watch_laws.proofs.Heads.{first_after}
@@ -43,8 +43,9 @@ pub placed_as : (layout : Layout) (link : Link) (first beat : AskHead) → SameF
     → IsPlaced layout link first → IsPlaced layout link beat
 placed_as layout (Master m) first beat same is = tt
 placed_as layout (Port p) first beat same is =
-    subst (λ size. RoutesAt layout beat.address size p) (sym same.size)
-    (subst (λ address. RoutesAt layout address first.size p) (sym same.address) is)
+    subst (λ size. RoutesWide layout beat.source beat.address size p) (sym same.size)
+    (subst (λ address. RoutesWide layout beat.source address first.size p) (sym same.address)
+    (subst (λ source. RoutesWide layout source first.address first.size p) (sym same.source) is))
 
 module _ (plan : Plan) (s : State) (placed : AsksPlaced plan s) (link : Link) (known : ℕ) (lanes : List ℕ) where
   -- each beat of a request is placed, since its first one is
@@ -102,42 +103,47 @@ asks_placed_so plan (x ∷ past) lawful = go (asks_placed_so plan past lawful.0)
 
 -- ---- whole requests
 
-in_place : (layout : Layout) (link : Link) (beat : AskHead) (ask : Request) → ask.address ≡ beat.address
-    → ask.size ≡ beat.size → IsPlaced layout link beat → IsInPlace layout (record { link = link; ask = ask })
-in_place layout link beat ask address size placed port is =
-    rw (address, size) (subst (λ l. IsPlaced layout l beat) is placed)
+in_place : (plan : Plan) (link : Link) (wide : ℕ) (beat : AskHead) (ask : Request) → wide_of plan link beat.source ≡ wide
+    → ask.address ≡ beat.address → ask.size ≡ beat.size → IsPlaced plan.layout link beat
+    → IsInPlace plan.layout wide (record { link = link; ask = ask })
+in_place plan link wide beat ask own address size placed port is =
+    let here : RoutesWide plan.layout beat.source beat.address beat.size port =
+    subst (λ l. IsPlaced plan.layout l beat) is placed in
+    let source : beat.source ≡ wide = subst (λ l. wide_of plan l beat.source ≡ wide) is own in
+    rw (address, size, ← source) here
 
 pub asks_placed : (plan : Plan) (past : List Sighting) → IsLawfulGroup plan past → (side : LinkSide) (wide : ℕ)
-    → AllByRecursion (IsInPlace plan.layout) (asks plan side wide past)
+    → AllByRecursion (IsInPlace plan.layout wide) (asks plan side wide past)
 asks_placed plan [] lawful side wide = tt
-asks_placed plan (x ∷ past) lawful side wide = go (asks_placed plan past lawful.0 side wide) (is_of plan x side wide)
+asks_placed plan (x ∷ past) lawful side wide = go (asks_placed plan past lawful.0 side wide) (is_of plan x side wide) refl
   where
-    none : AllByRecursion (IsInPlace plan.layout) (asks plan side wide past)
-        → AllByRecursion (IsInPlace plan.layout) (asks plan side wide past ++ [])
-    none before = subst (λ l. AllByRecursion (IsInPlace plan.layout) l) (sym (append-nil (asks plan side wide past)))
+    none : AllByRecursion (IsInPlace plan.layout wide) (asks plan side wide past)
+        → AllByRecursion (IsInPlace plan.layout wide) (asks plan side wide past ++ [])
+    none before = subst (λ l. AllByRecursion (IsInPlace plan.layout wide) l) (sym (append-nil (asks plan side wide past)))
         before
 
-    ended : AllByRecursion (IsInPlace plan.layout) (asks plan side wide past) → (beat : Beat)
+    ended : AllByRecursion (IsInPlace plan.layout wide) (asks plan side wide past) → (beat : Beat)
+        → wide_of plan x.link (source_of beat) ≡ wide
         → IsAllowed plan (scene_of plan (state plan past) x.link beat) (record x { beat = beat })
-        → AllByRecursion (IsInPlace plan.layout)
+        → AllByRecursion (IsInPlace plan.layout wide)
         (asks plan side wide past ++ ask_ended plan.layout past x beat)
-    ended before (D beat) allowed = none before
-    ended before (A beat) allowed = by_end
+    ended before (D beat) own allowed = none before
+    ended before (A beat) own allowed = by_end
         (ask_of (bus_of plan.layout x.link) (asking_at plan.layout x.link past) beat
         (take (bus_of plan.layout x.link) x.lanes)) refl refl
         (ends_ask (bus_of plan.layout x.link) (asking_at plan.layout x.link past) beat)
       where
         by_end : (ask : Request) → ask.address ≡ beat.address → ask.size ≡ beat.size → (ends : Bool)
-            → AllByRecursion (IsInPlace plan.layout)
+            → AllByRecursion (IsInPlace plan.layout wide)
             (asks plan side wide past ++ (if ends then record { link = x.link; ask = ask } ∷ [] else []))
         by_end ask address size false = none before
-        by_end ask address size true = all_more (IsInPlace plan.layout) (asks plan side wide past)
+        by_end ask address size true = all_more (IsInPlace plan.layout wide) (asks plan side wide past)
             (record { link = x.link; ask = ask }) before
-            (in_place plan.layout x.link beat ask address size
+            (in_place plan x.link wide beat ask own address size
             (beat_placed plan (state plan past) (asks_placed_so plan past lawful.0) x.link x.known x.lanes beat allowed))
 
-    go : AllByRecursion (IsInPlace plan.layout) (asks plan side wide past) → (of : Bool)
-        → AllByRecursion (IsInPlace plan.layout)
+    go : AllByRecursion (IsInPlace plan.layout wide) (asks plan side wide past) → (of : Bool)
+        → is_of plan x side wide ≡ of → AllByRecursion (IsInPlace plan.layout wide)
         (if of then asks plan side wide past ++ ask_ended plan.layout past x x.beat else asks plan side wide past)
-    go before true = ended before x.beat lawful.1
-    go before false = before
+    go before true is = ended before x.beat (of_is plan x side wide is).1 lawful.1
+    go before false is = before

@@ -11,7 +11,8 @@ use Rattle.check_flight.specs.Crossing.Crossing.{Waiting, Crossed, Given}
 use Rattle.check_flight.specs.Flight.{Turn}
 use Rattle.check_flight.specs.Flight.Turn.{Idle, Asking, Asked}
 use Rattle.check_watch.specs.declared.beat.Link.{Link}
-use Rattle.check_watch.specs.Plan.{Plan}
+use Rattle.check_watch.specs.declared.beat.Link.TheVariants.{Master}
+use Rattle.check_watch.specs.Plan.{Plan, route_of}
 use Rattle.check_watch.specs.Plan.LinkSide.{AtPorts}
 use Rattle.check_watch.specs.Scene.{turn_by, given_by}
 use Rattle.check_watch_laws.specs.Crossed.{AskSeen, ReplySeen}
@@ -87,14 +88,15 @@ module _ (plan : Plan) (wide : ℕ) where
   IsOut story true ask Crossed there = IsTaken story ask there
   IsOut story true ask (Given answer) there = IsBack story ask answer there
 
-  abbrev pub is_out : Request → Bool
-  is_out ask = nat_lt (plan.route ask.address ask.size) (length plan.layout.ports)
+  -- the request of this master goes to a port that has a link
+  abbrev pub is_out : ℕ → Request → Bool
+  is_out number ask = nat_lt (route_of plan number ask.address ask.size) (length plan.layout.ports)
 
   -- by what is in flight at masters' links, how far it has come, and what is in flight at ports'
   abbrev pub Stands : Story → Turn → Crossing → Turn → Type 0
   Stands story Idle crossing there = IsAtRest story there
   Stands story (Asking n) crossing there = IsAtRest story there
-  Stands story (Asked n ask) crossing there = IsOut story (is_out ask) ask crossing there
+  Stands story (Asked n ask) crossing there = IsOut story (is_out n ask) ask crossing there
 
   -- ---- at masters' links
 
@@ -117,39 +119,39 @@ module _ (plan : Plan) (wide : ℕ) where
       go true = refl
       go false = refl
 
-  pub master_asks : (story : Story) (link : Link) (n : ℕ) (ask : Request) (ends : Bool) (there : Turn)
+  pub master_asks : (story : Story) (n : ℕ) (ask : Request) (ends : Bool) (there : Turn)
       → IsAtRest story there → length story.sent ≡ length story.collected
       → Stands (record story {
-        sent = story.sent ++ (if ends then record { link = link; ask = ask } ∷ [] else []);
+        sent = story.sent ++ (if ends then record { link = Master n; ask = ask } ∷ [] else []);
         collected = story.collected ++ [];
       }) (turn_by n (if ends then Some ask else None)) Waiting there
-  master_asks story link n ask false there rest counted = record {
+  master_asks story n ask false there rest counted = record {
     same = ap (λ l. sent_out plan wide l) (append-nil story.sent) ∙ rest.same;
     free = rest.free;
     given = subst (λ l. AllGiven wide l (zip story.taken story.gave)) (sym (outside_asked story [] counted)) rest.given;
   }
-  master_asks story link n ask true there rest counted = go (is_out ask) refl
+  master_asks story n ask true there rest counted = go (is_out n ask) refl
     where
-      go : (out : Bool) → is_out ask ≡ out → IsOut
+      go : (out : Bool) → is_out n ask ≡ out → IsOut
           (record story {
-            sent = story.sent ++ record { link = link; ask = ask } ∷ [];
+            sent = story.sent ++ record { link = Master n; ask = ask } ∷ [];
             collected = story.collected ++ [];
           }) out ask Waiting there
       go true is = record {
-        same = sent_more story.sent (record { link = link; ask = ask })
+        same = sent_more story.sent (record { link = Master n; ask = ask })
             ∙ ap (λ b. sent_out plan wide story.sent ++ (if b then record ask { source = wide } ∷ [] else [])) is
             ∙ ap (λ l. l ++ record ask { source = wide } ∷ []) rest.same;
         free = rest.free;
         given = subst (λ l. AllGiven wide l (zip story.taken story.gave))
-            (sym (outside_asked story (record { link = link; ask = ask } ∷ []) counted)) rest.given;
+            (sym (outside_asked story (record { link = Master n; ask = ask } ∷ []) counted)) rest.given;
       }
       go false is = record {
-        same = sent_more story.sent (record { link = link; ask = ask })
+        same = sent_more story.sent (record { link = Master n; ask = ask })
             ∙ ap (λ b. sent_out plan wide story.sent ++ (if b then record ask { source = wide } ∷ [] else [])) is
             ∙ append-nil (sent_out plan wide story.sent) ∙ rest.same;
         free = rest.free;
         given = subst (λ l. AllGiven wide l (zip story.taken story.gave))
-            (sym (outside_asked story (record { link = link; ask = ask } ∷ []) counted)) rest.given;
+            (sym (outside_asked story (record { link = Master n; ask = ask } ∷ []) counted)) rest.given;
       }
 
   -- the reply that a master gets to a request that went out
@@ -176,23 +178,23 @@ module _ (plan : Plan) (wide : ℕ) where
   story_same story = ap (λ l. record story { sent = l }) (sym (append-nil story.sent))
       ∙ ap (λ l. record story { sent = story.sent ++ []; collected = l }) (sym (append-nil story.collected))
 
-  pub master_gets : (story : Story) (link : Link) (n : ℕ) (ask : Request) (done : List AskSeen) (reply : ReplySeen)
-      (crossing : Crossing) (there : Turn) → story.sent ≡ done ++ record { link = link; ask = ask } ∷ []
+  pub master_gets : (story : Story) (n : ℕ) (ask : Request) (done : List AskSeen) (reply : ReplySeen)
+      (crossing : Crossing) (there : Turn) → story.sent ≡ done ++ record { link = Master n; ask = ask } ∷ []
       → length story.collected ≡ length done
       → Stands story (Asked n ask) crossing there → (ends : Bool)
-      → (ends ≡ true → is_out ask ≡ true → IsGot ask reply crossing)
+      → (ends ≡ true → is_out n ask ≡ true → IsGot ask reply crossing)
       → Stands (record story {
         sent = story.sent ++ [];
         collected = story.collected ++ (if ends then reply ∷ [] else []);
       })
       (if ends then Idle else Asked n ask) crossing there
-  master_gets story link n ask done reply crossing there is counted stands false got =
+  master_gets story n ask done reply crossing there is counted stands false got =
       subst (λ s. Stands s (Asked n ask) crossing there) (story_same story) stands
-  master_gets story link n ask done reply crossing there is counted stands true got =
-      go (is_out ask) refl crossing stands (got refl)
+  master_gets story n ask done reply crossing there is counted stands true got =
+      go (is_out n ask) refl crossing stands (got refl)
     where
-      go : (out : Bool) → is_out ask ≡ out → (crossing : Crossing) → IsOut story out ask crossing there
-          → (is_out ask ≡ true → IsGot ask reply crossing)
+      go : (out : Bool) → is_out n ask ≡ out → (crossing : Crossing) → IsOut story out ask crossing there
+          → (is_out n ask ≡ true → IsGot ask reply crossing)
           → IsAtRest (record story {
             sent = story.sent ++ [];
             collected = story.collected ++ reply ∷ [];
@@ -201,14 +203,14 @@ module _ (plan : Plan) (wide : ℕ) where
         same = ap (λ l. sent_out plan wide l) (append-nil story.sent) ∙ stands.same;
         free = stands.free;
         given = subst (λ l. AllGiven wide l (zip story.taken story.gave))
-            (sym (outside_answered story done (record { link = link; ask = ask })
+            (sym (outside_answered story done (record { link = Master n; ask = ask })
             (reply) is counted
-            ∙ ap (λ b. outside story ++ (if b then (record { link = link; ask = ask }, reply) ∷ [] else [])) out ∙ append-nil (outside story))) stands.given;
+            ∙ ap (λ b. outside story ++ (if b then (record { link = Master n; ask = ask }, reply) ∷ [] else [])) out ∙ append-nil (outside story))) stands.given;
       }
       go true out Waiting stands got = absurd (got out).must
       go true out Crossed stands got = absurd (got out).must
       go true out (Given answer) stands got =
-          let last : AskSeen = record { link = link; ask = ask } in
+          let last : AskSeen = record { link = Master n; ask = ask } in
           let this = got out in
           let one : IsGiven wide (last, reply) stands.last = record {
             ask = stands.ask_is;
@@ -250,7 +252,7 @@ module _ (plan : Plan) (wide : ℕ) where
       record { same = stands.same; free = free; given = stands.given }
   stands_free story (Asking n) crossing there later none free stands =
       record { same = stands.same; free = free; given = stands.given }
-  stands_free story (Asked n ask) crossing there later none free stands = go (is_out ask) crossing stands
+  stands_free story (Asked n ask) crossing there later none free stands = go (is_out n ask) crossing stands
     where
       go : (out : Bool) (crossing : Crossing) → IsOut story out ask crossing there → IsOut story out ask crossing later
       go false crossing stands = record { same = stands.same; free = free; given = stands.given }
@@ -275,7 +277,7 @@ module _ (plan : Plan) (wide : ℕ) where
     pub in_flight : turn ≡ Asked number sent
     pub same : record sent { source = ask.source } ≡ ask
     pub waits : crossing ≡ Waiting
-    pub out : is_out sent ≡ true
+    pub out : is_out number sent ≡ true
     pub own : ask.source ≡ wide
 
   pub port_asks : (story : Story) (link : Link) (p : ℕ) (ask : Request) (turn : Turn) (crossing : Crossing)
@@ -300,7 +302,7 @@ module _ (plan : Plan) (wide : ℕ) where
       ap (λ k. record this.sent { source = k }) (sym this.own) ∙ this.same in
       let out : IsSentOut story this.sent there =
       subst (λ b. IsOut story b this.sent Waiting there) this.out
-      (subst (λ c. IsOut story (is_out this.sent) this.sent c there) this.waits
+      (subst (λ c. IsOut story (is_out this.number this.sent) this.sent c there) this.waits
       (subst (λ t. Stands story t crossing there) this.in_flight stands)) in
       let taken : IsTaken after this.sent (Asked p ask) = record {
         same = out.same ∙ ap (λ r. requests_of story.taken ++ r ∷ []) ask_is
@@ -369,7 +371,7 @@ module _ (plan : Plan) (wide : ℕ) where
   port_gives story link p ask done reply got (Asking n) crossing there due is taken_is counted stands true gift =
       absurd (not_pending there p ask is stands.free)
   port_gives story link p ask done reply got (Asked n sent) crossing there due is taken_is counted stands true gift =
-      go (is_out sent) crossing stands
+      go (is_out n sent) crossing stands
     where
       go : (out : Bool) (crossing : Crossing) → IsOut story out sent crossing there
           → IsOut (record story {

@@ -9,7 +9,7 @@ use Rattle.check_watch.specs.declared.beat.Link.TheVariants.{Master}
 use Rattle.check_watch.specs.Plan.{Plan, Layout, Sighting}
 use Rattle.check_watch.specs.Plan.LinkSide.{AtMasters, AtPorts}
 use Rattle.check_watch_laws.specs.Crossed.{AskSeen, ReplySeen, asks, exchanges}
-use Rattle.check_watch_laws.specs.Memories.{widened}
+use Rattle.check_watch_laws.specs.Memories.{port_for, widened}
 
 -- the request is one of the master that has this wide source
 abbrev pub IsOfMaster : Layout → ℕ → AskSeen → Type 0
@@ -17,7 +17,7 @@ IsOfMaster layout wide seen = (master : ℕ) × (seen.link ≡ Master master) ×
 
 -- the request goes to a port that has a link, and not to the error port
 abbrev pub goes_out : Plan → AskSeen → Bool
-goes_out plan seen = nat_lt (plan.route seen.ask.address seen.ask.size) (length plan.layout.ports)
+goes_out plan seen = nat_lt (port_for plan seen.link seen.ask) (length plan.layout.ports)
 
 -- the requests of a wide source that masters sent to such ports, each with the wide source
 abbrev pub sent_out : Plan → ℕ → List AskSeen → List Request

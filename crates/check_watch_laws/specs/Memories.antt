@@ -17,7 +17,7 @@ use Rattle.check_watch.specs.declared.beat.Link.TheVariants.{Master, Port}
 use Rattle.check_watch.specs.declared.links.Links.{Links}
 use Rattle.check_watch.specs.declared.links.Links.TheVariants.{Both, Masters, Ports, Each}
 use Rattle.check_watch.specs.Past.{slave_at}
-use Rattle.check_watch.specs.Plan.{Plan, Layout, Sighting, LinkSide, side_of, source_of, wide_of, same_side}
+use Rattle.check_watch.specs.Plan.{Plan, Layout, Sighting, LinkSide, side_of, route_of, source_of, wide_of, same_side}
 use Rattle.check_watch.specs.Plan.LinkSide.{AtMasters, AtPorts}
 use Rattle.check_watch.specs.Scene.{begins_reply}
 use Rattle.check_watch_laws.specs.Crossed.{AskSeen, ReplySeen, replying_at, ask_ended, exchanges, next_answered}
@@ -35,10 +35,10 @@ side_by Each has_link = AtMasters
 abbrev pub side_for : Layout → ℕ → LinkSide
 side_for layout port = side_by layout.links (nat_lt port (length layout.ports))
 
--- the port that a request at a link goes to: the link's own, or the one that the address map has it with
+-- the port that a request at a link goes to: the link's own, or that of the master's requests
 abbrev pub port_for : Plan → Link → Request → ℕ
 port_for plan (Port p) ask = p
-port_for plan (Master m) ask = plan.route ask.address ask.size
+port_for plan (Master m) ask = route_of plan m ask.address ask.size
 
 -- the request is one that this port's slave has to do, as it is seen at this link
 abbrev pub is_for : Plan → ℕ → AskSeen → Bool

@@ -12,7 +12,7 @@ use Rattle.check_beats.specs.Spelling.{AskBeat, ReplyBeat}
 use Rattle.check_beats.specs.declared.beat.ReplyHead.{ReplyHead}
 use Rattle.check_watch.specs.declared.beat.Link.{Link}
 use Rattle.check_watch.specs.declared.beat.Link.TheVariants.{Port}
-use Rattle.check_watch.specs.Plan.{Plan, Layout, Sighting, LinkSide, side_of, link_number, source_of, wide_of, is_link, bus_of, HasSource, RoutesAt}
+use Rattle.check_watch.specs.Plan.{Plan, Layout, Sighting, LinkSide, side_of, link_number, source_of, wide_of, is_link, bus_of, HasSource, RoutesWide}
 use Rattle.check_watch_laws.specs.Crossed.{AskSeen, ReplySeen, asks_over, replies_over, begun_at, ended_at, begun_replies_at, ended_replies_at, asks, replies, exchanges, next_answered}
 
 -- ---- a link
@@ -103,9 +103,9 @@ replies_of_source plan link wide whole =
 
 -- ---- places
 
--- a request at a port's link is one that the address map has with the port
-abbrev pub IsInPlace : Layout → AskSeen → Type 0
-IsInPlace layout seen = (port : ℕ) → seen.link ≡ Port port → RoutesAt layout seen.ask.address seen.ask.size port
+-- a request of a wide source at a port's link is one that goes to the port if the source's master sends it
+abbrev pub IsInPlace : Layout → ℕ → AskSeen → Type 0
+IsInPlace layout wide seen = (port : ℕ) → seen.link ≡ Port port → RoutesWide layout wide seen.ask.address seen.ask.size port
 
 -- what lawful beats say of messages
 pub record AreMessages (plan : Plan) (past : List Sighting) : Type 0 where
@@ -121,7 +121,7 @@ pub record AreMessages (plan : Plan) (past : List Sighting) : Type 0 where
   -- each beat is of a source that the system has at its link
   pub known : AllByRecursion (λ (x : Sighting). HasSource plan.layout x.link (source_of x.beat)) past
   -- each request at a port's link is one of the port, once it has begun
-  pub placed : (side : LinkSide) (wide : ℕ) → AllByRecursion (IsInPlace plan.layout) (asks plan side wide past)
+  pub placed : (side : LinkSide) (wide : ℕ) → AllByRecursion (IsInPlace plan.layout wide) (asks plan side wide past)
   pub begun_placed : (port : ℕ) (first : AskBeat) (more : List AskBeat)
       → begun_at plan.layout (Port port) past ≡ first ∷ more
-      → RoutesAt plan.layout first.head.address first.head.size port
+      → RoutesWide plan.layout first.head.source first.head.address first.head.size port

@@ -1,5 +1,5 @@
 -- A system has as many links as its file gives names for, none or all of a link.
-use Rattle.std.proofs.Common.{◌≡◌, ◌∙◌, ℕ, ◌<◌, ◌≤◌, ◌^◌, nat_lt, Bool, true, false, ◌||◌, cond, List, [], ◌∷◌, length, Option, Some, None, Result, Ok, Err, ok_or, arith, refl, sym, ap}
+use Rattle.std.proofs.Common.{◌≡◌, ◌∙◌, ℕ, ◌<◌, ◌≤◌, ◌^◌, nat_lt, Bool, true, false, ◌||◌, cond, List, [], ◌∷◌, length, Option, Some, None, Result, Ok, Err, ok_or, arith, refl, subst, sym, ap}
 use Rattle.std.proofs.lemmas.Bool.{ltb-false}
 use Rattle.std.specs.List.{list_any}
 use Rattle.std.specs.Str.{is_utf8}
@@ -23,7 +23,7 @@ use Rattle.check_keys.specs.declared.fault.Key as part_key
 use Rattle.check_keys.specs.declared.fault.Key.TheVariants as part
 use Rattle.check_keys.specs.declared.fault.SystemFault.{SystemFault}
 use Rattle.check_keys.specs.declared.fault.SystemFault.TheVariants as fault
-use Rattle.check_description.specs.Port.{Port, port_of, port_tables, ports_of, tables_by}
+use Rattle.check_description.specs.Port.{Port, names_of_ports, port_of, port_tables, ports_of, tables_by}
 use Rattle.check_description.specs.Description.{Description, Makes}
 use Rattle.check_description.specs.File.{Parts, document_of, parts_in, parts_of}
 use Rattle.check_description.specs.Rules.{rules_in}
@@ -116,34 +116,40 @@ links-are members names is =
 record Divided (members : Members) (parts : Parts) : Type 0 where
   bus : Bus
   ports : ports_of bus members ≡ Ok parts.ports
-  masters : masters_of bus members ≡ Ok parts.masters
+  masters : masters_of bus (names_of_ports parts.ports) members ≡ Ok parts.masters
 
 parts-are : (members : Members) (parts : Parts) → parts_in members ≡ Ok parts → Divided members parts
 unfolding parts_in
 parts-are members parts is = go (bus_in_table Eight members) (rules_in members) is
   where
-    by : (bus : Bus) (rules : LinkRules) (p : Result (List Port) SystemFault) (m : Result (List Master) SystemFault)
-        → ports_of bus members ≡ p → masters_of bus members ≡ m
-        → (p >>= (λ of_ports. m >>= (λ of_masters. Ok (record { rules = rules; ports = of_ports; masters = of_masters })))) ≡ Ok parts
+    by : (bus : Bus) (rules : LinkRules) (p : Result (List Port) SystemFault) → ports_of bus members ≡ p
+        → (p >>= (λ of_ports. masters_of bus (names_of_ports of_ports) members
+        >>= (λ of_masters. Ok (record { rules = rules; ports = of_ports; masters = of_masters })))) ≡ Ok parts
         → Divided members parts
-    by bus rules (Err e) m x y w = absurd (cc)
-    by bus rules (Ok p) (Err e) x y w = absurd (cc)
-    by bus rules (Ok p) (Ok m) x y w =
-        let made : Parts = record { rules = rules; ports = p; masters = m } in
-        let same : made ≡ parts = cc in
-        record {
-          bus = bus;
-          ports = x ∙ ap (λ (n : Parts). Ok n.ports) same;
-          masters = y ∙ ap (λ (n : Parts). Ok n.masters) same;
-        }
+    by bus rules (Err e) x w = absurd (cc)
+    by bus rules (Ok p) x w = then (masters_of bus (names_of_ports p) members) refl w
+      where
+        then : (m : Result (List Master) SystemFault) → masters_of bus (names_of_ports p) members ≡ m
+            → (m >>= (λ of_masters. Ok (record { rules = rules; ports = p; masters = of_masters }))) ≡ Ok parts
+            → Divided members parts
+        then (Err e) y z = absurd (cc)
+        then (Ok m) y z =
+            let made : Parts = record { rules = rules; ports = p; masters = m } in
+            let same : made ≡ parts = cc in
+            record {
+              bus = bus;
+              ports = x ∙ ap (λ (n : Parts). Ok n.ports) same;
+              masters = subst (λ (n : Parts). masters_of bus (names_of_ports n.ports) members ≡ Ok n.masters) same y;
+            }
 
     go : (b : Result Bus SystemFault) (r : Result LinkRules SystemFault)
-        → (b >>= (λ bus. r >>= (λ rules. ports_of bus members >>= (λ of_ports. masters_of bus members
+        → (b >>= (λ bus. r >>= (λ rules. ports_of bus members >>= (λ of_ports.
+        masters_of bus (names_of_ports of_ports) members
         >>= (λ of_masters. Ok (record { rules = rules; ports = of_ports; masters = of_masters })))))) ≡ Ok parts
         → Divided members parts
     go (Err e) r w = absurd (cc)
     go (Ok bus) (Err e) w = absurd (cc)
-    go (Ok bus) (Ok rules) w = by bus rules (ports_of bus members) (masters_of bus members) refl refl w
+    go (Ok bus) (Ok rules) w = by bus rules (ports_of bus members) refl w
 
 -- ---- the values at a key
 
@@ -221,45 +227,45 @@ ports-same bus members links of_ports named divided = go (get_member (system_key
 abbrev counted : Data → Result (List Members) SystemFault
 counted value = tables_of part.Master value >>= one_up_to part.Master MAX_JUDGED_MASTERS
 
-masters-same : (bus : Bus) (members : Members) (links : List (Option (List SignalName))) (of_masters : List Master)
-    → links_in key.Master members ≡ Ok links → masters_of bus members ≡ Ok of_masters
+masters-same : (bus : Bus) (ports : List (Option (List ℕ))) (members : Members) (links : List (Option (List SignalName))) (of_masters : List Master)
+    → links_in key.Master members ≡ Ok links → masters_of bus ports members ≡ Ok of_masters
     → (length links ≡ length of_masters) × (length of_masters ≤ MAX_JUDGED_MASTERS)
 unfolding links_in masters_of master_tables value_at
-masters-same bus members links of_masters named divided =
+masters-same bus ports members links of_masters named divided =
     go (get_member (system_key.key_name part.Master) members) named divided
   where
     by : (value : Data) → links_by key.Master (Some value) ≡ Ok links → (r : Result (List Members) SystemFault)
         → tables_of part.Master value ≡ r
         → ((r >>= one_up_to part.Master MAX_JUDGED_MASTERS)
-        >>= (λ tables. each (master_of bus (list_any has_first tables)) tables)) ≡ Ok of_masters
+        >>= (λ tables. each (master_of bus ports (list_any has_first tables)) tables)) ≡ Ok of_masters
         → (length links ≡ length of_masters) × (length of_masters ≤ MAX_JUDGED_MASTERS)
     by value x (Err e) at y = absurd (cc)
     by value x (Ok tables) at y = then (nat_lt (length tables) 1) (up_to part.Master MAX_JUDGED_MASTERS tables) refl y
       where
         then : (t : Bool) (r : Result (List Members) SystemFault) → up_to part.Master MAX_JUDGED_MASTERS tables ≡ r
             → ((cond t (Err (fault.OutOfRange part.Master)) (Ok tables) >>= up_to part.Master MAX_JUDGED_MASTERS)
-            >>= (λ some. each (master_of bus (list_any has_first some)) some)) ≡ Ok of_masters
+            >>= (λ some. each (master_of bus ports (list_any has_first some)) some)) ≡ Ok of_masters
             → (length links ≡ length of_masters) × (length of_masters ≤ MAX_JUDGED_MASTERS)
         then true r z w = absurd (cc)
         then false r z w =
             last r z
-            (ap (λ (q : Result (List Members) SystemFault). q >>= (λ some. each (master_of bus (list_any has_first some)) some))
+            (ap (λ (q : Result (List Members) SystemFault). q >>= (λ some. each (master_of bus ports (list_any has_first some)) some))
             (sym z) ∙ w)
           where
             last : (r : Result (List Members) SystemFault) → up_to part.Master MAX_JUDGED_MASTERS tables ≡ r
-                → (r >>= (λ some. each (master_of bus (list_any has_first some)) some)) ≡ Ok of_masters
+                → (r >>= (λ some. each (master_of bus ports (list_any has_first some)) some)) ≡ Ok of_masters
                 → (length links ≡ length of_masters) × (length of_masters ≤ MAX_JUDGED_MASTERS)
             last (Err e) z w = absurd (cc)
             last (Ok some) z w =
                 let found = link-values key.Master value links x in
                 let are = few part.Master MAX_JUDGED_MASTERS tables some z in
                 let count = table-values value part.Master tables found.0 found.1 at in
-                let parts = each-counts (master_of bus (list_any has_first some)) some of_masters w in
+                let parts = each-counts (master_of bus ports (list_any has_first some)) some of_masters w in
                 (omega (arith, found.2, count, ap length are.0, parts), omega (arith, are.1, parts))
 
     go : (o : Option Data) → links_by key.Master o ≡ Ok links
         → ((ok_or o (fault.Missing part.Master) >>= counted)
-        >>= (λ tables. each (master_of bus (list_any has_first tables)) tables)) ≡ Ok of_masters
+        >>= (λ tables. each (master_of bus ports (list_any has_first tables)) tables)) ≡ Ok of_masters
         → (length links ≡ length of_masters) × (length of_masters ≤ MAX_JUDGED_MASTERS)
     go None x y = absurd (cc)
     go (Some value) x y = by value x (tables_of part.Master value) refl y
@@ -278,7 +284,7 @@ same-counts file names parts system is makes named =
     let links = links-are table.members names table.named in
     let divided = parts-are table.members parts table.divided in
     let of_ports = ports-same divided.bus table.members names.ports parts.ports links.ports divided.ports in
-    let of_masters = masters-same divided.bus table.members names.masters parts.masters links.masters divided.masters in
+    let of_masters = masters-same divided.bus (names_of_ports parts.ports) table.members names.masters parts.masters links.masters divided.masters in
     let ports_are = ap (λ (xs : List Port). length xs) makes.ports in
     let masters_are = ap (λ (xs : List Master). length xs) makes.masters in
     record {

@@ -1,7 +1,8 @@
 -- The request that begins with a beat, as it is kept.
 use Rattle.std.proofs.Common.{◌≡◌, ◌∙◌, ◌%◌, ◌^◌, false, sym, ap, subst}
 use Rattle.std.specs.Prelude.{◌==◌, not}
-use Rattle.check_watch.specs.Plan.{RoutesAt}
+use Rattle.check_watch.specs.Plan.{RoutesAt, route_of}
+use Rattle.check_watch.proofs.Judging.{own_route}
 use Rattle.check_sides.specs.Plan.{Layout}
 use Rattle.check_coverage.specs.Flights.{master_of}
 use Rattle.check_coverage.proofs.coverage.begun.Goals as goal
@@ -9,12 +10,15 @@ use Rattle.check_coverage.proofs.coverage.begun.Goals as goal
 pub returns : goal.returns
 returns c = λ plan suits.
     let beat = c.args.beat.now in
-    let master : c.master_of.result ≡ master_of plan.layout.owners c.args.wide =
-    c.master_of.ensures ∙ ap (λ o. master_of o c.args.wide) (c.sources.ensures ∙ ap (λ (l : Layout). l.owners) suits.layout) in
-    let port : c.route.result ≡ plan.route beat.address beat.size =
-    (c.route.ensures (plan.route beat.address beat.size)).1
-    (subst (λ (l : Layout). RoutesAt l beat.address beat.size (plan.route beat.address beat.size)) (sym suits.layout)
-    (suits.lawful.route beat.address beat.size)) in
+    let owner = master_of plan.layout.owners c.args.wide in
+    let master : c.master_of-master.result ≡ owner =
+    c.master_of-master.ensures ∙ ap (λ o. master_of o c.args.wide) (c.sources.ensures ∙ ap (λ (l : Layout). l.owners) suits.layout) in
+    let route = route_of plan owner beat.address beat.size in
+    let port : c.route.result ≡ route =
+    (c.route.ensures route).1
+    (subst (λ m. RoutesAt c.args.watch.now.layout m beat.address beat.size route) (sym master)
+    (subst (λ (l : Layout). RoutesAt l owner beat.address beat.size route) (sym suits.layout)
+    (own_route plan suits.lawful owner beat.address beat.size))) in
     let span : c.width-span.result ≡ 2 ^ beat.size = c.width-span.ensures.value in
     λ i. record {
       wide = c.args.wide;

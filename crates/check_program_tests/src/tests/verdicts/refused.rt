@@ -33,6 +33,7 @@ stride = 2
 sources = 2
 first = 1
 stride = 2
+reach = ['ram', 1]
 ";
 
 /// The image of the first port.

@@ -1,19 +1,16 @@
-use Rattle.std.proofs.Common.{◌≡◌, ◌∙◌, ◌<◌, None, List, rules, arith, ap, sym, subst}
-use Rattle.tl_map.specs.declared.range.Range.{Range}
+use Rattle.std.proofs.Common.{◌≡◌, ◌∙◌, ◌<◌, None, rules, arith, ap, sym}
 use Rattle.tl_map.specs.Map.{RoutesBytes}
 use Rattle.check_beats.specs.Form.{FitsAsk}
 use Rattle.check_beats.specs.Rules.{decoded_size}
-use Rattle.check_beats.specs.declared.rules.LinkRules.{LinkRules}
 use Rattle.check_beats.specs.State.{first_ask}
 use Rattle.check_flight.specs.Flight.{Flight}
 use Rattle.check_flight.specs.Flight.Turn.{Idle}
 use Rattle.check_watch.specs.declared.beat.Beat.TheVariants.{A}
 use Rattle.check_watch.specs.declared.beat.Link.TheVariants.{Port}
 use Rattle.check_watch.specs.declared.fault.Reason.TheVariants.{SourceBusy, WrongPort}
-use Rattle.check_watch.specs.Plan.{RoutesAt}
 use Rattle.check_watch.proofs.Judging.{first_ask_reason, allowed_ask}
 use Rattle.check_sides.specs.View.{PortView, flight_in, port_scene}
-use Rattle.check_sides.proofs.Alone.{up_to}
+use Rattle.check_sides.proofs.Alone.{found_if_placed, placed_if_found, up_to}
 use Rattle.check_sides.proofs.port.PortLink.ask_reason.Goals as goal
 
 pub returns-then-not-is_idle-clause-reason : goal.returns-then-not-is_idle-clause-reason
@@ -45,10 +42,7 @@ returns-then-route_bytes-port-clause-reason c layout beyond lanes own =
     let free : (flight_in view beat.source).turn ≡ Idle =
     ap (λ (f : Flight). f.turn) (sym flight) ∙ c.is_idle.ensures.0 c.if-not-is_idle.false in
     first_ask_reason layout (Port c.args.port) here beat c.args.known lanes WrongPort
-    (λ placed. let at : RoutesBytes c.args.map.now beat.address (decoded_size c.args.rules beat.size) c.args.port =
-    subst (λ (r : LinkRules). RoutesBytes c.args.map.now beat.address (decoded_size r beat.size) c.args.port) own.rules
-    (subst (λ (m : List (List Range)). RoutesBytes m beat.address (decoded_size layout.rules beat.size) c.args.port) own.ranges
-    (placed begins)) in
+    (λ placed. let at = found_if_placed layout c.args.rules c.args.map.now c.args.port own beat (placed begins) in
     c.if-route_bytes-port.true ((c.route_bytes.ensures.port c.args.port).1 (rw c.decoded_size.ensures.value at)))
     (up_to layout c.args.rules c.args.map.now c.args.port own here beat c.args.known lanes 11 fits c.in_default.ensures.aligned c.in_default.ensures.known small
     (λ lower _. free) (λ lower. absurd (omega (arith, lower))))
@@ -66,10 +60,7 @@ returns-clause-allowed c layout beyond lanes own =
     ap (λ (f : Flight). f.turn) (sym flight) ∙ c.is_idle.ensures.0 c.if-not-is_idle.false in
     let found : RoutesBytes c.args.map.now beat.address (decoded_size c.args.rules beat.size) c.args.port =
     rw (← c.decoded_size.ensures.value) ((c.route_bytes.ensures.port c.args.port).0 c.if-route_bytes-port.false) in
-    let at : RoutesAt layout beat.address beat.size c.args.port =
-    subst (λ (r : LinkRules). RoutesBytes layout.ports beat.address (decoded_size r beat.size) c.args.port) (sym own.rules)
-    (subst (λ (m : List (List Range)). RoutesBytes m beat.address (decoded_size c.args.rules beat.size) c.args.port) (sym own.ranges)
-    found) in
+    let at = placed_if_found layout c.args.rules c.args.map.now c.args.port own beat small found in
     allowed_ask layout (Port c.args.port) here beat c.args.known lanes
     (up_to layout c.args.rules c.args.map.now c.args.port own here beat c.args.known lanes 20 fits c.in_default.ensures.aligned c.in_default.ensures.known small
     (λ lower _. free) (λ lower _. at))

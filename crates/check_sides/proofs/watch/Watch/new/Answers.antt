@@ -42,6 +42,7 @@ keeps_by : (c : goal.In_ok-shared) (plan : Plan) → IsPlan plan
       rules = c.args.rules;
       owners = c.args.sources;
       ports = c.args.map;
+      paths = c.args.paths;
       master_buses = c.args.master_buses.items;
       port_buses = c.args.port_buses.items;
     }

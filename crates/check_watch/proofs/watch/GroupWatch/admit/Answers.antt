@@ -8,6 +8,7 @@ use Rattle.check_watch.specs.Plan.{seen_at}
 use Rattle.check_watch.specs.View.{IsPlace, KeepsGroup}
 use Rattle.check_watch.proofs.Ending.{ask_ended, reply_ended}
 use Rattle.check_watch.proofs.Keeping.{ask_keeps, ask_needs, on_ok, reply_keeps, reply_needs}
+use Rattle.check_watch.specs.declared.beat.Beat.TheVariants.{D}
 use Rattle.check_watch.proofs.Stepping.{if_ok, on_err}
 use Rattle.check_watch.proofs.watch.GroupWatch.admit.Goals as goal
 
@@ -72,8 +73,10 @@ returns-in-D-clause-ended c plan past keeps =
     let P : Beat → Type 0 =
     λ b. IsLawfulGroup plan (seen_at link b known lanes ∷ past)
     → IfOk r (λ e. e ≡ ended_by (seen_in_group plan past (seen_at link b known lanes))) in
-    subst P (sym c.in-D.is) (λ lawful. if_ok r (λ (e : Ended) is.
-    is ∙ reply_ended plan past c.args.self.now link known lanes keeps _ c.in-D.beat lawful refl) c.admit_reply.ensures.ends)
+    let Q : Ended → Type 0 = λ e. e ≡ ended_by (seen_in_group plan past (seen_at link (D c.in-D.beat) known lanes)) in
+    subst P (sym c.in-D.is) (λ lawful.
+    let told = reply_ended plan past c.args.self.now link known lanes keeps _ c.in-D.beat lawful refl in
+    if_ok {Q = Q} r (λ (e : Ended) is. is ∙ told) c.admit_reply.ensures.ends)
 
 pub returns-in-D-clause-needed : goal.returns-in-D-clause-needed
 returns-in-D-clause-needed c plan past keeps lawful =

@@ -1,4 +1,6 @@
-use Rattle.std.proofs.Common.{◌∙◌, length, refl, ap, sym}
+use Rattle.std.proofs.Common.{◌∙◌, length, refl, ap, subst, sym}
+use Rattle.tl_map.specs.Map.{RoutesBytes}
+use Rattle.tl_map.proofs.Routing.{one_port}
 use Rattle.check_beats.specs.Rules.{decoded_size}
 use Rattle.check_beats.specs.State.{Under}
 use Rattle.check_flight.specs.Side.{bus_at}
@@ -30,17 +32,24 @@ returns-clause-plan c =
         rules = c.args.rules;
         owners = c.args.sources;
         ports = c.args.map;
+        paths = c.args.paths;
         master_buses = c.args.master_buses.items;
         port_buses = c.args.port_buses.items;
       };
       resets = c.args.slaves.items;
       wide = wide_by c.args.sources;
-      route = λ address size. c.ports-slots.ensures.routes.0 address (decoded_size c.args.rules size);
+      decode = λ address size. c.ports-slots.ensures.routes.0 address (decoded_size c.args.rules size);
     } in
     let lawful : IsPlan plan = record {
       owners = c.masters-owners.ensures.lawful;
       wide = wide_by_is c.args.sources;
-      route = λ address size. c.ports-slots.ensures.routes.1 address (decoded_size c.args.rules size);
+      decode = λ address size port.
+          let bytes = decoded_size c.args.rules size in
+          let finds = c.ports-slots.ensures.routes.1 address bytes in (
+            λ is. subst (RoutesBytes c.args.map address bytes) is finds,
+            λ found. one_port c.args.map c.ports-slots.ensures.lawful address bytes
+                (c.ports-slots.ensures.routes.0 address bytes) port finds found,
+          );
     } in
     let made : GroupView = record {
       layout = plan.layout;
