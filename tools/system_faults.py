@@ -395,8 +395,37 @@ IMAGES = (f"{MASTER}{PORT}", {
     "image = 'two.bin'\n[[port]]\nkind = 'ram'\nbase = 0\nlength = 1": "ports 0 and 1 overlap",
     "image = 'none.bin'\n[[master]]\nsources = 257": "port 0: image can't be read",
 })
+
+
+def ports_at(*ports):
+    """RAMs, each with a list of ranges, and one master."""
+    return "master = [{ sources = 1 }]\nport = [" + ", ".join(f"{{ kind = 'ram', ranges = {list(map(list, ranges))} }}" for ranges in ports) + "]"
+
+
+def masters_at(*firsts):
+    """Masters of one source, which is the first one."""
+    return "master = [" + ", ".join(f"{{ sources = 1, first = {first} }}" for first in firsts) + "]"
+
+
+RAM, LAST, NEXT, FAR, ALL = (0x1000, 64), (0x103f, 1), (0x1040, 1), (0x8000, 1), (0, 9223372036854775807)
+# Ranges with a byte in common, and the two ports that are told; and two masters with a source in common.
+SHARED = ("", {
+    ports_at([RAM], [LAST]): "ports 0 and 1 overlap",
+    ports_at([LAST], [RAM]): "ports 0 and 1 overlap",
+    ports_at([RAM, LAST]): "ports 0 and 0 overlap",
+    ports_at([FAR], [RAM, LAST], [FAR]): "ports 1 and 1 overlap",
+    ports_at([FAR], [NEXT, FAR, NEXT]): "ports 0 and 1 overlap",
+    ports_at([FAR], [RAM], [NEXT, LAST, FAR]): "ports 1 and 2 overlap",
+    # of the ranges that one meets the first decides, whatever its base
+    ports_at([FAR], [RAM], [ALL]): "ports 0 and 2 overlap",
+    ports_at([RAM], [FAR], [ALL]): "ports 0 and 2 overlap",
+    ports_at([NEXT], [FAR], [LAST, ALL], [FAR]): "ports 0 and 2 overlap",
+    ports_at([RAM], [NEXT], [FAR]): "",
+    ports_at(*([(at % 254, 1)] for at in range(255))): "ports 0 and 254 overlap",
+    masters_at(*(65535 if at in (2, 11) else at for at in range(12))): "masters 2 and 11 share source 65535",
+})
 TABLES = (DOCUMENTS, UNKNOWN_KEYS, NAMES, PLAIN_PORTS, RANGES, DEVICE_RANGES, CONTENTS, ONE_RANGE, SIZES, ORDERS_AND_BUSES, MASTERS, REACH, TWO_MASTERS, PARTS,
-          IMAGES)
+          SHARED, IMAGES)
 
 
 def rows():

@@ -1,15 +1,8 @@
-mod coverage;
-mod dumps;
-mod ends;
 mod erasing;
-mod files;
-mod images;
-mod options;
+mod faults;
 mod parts;
-mod program;
 mod progress;
-mod streams;
-mod verdicts;
+mod screen;
 
 use std::process::Abort;
 

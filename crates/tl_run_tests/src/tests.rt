@@ -1,12 +1,10 @@
 mod audit;
-mod audits;
 mod beats;
 mod memory;
 mod model;
 mod ops;
 mod program;
 mod slots;
-mod streams;
 mod texts;
 mod threads;
 mod types;

@@ -1,65 +1,10 @@
 //! The progress of a capture: when its lines come, and what they are.
 use crate::tests::holds;
+use crate::tests::screen::Screen;
 use check_program::{Line, Meter, Shown};
 use std::alloc::Global;
-use std::cell::{Cell, RefCell};
-use std::fmt::{Display, Write};
-use std::io;
-use std::io::{Eprint, ErrorKind, Read};
+use std::io::Read;
 use std::process::Abort;
-use std::time::{Clock, Duration};
-
-/// A clock that is set by hand, and what was printed on standard error.
-#[derive(Drop)]
-struct Desk {
-    millis: Cell<u64>,
-    said: RefCell<String>,
-}
-
-impl Desk {
-    fn new(alloc: Global) -> Desk {
-        Desk {
-            millis: Cell::new(0),
-            said: RefCell::new(String::new(alloc)),
-        }
-    }
-
-    /// Whether this alone was printed since the last time.
-    fn has_said(&self, printed: &str) -> bool {
-        let Ok(mut said) = self.said.try_borrow_mut() else {
-            return false;
-        };
-        let is_so = said.as_str() == printed;
-        said.clear();
-        is_so
-    }
-}
-
-impl Clock for Desk {
-    fn monotonic(&self) -> io::Result<Duration> {
-        Ok(Duration::from_millis(self.millis.get()))
-    }
-
-    fn since_1970(&self) -> io::Result<Duration> {
-        Err(io::Error::from(ErrorKind::Unsupported))
-    }
-}
-
-impl Eprint for Desk {
-    fn eprint<D: Display + Drop>(&self, value: D) -> io::Result<()> {
-        let Ok(mut said) = self.said.try_borrow_mut() else {
-            return Err(io::Error::from(ErrorKind::Other));
-        };
-        match write!(said, "{value}") {
-            Ok(()) => Ok(()),
-            Err(_) => Err(io::Error::from(ErrorKind::OutOfMemory)),
-        }
-    }
-
-    fn eprintln<D: Display + Drop>(&self, value: D) -> io::Result<()> {
-        self.eprint(value)
-    }
-}
 
 /// At a time, in milliseconds, these bytes are read, and this alone is printed.
 type Moment = (u64, &'static [u8], &'static str);
@@ -78,15 +23,15 @@ static LONG: [Moment; 5] = [
 
 /// Whether a capture of 40 bytes prints this at these moments.
 fn prints(alloc: Global, moments: &[Moment]) -> bool {
-    let desk = Desk::new(alloc);
-    let Some(meter) = Meter::new(&desk, Some(40)) else {
+    let screen = Screen::new(alloc);
+    let Some(meter) = Meter::new(&screen, Some(40)) else {
         return false;
     };
     let mut is_so = true;
     for (millis, read, printed) in moments {
-        desk.millis.set(*millis);
+        screen.millis.set(*millis);
         meter.count(read);
-        is_so &= desk.has_said(printed);
+        is_so &= screen.has_said(printed);
     }
     is_so
 }
@@ -183,19 +128,19 @@ fn take(rt: &impl Abort, reader: &mut impl Read, buffer: &mut [u8], count: usize
 
 #[test]
 fn what_is_read_is_handed_on(rt: HostRuntime) {
-    let desk = Desk::new(rt.alloc());
-    let meter = Meter::new(&desk, Some(5));
+    let screen = Screen::new(rt.alloc());
+    let meter = Meter::new(&screen, Some(5));
     let mut shown = Shown::new(b"12345".as_slice(), meter.as_ref());
     let mut buffer = [0u8; 3];
-    desk.millis.set(2_000);
+    screen.millis.set(2_000);
     take(&rt, &mut shown, &mut buffer, 3);
     holds(&rt, "the bytes", buffer == *b"123");
     holds(
         &rt,
         "a line",
-        desk.has_said("0 rows, 0 rows a second, 60 %\u{1b}[K\r"),
+        screen.has_said("0 rows, 0 rows a second, 60 %\u{1b}[K\r"),
     );
     take(&rt, &mut shown, &mut buffer, 2);
     take(&rt, &mut shown, &mut buffer, 0);
-    holds(&rt, "no line", desk.has_said("\u{1b}[K"));
+    holds(&rt, "no line", screen.has_said("\u{1b}[K"));
 }

@@ -1,7 +1,6 @@
-//! The calls of the arena, by the worked values, one after the other, and from threads that each have a seat.
+//! The calls of the arena, by the worked values, one after the other.
 mod account;
 mod limits;
 mod passes;
-pub(super) mod threads;
 mod turns;
 mod worked;

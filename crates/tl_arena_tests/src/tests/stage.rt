@@ -8,7 +8,6 @@ use super::agents::book::{BookCall, Keeper, new_keeper};
 use super::agents::caller::{Caller, CallerCall, Read, callers_of};
 use super::agents::desk::{Desk, DeskCall, new_desk};
 use super::agents::master::{Client, MasterCall, clients_of};
-use super::arena::threads::take_turns;
 use super::floor::{Floor, Memory, Ports, open_floor};
 use super::full_arena::walk::walk_along;
 use super::together::threads::{claim_four, lock, step_six};
@@ -51,8 +50,6 @@ pub(super) enum Script {
     Calls(&'static [Call]),
     /// Ten thousand calls, as the dice fall.
     Walk,
-    /// Two masters and two ports on threads of their own.
-    Turns,
     /// Both masters issue twice, each on a thread of its own.
     Claims,
     /// A port behind its lock.
@@ -79,8 +76,9 @@ pub(super) struct Setting {
     pub(super) cast: Cast,
 }
 
-/// An arena, what is played on it, and the end.
+/// What a scene shows, an arena, what is played on it, and the end.
 pub(super) struct Scene {
+    pub(super) name: &'static str,
     pub(super) setting: Setting,
     pub(super) script: Script,
     pub(super) end: End,
@@ -204,11 +202,11 @@ impl<'a> Stage<'a> {
         }
     }
 
-    /// Makes these calls.
-    pub(super) fn play_all(&mut self, rt: &impl Abort, calls: &[Call]) {
+    /// Makes these calls of a scene.
+    pub(super) fn play_all(&mut self, rt: &impl Abort, name: &str, calls: &[Call]) {
         for (row, call) in calls.iter().enumerate() {
             let right = self.play(rt, call);
-            assert!(rt; right, "call {row}");
+            assert!(rt; right, "{name}: call {row}");
         }
     }
 }
@@ -253,12 +251,11 @@ fn play_script<R: Abort + Threads + Wait + Sync>(
     rt: &R,
     alloc: Global,
     mut stage: Stage,
-    script: Script,
+    scene: &Scene,
 ) {
-    match script {
-        Script::Calls(calls) => stage.play_all(rt, calls),
+    match scene.script {
+        Script::Calls(calls) => stage.play_all(rt, scene.name, calls),
         Script::Walk => walk_along(rt, alloc, stage),
-        Script::Turns => take_turns(rt, stage),
         Script::Claims => claim_four(rt, stage),
         Script::Lock => lock(rt, stage),
         Script::Workers => step_six(rt, stage),
@@ -278,7 +275,7 @@ fn account_of<R: Abort + Threads + Wait + Sync>(rt: &R, alloc: Global, scene: &S
         let cast = scene.setting.cast;
         let owners = sources.owners();
         let stage = stage_of(rt, alloc, &arena, &map, owners, masters, ports, cast);
-        play_script(rt, alloc, stage, scene.script);
+        play_script(rt, alloc, stage, scene);
     }
     arena.close(alloc).expect(rt, "memory")
 }
@@ -294,4 +291,15 @@ pub(super) fn play<R: Abort + Threads + Wait + Sync>(
     assert!(rt; held.len() == scene.end.held);
     assert!(rt; left.as_slice() == scene.end.left);
     held
+}
+
+/// Plays one scene after the other.
+pub(super) fn play_each<R: Abort + Threads + Wait + Sync>(
+    rt: &R,
+    alloc: Global,
+    scenes: &[&Scene],
+) {
+    for scene in scenes {
+        play(rt, alloc, scene);
+    }
 }

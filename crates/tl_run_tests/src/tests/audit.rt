@@ -1,5 +1,5 @@
 //! Audits of small traces and histories.
-use super::sources_of;
+use super::{holds, sources_of};
 use std::alloc::Global;
 use std::process::Abort;
 use tl_audit::{AuditFault, audit_lists};
@@ -65,8 +65,10 @@ use Message::{Got, Put};
 
 const BOTH: &[(Message, u16)] = &[(Put, 0), (Got, 0)];
 
+const THREE_PUTS: &[(Message, u16)] = &[(Put, 0), (Put, 0), (Put, 0)];
+
 /// The entries of one master, and the history of one port.
-static ONE_MASTER: [Case; 9] = [
+static ONE_MASTER: [Case; 11] = [
     Case {
         source: 0,
         masters: &[&[(Put, 0), (Got, 1)]],
@@ -116,6 +118,20 @@ static ONE_MASTER: [Case; 9] = [
         ports: &[BOTH],
         answer: Err(AuditFault::Twice(0, 0)),
     },
+    // The second entry was served before the first, and nobody has traced the third of the history: what is out of order is
+    // named before what is not traced.
+    Case {
+        source: 0,
+        masters: &[&[(Put, 1), (Put, 0)]],
+        ports: &[THREE_PUTS],
+        answer: Err(AuditFault::Order(0, 1)),
+    },
+    Case {
+        source: 0,
+        masters: &[&[(Put, 0), (Put, 1)]],
+        ports: &[THREE_PUTS],
+        answer: Err(AuditFault::Untraced(0, 2)),
+    },
     // A source that no master has.
     Case {
         source: 0,
@@ -152,7 +168,7 @@ fn audit_of(rt: &impl Abort, alloc: Global, case: &Case) -> Result<(), AuditFaul
 /// The audit of a case answers what it should.
 fn audits(rt: &impl Abort, alloc: Global, cases: &[Case]) {
     for case in cases {
-        assert!(rt; audit_of(rt, alloc, case) == case.answer);
+        holds(rt, "an audit", audit_of(rt, alloc, case) == case.answer);
     }
 }
 
@@ -227,11 +243,7 @@ static LINES: [(AuditFault, &str); 5] = [
 #[test]
 fn faults_have_lines(rt: HostRuntime) {
     for (fault, line) in &LINES {
-        assert!(rt;
-            format!(in rt.alloc(); "{fault}")
-                .expect(&rt, "memory")
-                .as_str()
-                == *line
-        );
+        let text = format!(in rt.alloc(); "{fault}").expect(&rt, "memory");
+        holds(&rt, line, text.as_str() == *line);
     }
 }

@@ -1,5 +1,6 @@
 //! The model of a crossbar, call by call: the same texts as those of the serial run (`examples/scripts`), refusals, and
 //! bytes.
+use super::holds;
 use std::alloc::Global;
 use std::process::Abort;
 use tl_model::{Crossbar, ServeFault};
@@ -83,7 +84,7 @@ static OPERATIONS: [(&str, &str); 8] = [
 fn calls_answer_what_the_serial_run_prints(rt: HostRuntime) {
     for (operations, trace) in &OPERATIONS {
         let text = printed(&rt, rt.alloc(), operations);
-        assert!(rt; text.as_slice() == trace.as_bytes());
+        holds(&rt, trace, text.as_slice() == trace.as_bytes());
     }
 }
 
@@ -104,17 +105,20 @@ static REFUSED: [(usize, u16, ServeFault); 5] = [
 /// The byte at 0x2001 is read, at this place of port 1's history.
 fn is_read(rt: &impl Abort, crossbar: &mut Crossbar, place: usize) {
     let answer = crossbar.serve(0, &read_from(rt, 15)).expect(rt, "refused");
-    assert!(rt; answer.port == 1 && answer.place == place);
-    assert!(rt; answer.reply.bytes() == [1].as_slice() && answer.reply.source() == 15);
+    holds(rt, "its port", answer.port == 1);
+    holds(rt, "its place", answer.place == place);
+    holds(rt, "its byte", answer.reply.bytes() == [1].as_slice());
+    holds(rt, "its source", answer.reply.source() == 15);
 }
 
 #[test]
 fn refused_requests_change_nothing(rt: HostRuntime) {
     let mut crossbar = crossbar(&rt, rt.alloc(), "");
-    assert!(rt; (crossbar.masters(), crossbar.ports()) == (1, 4));
+    holds(&rt, "masters", crossbar.masters() == 1);
+    holds(&rt, "ports", crossbar.ports() == 4);
     for (master, source, fault) in &REFUSED {
         let refused = crossbar.serve(*master, &read_from(&rt, *source)).err();
-        assert!(rt; refused == Some(*fault));
+        holds(&rt, "a refusal", refused == Some(*fault));
     }
     for place in 0..3 {
         is_read(&rt, &mut crossbar, place);
@@ -139,8 +143,8 @@ static BYTES: [(u64, Option<u8>); 10] = [
 fn bytes_are_those_of_the_address(rt: HostRuntime) {
     let mut crossbar = crossbar(&rt, rt.alloc(), "");
     let put = Ask::new(AskOp::PutFull, 0, 0, 0x103f, &[Some(0xa5)]).expect(&rt, "a request");
-    assert!(rt; crossbar.serve(0, &put).is_ok());
+    holds(&rt, "a put", crossbar.serve(0, &put).is_ok());
     for (address, byte) in &BYTES {
-        assert!(rt; crossbar.byte(*address) == *byte);
+        holds(&rt, "a byte", crossbar.byte(*address) == *byte);
     }
 }

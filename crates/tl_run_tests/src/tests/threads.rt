@@ -1,8 +1,7 @@
 //! Threads that meet at gates, gates that are shut, and runs of the same script over and over.
 ghost use Rattle.std.specs.Prelude.{◌≤◌};
 
-mod random;
-
+use super::holds;
 use std::alloc::Global;
 use std::process::Abort;
 use std::sync::Wait;
@@ -31,25 +30,40 @@ fn run<R: Abort + Threads + Wait + Sync, G: Gate + Sync>(
 /// All slots are free after a run, which are these, and so many masters have left.
 fn expect_account(rt: &impl Abort, run: &ThreadedRun, slots: &[usize], masters: usize) {
     let account = &run.account;
-    assert!(rt; account.free.as_slice() == slots);
-    assert!(rt; (account.held.len(), account.left.len()) == (0, masters));
+    holds(rt, "free slots", account.free.as_slice() == slots);
+    holds(rt, "held slots", account.held.is_empty());
+    holds(rt, "who has left", account.left.len() == masters);
 }
 
 /// Port 0 has a history of so many requests, and these bytes at its end.
 fn expect_book(rt: &impl Abort, run: &ThreadedRun, history: usize, bytes: &[(u64, u8)]) {
     let book = run.books.first().expect(rt, "no book");
-    assert!(rt; book.history_len() == history);
+    holds(rt, "a history", book.history_len() == history);
     for (address, byte) in bytes {
-        assert!(rt; book.byte(*address) == Some(*byte));
+        holds(rt, "a byte", book.byte(*address) == Some(*byte));
     }
 }
 
-/// The places at which two threads of a kind meet, and how many saw the other there.
+/// The places at which two threads of a kind meet, and how many saw the other there. Two threads of one port come in any
+/// order, and the masters of that port do not meet.
 #[derive(Drop)]
 struct Meeting {
+    is_one_port: bool,
+    came: AtomicUsize,
     ports: [AtomicUsize; 2],
     masters: [AtomicUsize; 2],
     met: AtomicUsize,
+}
+
+/// A meeting to which nobody has come.
+fn meeting(is_one_port: bool) -> Meeting {
+    Meeting {
+        is_one_port,
+        came: AtomicUsize::new(0),
+        ports: [AtomicUsize::new(0), AtomicUsize::new(0)],
+        masters: [AtomicUsize::new(0), AtomicUsize::new(0)],
+        met: AtomicUsize::new(0),
+    }
 }
 
 /// Comes to a place, and waits there for a while until the other has come.
@@ -70,12 +84,19 @@ fn meet(places: &[AtomicUsize; 2], who: usize, met: &AtomicUsize) {
 
 impl Gate for Meeting {
     fn may_serve(&self, port: usize) -> bool {
-        meet(&self.ports, port, &self.met);
+        let who = if self.is_one_port {
+            self.came.fetch_add(1, SeqCst)
+        } else {
+            port
+        };
+        meet(&self.ports, who, &self.met);
         true
     }
 
     fn collected(&self, master: usize, _port: usize) {
-        meet(&self.masters, master, &self.met);
+        if !self.is_one_port {
+            meet(&self.masters, master, &self.met);
+        }
     }
 }
 
@@ -87,13 +108,9 @@ fn all_meet<R: Abort + Threads + Wait + Sync>(rt: &R, alloc: Global, workers: us
     requires some { 1 ≤ workers }
     requires few { workers ≤ 4 }
 {
-    let gate = Meeting {
-        ports: [AtomicUsize::new(0), AtomicUsize::new(0)],
-        masters: [AtomicUsize::new(0), AtomicUsize::new(0)],
-        met: AtomicUsize::new(0),
-    };
+    let gate = meeting(false);
     let run = run(rt, alloc, TWO_PORTS, workers, &gate);
-    assert!(rt; gate.met.load(SeqCst) == 4);
+    holds(rt, "all have met", gate.met.load(SeqCst) == 4);
     expect_account(rt, &run, &[0, 1, 2, 3], 2);
 }
 
@@ -103,36 +120,14 @@ fn threads_run_at_once(rt: HostRuntime) {
     all_meet(&rt, rt.alloc(), 4);
 }
 
-/// The places at which two threads of one port meet, and how many saw the other there.
-#[derive(Drop)]
-struct Pair {
-    came: AtomicUsize,
-    places: [AtomicUsize; 2],
-    met: AtomicUsize,
-}
-
-impl Gate for Pair {
-    fn may_serve(&self, _port: usize) -> bool {
-        let who = self.came.fetch_add(1, SeqCst);
-        meet(&self.places, who, &self.met);
-        true
-    }
-
-    fn collected(&self, _master: usize, _port: usize) {}
-}
-
 const ONE_PORT: &[u8] =
     b"slots = 4\nport = [{ kind = 'ram', base = 0x1000, length = 64 }]\nmaster = [{ sources = 1, ops = ['0 get 0x1000 2'] }, { sources = 1, ops = ['0 get 0x1004 2'] }]\n";
 
 #[test]
 fn workers_of_a_port_run_at_once(rt: HostRuntime) {
-    let gate = Pair {
-        came: AtomicUsize::new(0),
-        places: [AtomicUsize::new(0), AtomicUsize::new(0)],
-        met: AtomicUsize::new(0),
-    };
+    let gate = meeting(true);
     let run = run(&rt, rt.alloc(), ONE_PORT, 2, &gate);
-    assert!(rt; gate.met.load(SeqCst) == 2);
+    holds(&rt, "both have met", gate.met.load(SeqCst) == 2);
     expect_account(&rt, &run, &[0, 1, 2, 3], 2);
 }
 
@@ -238,10 +233,19 @@ fn run_held<R: Abort + Threads + Wait + Sync>(
         collected: [counts(), counts()],
     };
     let fault = run_threads(rt, alloc, system, workers, &gate).err();
-    assert!(rt; fault == held.fault);
-    assert!(rt; workers > 1 || told(&gate.asked) == held.asked);
-    assert!(rt; told(&gate.collected[0]) == [0, 2, 1]);
-    assert!(rt; told(&gate.collected[1]) == [1, 0, 0]);
+    let asked = workers > 1 || told(&gate.asked) == held.asked;
+    holds(rt, "a fault", fault == held.fault);
+    holds(rt, "how often the gate is asked", asked);
+    holds(
+        rt,
+        "the first master's replies",
+        told(&gate.collected[0]) == [0, 2, 1],
+    );
+    holds(
+        rt,
+        "the second one's",
+        told(&gate.collected[1]) == [1, 0, 0],
+    );
 }
 
 #[test]

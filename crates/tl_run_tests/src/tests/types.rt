@@ -161,5 +161,9 @@ fn replies_have_numbers(rt: HostRuntime) {
         holds(&rt, row, reply_opcode(op) == number);
         holds(&rt, row, read_reply_op(number) == Ok(op));
     }
-    assert!(rt; read_reply_op(3) == Err(OpFault::UnknownOpcode));
+    holds(
+        &rt,
+        "no opcode",
+        read_reply_op(3) == Err(OpFault::UnknownOpcode),
+    );
 }

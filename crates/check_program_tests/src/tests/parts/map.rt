@@ -1,4 +1,4 @@
-//! The address map of ports with several ranges.
+//! The address map of ports with several ranges. `tools/system_faults.py` has ranges with a byte in common.
 ghost use Rattle.std.specs.Prelude.{◌↔◌, IsTrue, ◌≡◌, ◌<◌, true, All};
 ghost use Rattle.tl_map.specs.Map.{AreRanges, IsLawfulRange, lists_in};
 ghost use Rattle.check_program_tests.specs.Port.{IsPort};
@@ -54,7 +54,7 @@ fn ports_of(rt: &impl Abort, alloc: Global, rows: &[&[Range]]) -> Vec<Vec<Range>
 }
 
 /// The map of ports that have ranges as the reader of system files leaves them.
-pub(crate) fn made(
+fn made(
     rt: &impl Abort,
     alloc: Global,
     ports: &[Vec<Range>],
@@ -66,11 +66,6 @@ pub(crate) fn made(
 /// The map of these ranges.
 fn map_of(rt: &impl Abort, alloc: Global, rows: &[&[Range]]) -> AddressMap {
     made(rt, alloc, &ports_of(rt, alloc, rows)).expect(rt, "a map")
-}
-
-/// The fault of these ranges.
-fn fault_of(rt: &impl Abort, alloc: Global, rows: &[&[Range]]) -> Option<AddressMapFault> {
-    made(rt, alloc, &ports_of(rt, alloc, rows)).err()
 }
 
 /// A RAM that answers at two places and beside the second of them, a ROM that follows the first, and a device at both
@@ -163,62 +158,6 @@ fn ports_keep_their_ranges_in_order(rt: HostRuntime) {
     }
 }
 
-const RAM: Range = Range {
-    base: 0x1000,
-    length: 64,
-};
-
-const LAST: Range = Range {
-    base: 0x103f,
-    length: 1,
-};
-
-const NEXT: Range = Range {
-    base: 0x1040,
-    length: 1,
-};
-
-const FAR: Range = Range {
-    base: 0x8000,
-    length: 1,
-};
-
-const ALL: Range = Range {
-    base: 0,
-    length: 0xffff_ffff_ffff_ffff,
-};
-
-/// Ranges of ports, and the two ports that are told.
-static OVERLAPS: [(&[&[Range]], usize, usize); 9] = [
-    (&[&[RAM], &[LAST]], 0, 1),
-    (&[&[LAST], &[RAM]], 0, 1),
-    (&[&[RAM, LAST]], 0, 0),
-    (&[&[FAR], &[RAM, LAST], &[FAR]], 1, 1),
-    (&[&[FAR], &[NEXT, FAR, NEXT]], 0, 1),
-    (&[&[FAR], &[RAM], &[NEXT, LAST, FAR]], 1, 2),
-    // of the ranges that one meets the first decides, whatever its base
-    (&[&[FAR], &[RAM], &[ALL]], 0, 2),
-    (&[&[RAM], &[FAR], &[ALL]], 0, 2),
-    (&[&[NEXT], &[FAR], &[LAST, ALL], &[FAR]], 0, 2),
-];
-
-#[test]
-fn ranges_have_a_first_fault(rt: HostRuntime) {
-    for (ports, one, other) in &OVERLAPS {
-        let wanted = Some(AddressMapFault::Overlap(*one, *other));
-        holds(
-            &rt,
-            "an overlap",
-            fault_of(&rt, rt.alloc(), ports) == wanted,
-        );
-    }
-    holds(
-        &rt,
-        "no overlap",
-        fault_of(&rt, rt.alloc(), &[&[RAM], &[NEXT], &[FAR]]) == None,
-    );
-}
-
 /// A port's first range: those of later ports stand at lower addresses.
 fn low_range(port: u64) -> Range
     requires { port < 255 }
@@ -299,17 +238,4 @@ fn a_port_may_have_sixteen_ranges(rt: HostRuntime) {
         );
     }
     holds(&rt, "the next port", map.route_bytes(1016, 3) == 1);
-}
-
-static TEXTS: [(AddressMapFault, &str); 2] = [
-    (AddressMapFault::Overlap(0, 254), "ports 0 and 254 overlap"),
-    (AddressMapFault::Memory, "memory refused"),
-];
-
-#[test]
-fn faults_have_their_texts(rt: HostRuntime) {
-    for (fault, wanted) in &TEXTS {
-        let text = format!(in rt.alloc(); "{fault}").expect(&rt, "memory");
-        holds(&rt, wanted, text.as_str() == *wanted);
-    }
 }

@@ -166,23 +166,6 @@ fn owners_have_a_first_fault(rt: HostRuntime) {
     }
 }
 
-static TEXTS: [(SourceOwnerFault, &str); 3] = [
-    (SourceOwnerFault::TooMany, "too many masters or sources"),
-    (
-        SourceOwnerFault::Shared(2, 11, 65_535),
-        "masters 2 and 11 share source 65535",
-    ),
-    (SourceOwnerFault::Memory, "memory refused"),
-];
-
-#[test]
-fn faults_have_their_texts(rt: HostRuntime) {
-    for (fault, wanted) in &TEXTS {
-        let text = format!(in rt.alloc(); "{fault}").expect(&rt, "memory");
-        holds(&rt, wanted, text.as_str() == *wanted);
-    }
-}
-
 /// This many masters of 16 sources, one after the other.
 fn in_a_row(rt: &impl Abort, alloc: Global, masters: u16) -> Vec<Owner> {
     let mut owners = Vec::new(alloc);

@@ -13,9 +13,6 @@ use tl_arena::{Arena, Claim, MasterSeat, Served, Ticket};
 use tl_map::SourceOwners;
 use tl_types::{Ask, AskOp, Reply, ReplyOp};
 
-/// How often a caller looks for its reply before it gives up.
-const MAX_LOOKS: usize = 1_000_000_000;
-
 /// A master's seat, and what its calls need.
 #[derive(Drop)]
 pub(in crate::tests) struct Seat<'a> {
@@ -30,7 +27,7 @@ pub(in crate::tests) struct Seat<'a> {
 /// gave it and its place in the port's list.
 #[derive(Drop)]
 pub(in crate::tests) struct Received {
-    pub(in crate::tests) reply: Reply,
+    reply: Reply,
     read: [Option<u8>; 3],
     port: usize,
     index: usize,
@@ -110,18 +107,6 @@ impl<'a> Seat<'a> {
         let received = received_of(&served);
         self.arena.release(&mut self.seat, served);
         Ok(received)
-    }
-
-    /// One whole turn: the reply to a request.
-    pub(in crate::tests) fn turn(&mut self, ask: &Ask, port: usize) -> Option<Reply> {
-        let mut ticket = self.send(ask, port)?;
-        for _ in 0..MAX_LOOKS {
-            ticket = match self.receive(ticket) {
-                Ok(received) => return Some(received.reply),
-                Err(ticket) => ticket,
-            };
-        }
-        None
     }
 }
 
@@ -244,12 +229,6 @@ impl<'a> Caller<'a> {
                 None => false,
             },
         }
-    }
-
-    /// The seat alone.
-    pub(in crate::tests) fn into_seat(self) -> Seat<'a> {
-        let Caller { seat, out: _ } = self;
-        seat
     }
 
     /// The master leaves. It owns nothing.

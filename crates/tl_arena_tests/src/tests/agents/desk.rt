@@ -9,9 +9,6 @@ use tl_arena::{Accepted, Arena, PortSeat};
 use tl_ops::Bank;
 use tl_types::{Ask, AskOp};
 
-/// How often a desk passes over the slots before it gives up.
-const MAX_PASSES: usize = 1_000_000_000;
-
 /// A port with its memory, and what it has accepted and not answered, the oldest first.
 #[derive(Drop)]
 pub(in crate::tests) struct Desk<'a> {
@@ -125,25 +122,6 @@ impl<'a> Desk<'a> {
             DeskCall::Accept(slot) => self.accept(rt) == *slot,
             DeskCall::AcceptAt(slot, request) => self.looks_at(rt, *slot, request.as_ref()),
             DeskCall::Answer(slot) => self.answer() == *slot,
-        }
-    }
-
-    /// Accepts and answers what is posted in each slot, by one pass.
-    fn pass(&mut self, rt: &impl Abort) {
-        for slot in 0..self.arena.slots() {
-            if self.accept_at(rt, slot) {
-                let _answered = self.answer();
-            }
-        }
-    }
-
-    /// Passes over the slots until the port has served so many requests.
-    pub(in crate::tests) fn serve(&mut self, rt: &impl Abort, count: usize) {
-        for _ in 0..MAX_PASSES {
-            if self.seat.served() >= count {
-                return;
-            }
-            self.pass(rt);
         }
     }
 }

@@ -4,10 +4,11 @@ use crate::tests::agents::caller::CallerCall::Send;
 use crate::tests::agents::desk::DeskCall::Accept;
 use crate::tests::floor::{RAM_OF_ONES, RAM_OF_ZEROS};
 use crate::tests::stage::Call::{Desk, Seat};
-use crate::tests::stage::{Cast, End, Scene, Script, Setting, play};
+use crate::tests::stage::{Cast, End, Scene, Script, Setting, play_each};
 
 /// Each of four masters over four slots finds the slot of its own number.
 static OF_THE_PORT: Scene = Scene {
+    name: "a pass accepts what is posted for the port",
     setting: Setting {
         slots: 4,
         sources: &[1; 4],
@@ -33,11 +34,6 @@ static OF_THE_PORT: Scene = Scene {
     },
 };
 
-#[test]
-fn a_pass_accepts_what_is_posted_for_the_port(rt: HostRuntime) {
-    play(&rt, rt.alloc(), &OF_THE_PORT);
-}
-
 /// Both of two slots are held at the end.
 const BOTH_HELD: End = End {
     free: &[],
@@ -46,6 +42,7 @@ const BOTH_HELD: End = End {
 };
 
 static LAST_SLOT: Scene = Scene {
+    name: "a pass goes to the last slot",
     setting: Setting {
         slots: 2,
         sources: &[1; 2],
@@ -61,13 +58,9 @@ static LAST_SLOT: Scene = Scene {
     end: BOTH_HELD,
 };
 
-#[test]
-fn a_pass_goes_to_the_last_slot(rt: HostRuntime) {
-    play(&rt, rt.alloc(), &LAST_SLOT);
-}
-
 /// The third and the fourth of four masters look for one of two slots from slot 1 on.
 static FROM_THE_FIRST: Scene = Scene {
+    name: "a claim goes on from the first slot",
     setting: Setting {
         slots: 2,
         sources: &[1; 4],
@@ -84,6 +77,10 @@ static FROM_THE_FIRST: Scene = Scene {
 };
 
 #[test]
-fn a_claim_goes_on_from_the_first_slot(rt: HostRuntime) {
-    play(&rt, rt.alloc(), &FROM_THE_FIRST);
+fn passes_and_claims_go_over_the_slots(rt: HostRuntime) {
+    play_each(
+        &rt,
+        rt.alloc(),
+        &[&OF_THE_PORT, &LAST_SLOT, &FROM_THE_FIRST],
+    );
 }

@@ -5,7 +5,7 @@ use crate::tests::agents::desk::Accept;
 use crate::tests::agents::desk::DeskCall::{AcceptAt, Answer};
 use crate::tests::floor::{BASE, RAM_OF_ONES, RAM_OF_ZEROS};
 use crate::tests::stage::Call::{Desk, Leave, Seat};
-use crate::tests::stage::{Cast, End, Scene, Script, Setting, play};
+use crate::tests::stage::{Cast, End, Scene, Script, Setting, play, play_each};
 use tl_types::AskOp;
 
 /// A read of one byte, from a master's only source.
@@ -36,6 +36,7 @@ const SLOT_2_HELD: End = End {
 };
 
 static ACCEPTED_ONCE: Scene = Scene {
+    name: "a request is accepted once by its own port",
     setting: TWO_MASTERS,
     script: Script::Calls(&[
         Seat(1, Send(READ, 1, Some(2))),
@@ -47,11 +48,6 @@ static ACCEPTED_ONCE: Scene = Scene {
     end: SLOT_2_HELD,
 };
 
-#[test]
-fn a_request_is_accepted_once_by_its_own_port(rt: HostRuntime) {
-    play(&rt, rt.alloc(), &ACCEPTED_ONCE);
-}
-
 /// A byte of the second port's memory, which holds 1.
 const BYTE: Wanted = Wanted {
     port: 1,
@@ -61,6 +57,7 @@ const BYTE: Wanted = Wanted {
 };
 
 static ANSWERED: Scene = Scene {
+    name: "a ticket comes back until the answer",
     setting: TWO_MASTERS,
     script: Script::Calls(&[
         Seat(1, Send(READ, 1, Some(2))),
@@ -76,12 +73,8 @@ static ANSWERED: Scene = Scene {
     end: SLOT_2_HELD,
 };
 
-#[test]
-fn a_ticket_comes_back_until_the_answer(rt: HostRuntime) {
-    play(&rt, rt.alloc(), &ANSWERED);
-}
-
 static ALL_LEAVE: Scene = Scene {
+    name: "all slots are free after all have left",
     setting: TWO_MASTERS,
     script: Script::Calls(&[Leave, Leave]),
     end: End {
@@ -91,13 +84,9 @@ static ALL_LEAVE: Scene = Scene {
     },
 };
 
-#[test]
-fn all_slots_are_free_after_all_have_left(rt: HostRuntime) {
-    play(&rt, rt.alloc(), &ALL_LEAVE);
-}
-
 /// The tickets go with their masters, at the end of a scene.
 static DROPPED: Scene = Scene {
+    name: "a slot whose ticket was dropped is held",
     setting: TWO_MASTERS,
     script: Script::Calls(&[Seat(0, Send(READ, 1, Some(0)))]),
     end: End {
@@ -112,4 +101,9 @@ fn a_slot_whose_ticket_was_dropped_is_held(rt: HostRuntime) {
     let held = play(&rt, rt.alloc(), &DROPPED);
     let first = held.first().expect(&rt, "nothing is held");
     assert!(rt; (first.slot, first.master) == (0, 0));
+}
+
+#[test]
+fn turns_are_taken_on_one_thread(rt: HostRuntime) {
+    play_each(&rt, rt.alloc(), &[&ACCEPTED_ONCE, &ANSWERED, &ALL_LEAVE]);
 }

@@ -46,6 +46,7 @@ const SECOND_REPLY: Wanted = Wanted {
 
 /// One slot, two masters with 16 sources each, a memory of 64 zero bytes, and the error port.
 static ONE_SLOT: Scene = Scene {
+    name: "one slot serves one turn after the other",
     setting: Setting {
         slots: 1,
         sources: &[16, 16],

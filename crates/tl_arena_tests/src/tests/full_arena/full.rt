@@ -3,13 +3,14 @@ use crate::tests::agents::desk::DeskCall::{Accept, Answer};
 use crate::tests::agents::master::MasterCall::{Counts, Issue, IssueUpTo, Poll, Refused};
 use crate::tests::floor::{NO_DEVICE, RAM};
 use crate::tests::stage::Call::{Desk, Master};
-use crate::tests::stage::{Cast, End, Scene, Script, Setting, play};
+use crate::tests::stage::{Cast, End, Scene, Script, Setting, play_each};
 use tl_master::IssueFault::{NoSlot, NoSuchSource, SourceBusy, TraceFull};
 use tl_master::Polled::{Done, Idle, NotYet};
 
 /// A master of 256 sources with 256 slots has all of them out. The reply to its first request is collected, which is
 /// its first entry, and its first source issues again.
 static ALL_SLOTS: Scene = Scene {
+    name: "all slots and all sources are used",
     setting: Setting {
         slots: 256,
         sources: &[256],
@@ -39,13 +40,9 @@ static ALL_SLOTS: Scene = Scene {
     },
 };
 
-#[test]
-fn all_slots_and_all_sources_are_used(rt: HostRuntime) {
-    play(&rt, rt.alloc(), &ALL_SLOTS);
-}
-
 /// With 255 slots, the request of its last source finds none.
 static ONE_SLOT_TOO_FEW: Scene = Scene {
+    name: "one slot too few is told",
     setting: Setting {
         slots: 255,
         sources: &[256],
@@ -75,14 +72,10 @@ static ONE_SLOT_TOO_FEW: Scene = Scene {
     },
 };
 
-#[test]
-fn one_slot_too_few_is_told(rt: HostRuntime) {
-    play(&rt, rt.alloc(), &ONE_SLOT_TOO_FEW);
-}
-
 /// A master of 16 sources, and room for two entries: a third request is refused, and one that is from a busy source too
 /// is told that. An entry takes room as well.
 static FULL_TRACE: Scene = Scene {
+    name: "a full trace is told after a busy source",
     setting: Setting {
         slots: 4,
         sources: &[16],
@@ -112,13 +105,9 @@ static FULL_TRACE: Scene = Scene {
     },
 };
 
-#[test]
-fn a_full_trace_is_told_after_a_busy_source(rt: HostRuntime) {
-    play(&rt, rt.alloc(), &FULL_TRACE);
-}
-
 /// Nothing rings here: a master that looks finds every reply.
 static NO_BELL: Scene = Scene {
+    name: "a master that hears no bell collects all",
     setting: Setting {
         slots: 4,
         sources: &[4],
@@ -154,6 +143,10 @@ static NO_BELL: Scene = Scene {
 };
 
 #[test]
-fn a_master_that_hears_no_bell_collects_all(rt: HostRuntime) {
-    play(&rt, rt.alloc(), &NO_BELL);
+fn what_is_used_up_is_told(rt: HostRuntime) {
+    play_each(
+        &rt,
+        rt.alloc(),
+        &[&ALL_SLOTS, &ONE_SLOT_TOO_FEW, &FULL_TRACE, &NO_BELL],
+    );
 }

@@ -3,11 +3,12 @@ use super::TWO_MASTERS;
 use crate::tests::agents::book::BookCall::{History, TakeAndServe};
 use crate::tests::agents::master::MasterCall::{Counts, Issue, NextOut, Poll, Refused, Sources};
 use crate::tests::stage::Call::{Book, Finish, Master};
-use crate::tests::stage::{Cast, End, Scene, Script, Setting, play};
+use crate::tests::stage::{Cast, End, Scene, Script, Setting, play_each};
 use tl_master::IssueFault::{NoSlot, NoSuchSource, SourceBusy, TraceFull};
 use tl_master::Polled::{Done, Idle, NotYet};
 
 static WAITS: Scene = Scene {
+    name: "a source waits for its reply",
     setting: Setting {
         slots: 4,
         cast: Cast::Book(2),
@@ -30,12 +31,8 @@ static WAITS: Scene = Scene {
     },
 };
 
-#[test]
-fn a_source_waits_for_its_reply(rt: HostRuntime) {
-    play(&rt, rt.alloc(), &WAITS);
-}
-
 static LOOKS: Scene = Scene {
+    name: "a look goes over what is out alone",
     setting: Setting {
         slots: 4,
         cast: Cast::Book(4),
@@ -63,12 +60,8 @@ static LOOKS: Scene = Scene {
     },
 };
 
-#[test]
-fn a_look_goes_over_what_is_out_alone(rt: HostRuntime) {
-    play(&rt, rt.alloc(), &LOOKS);
-}
-
 static POLLS: Scene = Scene {
+    name: "poll finds answer",
     setting: Setting {
         slots: 4,
         cast: Cast::Book(4),
@@ -90,13 +83,9 @@ static POLLS: Scene = Scene {
     },
 };
 
-#[test]
-fn poll_finds_answer(rt: HostRuntime) {
-    play(&rt, rt.alloc(), &POLLS);
-}
-
 /// Each master has the only slot once, and each leaves with one entry.
 static ONE_SLOT: Scene = Scene {
+    name: "issue finds free slot",
     setting: Setting {
         slots: 1,
         cast: Cast::Book(4),
@@ -123,6 +112,6 @@ static ONE_SLOT: Scene = Scene {
 };
 
 #[test]
-fn issue_finds_free_slot(rt: HostRuntime) {
-    play(&rt, rt.alloc(), &ONE_SLOT);
+fn masters_issue_and_collect(rt: HostRuntime) {
+    play_each(&rt, rt.alloc(), &[&WAITS, &LOOKS, &POLLS, &ONE_SLOT]);
 }

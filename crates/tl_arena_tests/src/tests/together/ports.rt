@@ -5,13 +5,14 @@ use crate::tests::agents::book::BookCall::{
 };
 use crate::tests::agents::master::MasterCall::{Issue, Poll};
 use crate::tests::stage::Call::{Book, Master};
-use crate::tests::stage::{Cast, End, Scene, Script, Setting, play};
+use crate::tests::stage::{Cast, End, Scene, Script, Setting, play_each};
 use tl_master::Polled::{Done, NotYet};
 use tl_port::Flight;
 use tl_port::Intake::{JournalFull, Nothing, Taken};
 
 /// Nothing but the posting tells the port where to look.
 static TAKEN: Scene = Scene {
+    name: "intake takes what is posted",
     setting: Setting {
         slots: 4,
         cast: Cast::Book(3),
@@ -37,12 +38,8 @@ static TAKEN: Scene = Scene {
     },
 };
 
-#[test]
-fn intake_takes_what_is_posted(rt: HostRuntime) {
-    play(&rt, rt.alloc(), &TAKEN);
-}
-
 static FULL: Scene = Scene {
+    name: "a full journal takes no more",
     setting: Setting {
         slots: 4,
         cast: Cast::Book(3),
@@ -71,14 +68,10 @@ static FULL: Scene = Scene {
     },
 };
 
-#[test]
-fn a_full_journal_takes_no_more(rt: HostRuntime) {
-    play(&rt, rt.alloc(), &FULL);
-}
-
 /// Each master's trace has room for one entry too, so the second request is the second master's, whose part of the four
 /// slots begins at slot 2.
 static OF_ONE: Scene = Scene {
+    name: "a journal of one takes one",
     setting: Setting {
         slots: 4,
         cast: Cast::Book(1),
@@ -103,12 +96,8 @@ static OF_ONE: Scene = Scene {
     },
 };
 
-#[test]
-fn a_journal_of_one_takes_one(rt: HostRuntime) {
-    play(&rt, rt.alloc(), &OF_ONE);
-}
-
 static LOWEST: Scene = Scene {
+    name: "an intake takes from the lowest slot",
     setting: Setting {
         slots: 4,
         cast: Cast::Book(3),
@@ -129,6 +118,6 @@ static LOWEST: Scene = Scene {
 };
 
 #[test]
-fn an_intake_takes_from_the_lowest_slot(rt: HostRuntime) {
-    play(&rt, rt.alloc(), &LOWEST);
+fn ports_take_and_serve(rt: HostRuntime) {
+    play_each(&rt, rt.alloc(), &[&TAKEN, &FULL, &OF_ONE, &LOWEST]);
 }

@@ -113,6 +113,7 @@ pub(in crate::tests) fn claim_four<R: Abort + Threads + Wait + Sync>(rt: &R, sta
 }
 
 static FOUR_CLAIMS: Scene = Scene {
+    name: "two threads claim four slots",
     setting: TWO_MASTERS,
     script: Script::Claims,
     end: End {
@@ -133,6 +134,8 @@ enum PortCall {
     Serve(Option<usize>),
     InFlightLen(usize),
     Step(Step),
+    /// A step beside others, whatever it finds.
+    AnyStep,
 }
 
 /// Each call of a port, by one thread: it does what the book's call of that name does.
@@ -159,7 +162,28 @@ fn call_port<N: ArenaName>(rt: &impl Wait, port: &Port<N>, arena: &Arena, call: 
         PortCall::Serve(place) => port.serve(rt, arena) == *place,
         PortCall::InFlightLen(count) => port.in_flight_len(rt) == *count,
         PortCall::Step(step) => port.step(rt, arena) == *step,
+        PortCall::AnyStep => {
+            port.step(rt, arena);
+            true
+        }
     }
+}
+
+/// Whether each of these calls of a port has its answer.
+fn are_right<N: ArenaName>(
+    rt: &impl Wait,
+    port: &Port<N>,
+    arena: &Arena,
+    calls: &[PortCall],
+) -> bool
+    requires { arena.now ≡ N.arena }
+{
+    for call in calls {
+        if !call_port(rt, port, arena, call) {
+            return false;
+        }
+    }
+    true
 }
 
 /// A book goes through its lock.
@@ -168,10 +192,7 @@ fn through_the_lock<N: ArenaName, R: Abort + Wait>(rt: &R, arena: &Arena, book: 
     requires book { book.seat.arena ≡ N.arena }
 {
     let port = Port::<N>::new(book);
-    for (row, call) in PORT_CALLS.iter().enumerate() {
-        let right = call_port(rt, &port, arena, call);
-        assert!(rt; right, "call {row}");
-    }
+    assert!(rt; are_right(rt, &port, arena, &PORT_CALLS));
     port.into_book()
 }
 
@@ -179,7 +200,7 @@ static ONE_ISSUE: [Call; 1] = [Call::Master(0, MasterCall::Issue(5, 0))];
 
 /// One request is posted, and the port's book goes through its lock.
 pub(in crate::tests) fn lock<R: Abort + Wait>(rt: &R, mut stage: Stage) {
-    stage.play_all(rt, &ONE_ISSUE);
+    stage.play_all(rt, "one issue", &ONE_ISSUE);
     let Keeper { arena, book } = stage.books.pop().expect(rt, "no book");
     let book = through_the_lock::<Brand, R>(rt, arena, book);
     assert!(rt; (book.history_len(), book.in_flight_len()) == (1, 0));
@@ -187,6 +208,7 @@ pub(in crate::tests) fn lock<R: Abort + Wait>(rt: &R, mut stage: Stage) {
 
 /// Nobody collects the reply, so its slot is held at the end.
 static ONE_REQUEST: Scene = Scene {
+    name: "a port does what its book does",
     setting: TWO_MASTERS,
     script: Script::Lock,
     end: End {
@@ -202,13 +224,7 @@ fn a_port_does_what_its_book_does(rt: HostRuntime) {
 }
 
 /// Three steps of a worker.
-fn steps<N: ArenaName>(rt: &impl Wait, port: &Port<N>, arena: &Arena)
-    requires { arena.now ≡ N.arena }
-{
-    for _ in 0..3 {
-        port.step(rt, arena);
-    }
-}
+static THREE_STEPS: [PortCall; 3] = [PortCall::AnyStep, PortCall::AnyStep, PortCall::AnyStep];
 
 /// Two workers step one port.
 fn work<N: ArenaName + Send + Sync, R: Threads + Wait + Sync>(
@@ -220,7 +236,11 @@ fn work<N: ArenaName + Send + Sync, R: Threads + Wait + Sync>(
     requires book { book.seat.arena ≡ N.arena }
 {
     let port = Port::<N>::new(book);
-    thread::join(rt, || steps(rt, &port, arena), || steps(rt, &port, arena));
+    thread::join(
+        rt,
+        || are_right(rt, &port, arena, &THREE_STEPS),
+        || are_right(rt, &port, arena, &THREE_STEPS),
+    );
     port.into_book()
 }
 
@@ -228,7 +248,7 @@ static SIX_ISSUES: [Call; 1] = [Call::Master(0, MasterCall::IssueUpTo(6))];
 
 /// Six requests are posted, and two workers step the port.
 pub(in crate::tests) fn step_six<R: Abort + Threads + Wait + Sync>(rt: &R, mut stage: Stage) {
-    stage.play_all(rt, &SIX_ISSUES);
+    stage.play_all(rt, "six issues", &SIX_ISSUES);
     let Keeper { arena, book } = stage.books.pop().expect(rt, "no book");
     let book = work::<Brand, R>(rt, arena, book);
     assert!(rt; book.history_len() == 6);
@@ -237,6 +257,7 @@ pub(in crate::tests) fn step_six<R: Abort + Threads + Wait + Sync>(rt: &R, mut s
 
 /// The same over eight slots, with room for six entries. Nobody collects a reply.
 static SIX_REQUESTS: Scene = Scene {
+    name: "two threads step one port",
     setting: Setting {
         slots: 8,
         cast: Cast::Book(6),

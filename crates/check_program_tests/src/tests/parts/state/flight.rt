@@ -1,5 +1,5 @@
-//! What is in flight: all orders, devices, denied requests, replies that cross, and refused memory.
+//! What is in flight: replies that cross, requests outside of a range, devices, and refused memory.
 mod crossed;
+mod outside;
 mod refused;
 mod scene;
-mod served;

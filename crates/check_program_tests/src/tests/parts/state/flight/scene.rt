@@ -48,7 +48,7 @@ pub fn head_of(opcode: u8, size: u8, source: u16, address: u64) -> AskHead {
     }
 }
 
-/// A beat of a request crosses at link 0, all lanes known; the slave accepts the request that it ends.
+/// The only beat of a request crosses at link 0, all lanes known, and the slave accepts the request.
 pub fn cross(
     rt: &impl Abort,
     alloc: Global,
@@ -64,40 +64,8 @@ pub fn cross(
     let rules = LinkRules::default();
     assert!(rt; under.ask_fault(rules, beat, 0xf).is_none());
     assert!(rt; under.bus().bytes() <= lanes.len());
-    if under.ends_ask(beat) {
-        side.accept(alloc, place, beat, lanes, slave)
-    } else {
-        side.begin_ask(place, beat, lanes);
-        Ok(())
-    }
-}
-
-/// The reply begins to the request of a wide source.
-fn begin_reply(
-    rt: &impl Abort,
-    alloc: Global,
-    side: &mut Side,
-    slave: &mut PortSlave,
-    wide: usize,
-) {
-    let place = place_of(wide);
-    assert!(rt; place.wide < side.wides());
-    side.answer(alloc, place, slave)
-        .expect(rt, "memory refused");
-}
-
-/// The reply to the request of a wide source ends.
-fn end_reply(rt: &impl Abort, side: &mut Side, wide: usize) {
-    let place = place_of(wide);
-    assert!(rt; place.link < side.links());
-    assert!(rt; place.wide < side.wides());
-    side.end_reply(place);
-    assert!(rt; place.wide < side.wides());
-    holds(
-        rt,
-        "nothing is in flight",
-        side.flight(place.wide).is_idle(),
-    );
+    assert!(rt; under.ends_ask(beat));
+    side.accept(alloc, place, beat, lanes, slave)
 }
 
 /// The request of a wide source has taken effect, as the one of this place in the list of port 2, and its reply has to
@@ -116,69 +84,4 @@ pub fn expect_due(
     holds(rt, "its place", due.index == index);
     holds(rt, "whether it is denied", due.reply.denied() == denied);
     expect_text(rt, "its bytes", due.reply.cells(), bytes);
-}
-
-/// The request of a wide source has ended, and has taken no effect yet.
-fn expect_no_due(rt: &impl Abort, side: &Side, wide: usize) {
-    assert!(rt; wide < side.wides());
-    let flight = side.flight(wide);
-    holds(rt, "the request has ended", flight.asked().is_some());
-    holds(rt, "no reply is due", flight.due().is_none());
-}
-
-/// What crosses at link 0, and what is due then.
-pub enum Step {
-    /// A beat of a request crosses: its opcode, size, source and address, and its lanes.
-    Cross(u8, u8, u16, u64, [u8; 4]),
-    /// The reply begins to the request of a wide source.
-    Begin(usize),
-    /// The reply to the request of a wide source ends.
-    End(usize),
-    /// The request of a wide source has ended, and has taken no effect yet.
-    NoDue(usize),
-    /// The request of a wide source has taken effect, as the one of this place in the list of port 2, and its reply has
-    /// to have this flag and these bytes.
-    Due(usize, usize, Option<bool>, &'static str),
-    /// The reply begins and ends to the request of a wide source, which is the one of this place: these bytes are due.
-    Answer(usize, usize, &'static str),
-}
-
-/// The reply begins and ends.
-fn answer(
-    rt: &impl Abort,
-    alloc: Global,
-    side: &mut Side,
-    slave: &mut PortSlave,
-    wide: usize,
-    index: usize,
-    bytes: &str,
-) {
-    expect_no_due(rt, side, wide);
-    begin_reply(rt, alloc, side, slave, wide);
-    expect_due(rt, side, wide, index, Some(false), bytes);
-    end_reply(rt, side, wide);
-}
-
-fn take(rt: &impl Abort, alloc: Global, side: &mut Side, slave: &mut PortSlave, step: &Step) {
-    match step {
-        Step::Cross(opcode, size, source, address, lanes) => {
-            let head = head_of(*opcode, *size, *source, *address);
-            cross(rt, alloc, side, slave, &head, lanes).expect(rt, "memory refused");
-        }
-        Step::Begin(wide) => begin_reply(rt, alloc, side, slave, *wide),
-        Step::End(wide) => end_reply(rt, side, *wide),
-        Step::NoDue(wide) => expect_no_due(rt, side, *wide),
-        Step::Due(wide, index, denied, bytes) => {
-            expect_due(rt, side, *wide, *index, *denied, bytes);
-        }
-        Step::Answer(wide, index, bytes) => answer(rt, alloc, side, slave, *wide, *index, bytes),
-    }
-}
-
-/// One step after the other, on a side and a slave.
-pub fn play(rt: &impl Abort, alloc: Global, slave: &mut PortSlave, steps: &[Step]) {
-    let mut side = side_of_four(alloc).expect(rt, "memory refused");
-    for step in steps {
-        take(rt, alloc, &mut side, slave, step);
-    }
 }
