@@ -294,7 +294,7 @@ impl<'a> Walk<'a> {
     /// One call, as the dice fall. Slot 4 is no slot.
     fn call(&mut self, rt: &impl Abort, dice: &mut Dice) {
         let master = dice.throw(3) as usize;
-        let source = dice.throw(4) as u16;
+        let source = dice.throw(4).min(3) as u16;
         let port = dice.throw(2) as usize;
         let slot = dice.throw(5) as usize;
         match dice.throw(12) {
