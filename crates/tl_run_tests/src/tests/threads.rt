@@ -56,7 +56,7 @@ struct Meeting {
 }
 
 /// A meeting to which nobody has come.
-fn meeting(is_one_port: bool) -> Meeting {
+fn new_meeting(is_one_port: bool) -> Meeting {
     Meeting {
         is_one_port,
         came: AtomicUsize::new(0),
@@ -108,7 +108,7 @@ fn all_meet<R: Abort + Threads + Wait + Sync>(rt: &R, alloc: Global, workers: us
     requires some { 1 ≤ workers }
     requires few { workers ≤ 4 }
 {
-    let gate = meeting(false);
+    let gate = new_meeting(false);
     let run = run(rt, alloc, TWO_PORTS, workers, &gate);
     holds(rt, "all have met", gate.met.load(SeqCst) == 4);
     expect_account(rt, &run, &[0, 1, 2, 3], 2);
@@ -125,7 +125,7 @@ const ONE_PORT: &[u8] =
 
 #[test]
 fn workers_of_a_port_run_at_once(rt: HostRuntime) {
-    let gate = meeting(true);
+    let gate = new_meeting(true);
     let run = run(&rt, rt.alloc(), ONE_PORT, 2, &gate);
     holds(&rt, "both have met", gate.met.load(SeqCst) == 2);
     expect_account(&rt, &run, &[0, 1, 2, 3], 2);
