@@ -1,6 +1,6 @@
 -- New seats: what they keep, and lists of them.
-use Rattle.std.proofs.Common.{◌≡◌, ℕ, ◌+◌, ◌<◌, ◌≤◌, List, [], ◌∷◌, ◌++◌, length, sym, refl, ap, subst, ◌∙◌, arith, length-append, inl, inr}
-use Rattle.std.proofs.lemmas.List.{length-replicate}
+use Rattle.std.proofs.Common.{◌≡◌, ℕ, ◌+◌, ◌<◌, ◌≤◌, List, [], ◌∷◌, ◌++◌, length, map, take, get_or, sym, refl, ap, subst, ◌∙◌, arith, add-one, take-suc, length-append, inl, inr}
+use Rattle.std.proofs.lemmas.List.{length-replicate, map-append}
 use Rattle.tl_types.specs.declared.limits.TheConstants.{MAX_MASTERS, MAX_PORTS}
 use Rattle.tl_types.proofs.Lists.{slice_get-push}
 use Rattle.tl_rule.specs.declared.view.About.{About}
@@ -11,6 +11,17 @@ use Rattle.tl_rule.specs.Moves.{Seat, IsLawfulDesk}
 use Rattle.tl_rule.proofs.Carried.{fresh_hand, none_yet}
 use Rattle.tl_arena.specs.Views.{ArenaId, MasterView, PortView, new_master, new_port, AreNewMasters, AreNewPorts}
 use Rattle.tl_arena.specs.Kept.{IsMasterKept, IsPortKept}
+
+-- ---- what the banks hold
+
+-- one bank more was seen
+pub seen_more : {S B : Type 0} (f : S → B) (banks : List B) (seen now : List S) (i : ℕ) (one : S) → i < length banks
+    → now ≡ seen ++ one ∷ [] → map f seen ≡ take i banks → get_or banks i (f one) ≡ f one
+    → map f now ≡ take (i + 1) banks
+seen_more f banks seen now i one lt is same here =
+    ap (map f) is ∙ map-append f seen (one ∷ []) ∙ ap (λ (l : List _). l ++ f one ∷ []) same
+    ∙ sym (ap (λ (n : ℕ). take n banks) (add-one i) ∙ take-suc banks i (f one) lt
+    ∙ ap (λ (b : _). take i banks ++ b ∷ []) here)
 
 -- ---- one seat
 

@@ -7,14 +7,14 @@ use std::alloc::{AllocError, Global};
 use tl_slots::{Phase, phase_of, word_of};
 
 /// A slot that a master holds.
-#[derive(Debug, Clone, Copy, PartialEq, Eq)]
+#[derive(Clone, Copy, PartialEq, Eq)]
 pub struct HeldSlot {
     pub slot: usize,
     pub master: usize,
 }
 
 /// Which slots are free, which are held by which master, and which masters have left, each in rising order.
-#[derive(Debug, Drop)]
+#[derive(Drop)]
 pub struct Account {
     pub free: Vec<usize>,
     pub held: Vec<HeldSlot>,

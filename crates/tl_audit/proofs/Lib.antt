@@ -5,3 +5,4 @@ mod Ordering
 mod Entries
 mod Judging
 pub mod Reader
+mod Rows

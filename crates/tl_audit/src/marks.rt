@@ -8,7 +8,7 @@ use std::alloc::{AllocError, Global};
 use tl_journal::{Journal, Trace, blank_entry};
 
 /// How often a place is named, as far as it matters.
-#[derive(Debug, Clone, Copy, PartialEq, Eq)]
+#[derive(Clone, Copy, PartialEq, Eq)]
 pub(crate) enum Mark {
     Unnamed,
     Named,

@@ -19,7 +19,7 @@ use tl_map::{AddressMap, SourceOwners};
 use tl_types::{Ask, Entry, Reply};
 
 /// Where a request was posted: its slot, and the port that the map gives it.
-#[derive(Debug, Clone, Copy, PartialEq, Eq)]
+#[derive(Clone, Copy, PartialEq, Eq)]
 pub struct Issued {
     pub slot: usize,
     pub port: usize,
@@ -39,7 +39,7 @@ pub enum IssueFault {
 }
 
 /// What a poll found.
-#[derive(Debug, Clone, Copy, PartialEq, Eq)]
+#[derive(Clone, Copy, PartialEq, Eq)]
 pub enum Polled {
     /// Nothing is out for the source.
     Idle,

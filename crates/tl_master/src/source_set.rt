@@ -12,7 +12,7 @@ const WORD_SOURCES: usize = 64;
 const WORDS: usize = MAX_BLOCK as usize / WORD_SOURCES;
 
 /// A set of sources, a bit for each: so the lowest of them is found without a look at those that are not in it.
-#[derive(Debug, Clone, Copy, PartialEq, Eq)]
+#[derive(Clone, Copy)]
 pub(crate) struct SourceSet {
     words: [u64; WORDS],
 }

@@ -15,7 +15,8 @@ use Rattle.tl_arena.specs.Account.{IsClosing}
 use Rattle.tl_arena.specs.declared.account.HeldSlot.{HeldSlot}
 use Rattle.tl_port.specs.Book.{BookView}
 use Rattle.tl_workers.specs.Trace.{IsTrace}
-use Rattle.tl_program.specs.Run.{IsBookOf, AreTraces, AreBooks, HaveLeft, IsThreadedRun}
+use Rattle.tl_threads.specs.Left.{HaveLeft, IsBookOf}
+use Rattle.tl_program.specs.Run.{AreTraces, AreBooks, IsThreadedRun}
 use Rattle.tl_workers.specs.Start.{AreFrom, IsTraceOf}
 use Rattle.tl_workers.proofs.Rows.{one_some}
 

@@ -1,5 +1,5 @@
 -- What a run of a system by threads gives. All of it is this project's own.
-use Rattle.std.specs.Prelude.{◌≡◌, ℕ, ◌+◌, ◌<◌, List, length, slice_get, Contains, Some}
+use Rattle.std.specs.Prelude.{◌≡◌, ℕ, ◌+◌, List, length, slice_get, Some}
 use Rattle.tl_types.specs.declared.trace.Entry.{Entry}
 use Rattle.tl_map.specs.declared.range.Range.{Range}
 use Rattle.tl_script.specs.declared.operation.Job.{Job}
@@ -7,14 +7,9 @@ use Rattle.tl_script.specs.System.{System, resets}
 use Rattle.tl_arena.specs.Views.{ArenaId, about_of}
 use Rattle.tl_arena.specs.Account.{IsClosing}
 use Rattle.tl_arena.specs.declared.account.HeldSlot.{HeldSlot}
-use Rattle.tl_port.specs.Book.{BookView, IsLawfulBook}
+use Rattle.tl_port.specs.Book.{BookView}
 use Rattle.tl_workers.specs.Trace.{IsTrace}
-
--- the book is that of this port of the arena, and lawful
-pub record IsBookOf (arena : ArenaId) (port : ℕ) (book : BookView) : Type 0 where
-  pub arena_is : book.seat.arena ≡ arena
-  pub number_is : book.seat.number ≡ port
-  pub lawful : IsLawfulBook book
+use Rattle.tl_threads.specs.Left.{HaveLeft, IsBookOf}
 
 -- a trace of each master
 pub record AreTraces (arena : ArenaId) (ranges : List (List Range)) (jobs : List (List Job))
@@ -27,10 +22,6 @@ pub record AreTraces (arena : ArenaId) (ranges : List (List Range)) (jobs : List
 pub record AreBooks (arena : ArenaId) (ports : ℕ) (books : List BookView) : Type 0 where
   pub many : length books ≡ ports
   pub each : (p : ℕ) (book : BookView) → slice_get books p ≡ Some book → IsBookOf arena p book
-
--- each of so many masters is among those that left
-abbrev pub HaveLeft : ℕ → List ℕ → Type 0
-HaveLeft masters left = (m : ℕ) → m < masters → Contains left m
 
 -- the traces, the books and the account are those of a run of the system over one arena, at whose end every master has
 -- left: so by the account all slots are free and none is held

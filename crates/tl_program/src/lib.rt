@@ -4,8 +4,8 @@
 //! one arena of the system such that each master's trace has, for each source, the requests of its operations in order,
 //! each once, and of what it collected at a port one lawful history has just the master's own; book p is port p's and
 //! lawful; and the account is that of an arena at its end, when every master has left, so that all slots are free.
-//! `tl_workers` has the threads themselves. Here `named` puts the books behind locks and takes them out again, and
-//! `threads` makes the arena and what a run needs.
+//! `tl_workers` has the threads themselves, and `tl_threads` starts and joins them over one arena. Here `threads` makes
+//! the arena and what a run needs.
 //!
 //! `serial_engine` and `threads_engine` (`engine`) carry the theorems of the program: what is written is the text of the
 //! serial run (crate `tl_serial`), or of a run by threads, of the system that all of the input spells. The crate
@@ -19,10 +19,8 @@
 pub mod engine;
 pub mod fault;
 pub mod laws;
-mod named;
 mod program;
 mod threads;
 
-pub use named::ThreadedRun;
 pub use program::{ended, run};
 pub use threads::run_threads;

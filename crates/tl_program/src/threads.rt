@@ -5,7 +5,6 @@ ghost use Rattle.tl_script.specs.System.{resets};
 ghost use Rattle.tl_arena.specs.Views.{about_of, AreNewMasters, AreNewPorts};
 ghost use Rattle.tl_program.specs.Run.{IsThreadedRun};
 
-use crate::named::{ThreadedRun, run_named};
 use std::alloc::Global;
 use std::marker::Brand;
 use std::sync::Wait;
@@ -13,8 +12,9 @@ use std::thread::Threads;
 use tl_arena::{Arena, ArenaFault, Made};
 use tl_ops::Bank;
 use tl_script::{System, banks_of};
+use tl_threads::{ThreadedRun, run_named};
 use tl_types::{MAX_WORKERS, Memory};
-use tl_workers::{Gate, ThreadFault, books_of, journals_of, threads_of};
+use tl_workers::{Gate, ThreadFault, books_of, journals_of};
 
 /// A new arena for the masters of a system and for ports with these banks.
 #[tactic(auto, using(crate::proofs::Whole::resets_length))]
@@ -72,12 +72,11 @@ pub fn run_threads<R: Threads + Wait + Sync, G: Gate + Sync>(
     let Ok(journals) = journals_of(alloc, system) else {
         return Err(ThreadFault::Memory);
     };
-    let Ok(threads) = threads_of(alloc, &arena, masters, system, &journals, workers) else {
-        return Err(ThreadFault::Memory);
-    };
     let Ok(books) = books_of(alloc, &arena, ports, banks, system, &journals) else {
         return Err(ThreadFault::Memory);
     };
-    let run = run_named::<Brand, R, G>(rt, alloc, arena, system, books, threads, gate)?;
+    let run = run_named::<Brand, R, G>(
+        rt, alloc, arena, system, books, masters, &journals, workers, gate,
+    )?;
     Ok(run)
 }

@@ -1,66 +1,24 @@
 //! The threaded engine: from the bytes of a script to the text of a run by threads.
-ghost use Rattle.std.specs.Prelude.{◌≡◌, ◌≤◌, ◌++◌, ◌+◌, ℕ, List, [], Option, IfOk, OnOk, length, if◌then◌else◌};
-ghost use Rattle.tl_audit.specs.Reader.{histories_of};
+ghost use Rattle.std.specs.Prelude.{◌≡◌, ◌≤◌, ◌+◌, ℕ, List, Option};
 ghost use Rattle.tl_journal.specs.Trace.{entries_in};
-ghost use Rattle.tl_script.specs.History.{account_text};
 ghost use Rattle.tl_script.specs.declared.script.TheConstants.{MAX_SCRIPT};
-ghost use Rattle.tl_serial.specs.Text.{histories_text, run_text};
 ghost use Rattle.tl_streams.specs.Input.{GivesSystem};
 ghost use Rattle.tl_streams.specs.Streams.{TakesUpTo};
 ghost use Rattle.tl_program.specs.Run.{IsThreadedRun};
 ghost use Rattle.tl_program.specs.Engine.{HasThreadedFault, IsAnswered, IsThreadedText};
 
 use crate::fault::RunFault;
-use crate::named::ThreadedRun;
 use crate::threads::run_threads;
-use std::alloc::{AllocError, Global};
+use std::alloc::Global;
 use std::io::{Read, Write};
 use std::sync::Wait;
 use std::thread::Threads;
 use tl_audit::audit;
-use tl_port::Book;
-use tl_script::{System, push_account, push_history, push_traces};
+use tl_script::System;
 use tl_streams::{LimitedReader, LimitedWriter, read_whole_system, write_all};
-use tl_types::{MAX_WORKERS, Memory};
+use tl_threads::{ThreadedRun, threaded_text};
+use tl_types::MAX_WORKERS;
 use tl_workers::OpenGate;
-
-/// Appends the lines of the books' histories, port 0's first.
-fn push_histories(text: &mut Vec<u8>, books: &[Book]) -> Result<(), AllocError>
-    ensures { OnOk result
-        (text.new.items
-        ≡ text.old.items ++ histories_text (histories_of books.now)) }
-{
-    for (port, book) in books.iter().enumerate() {
-        push_history(text, port, book.history())?;
-    }
-    Ok(())
-}
-
-/// Appends the lines of the books' histories, if they are asked for.
-fn push_asked(text: &mut Vec<u8>, books: &[Book], history: bool) -> Result<(), AllocError>
-    ensures { OnOk result (text.new.items
-        ≡ text.old.items ++ (if history then histories_text (histories_of books.now) else [])) }
-{
-    if history {
-        push_histories(text, books)
-    } else {
-        Ok(())
-    }
-}
-
-/// The text of a run: its traces, its histories where they are asked for, and how many slots are free and how many
-/// held.
-fn text_of(alloc: Global, run: &ThreadedRun, history: bool) -> Result<Vec<u8>, Memory>
-    ensures { IfOk result (λ text. text.items
-        ≡ run_text history (entries_in run.now.traces.items) (histories_of run.now.books.items)
-        ++ account_text (length run.now.account.free.items) (length run.now.account.held.items)) }
-{
-    let mut text = Vec::new(alloc);
-    push_traces(&mut text, &run.traces)?;
-    push_asked(&mut text, &run.books, history)?;
-    push_account(&mut text, run.account.free.len(), run.account.held.len())?;
-    Ok(text)
-}
 
 /// Audits a run of a system by threads, and writes its text: what is promised of any input that gives this system.
 fn write_run<W: Write>(
@@ -79,7 +37,7 @@ fn write_run<W: Write>(
         (W.contents writer.old.writer.now) (W.contents writer.new.writer.now) result }
 {
     audit(alloc, system.sources(), &run.traces, &run.books)?;
-    let text = text_of(alloc, run, history)?;
+    let text = threaded_text(alloc, run, history)?;
     write_all(writer, &text)?;
     Ok(())
 }

@@ -8,8 +8,9 @@ use std::sync::Wait;
 use std::sync::atomic::AtomicUsize;
 use std::sync::atomic::Ordering::SeqCst;
 use std::thread::Threads;
-use tl_program::{ThreadedRun, run_threads};
+use tl_program::run_threads;
 use tl_script::{System, read_system};
+use tl_threads::ThreadedRun;
 use tl_workers::{Gate, OpenGate, ThreadFault};
 
 /// Runs a script with so many threads a port.

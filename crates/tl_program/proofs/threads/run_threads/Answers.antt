@@ -13,7 +13,7 @@ books_of-requires-clause-ports g c =
     let s = c.args.system.now in
     let is = c.in-Ok.ensures ∙ ap (λ (l : List Store). l ++ error_store ∷ []) c.devices.ensures.value in
     banks_many s c.in-Ok.banks c.devices.ensures.lawful is
-    ∙ sym (ap (λ (l : List ℕ). length l) c.deref-3.ensures.value ∙ c.in-Ok-journals_of.ensures.counted.many)
+    ∙ sym (ap (λ (l : List ℕ). length l) c.deref-2.ensures.value ∙ c.in-Ok-journals_of.ensures.counted.many)
 
 pub run_named-requires-clause-ports : goal.run_named-requires-clause-ports
 run_named-requires-clause-ports g c κs within =

@@ -1,6 +1,5 @@
-use Rattle.std.proofs.Common.{◌≡◌, ◌≢◌, ◌+◌, None, refl, sym, ◌∙◌, arith, ◌<◌, length, slice_set, Some, ap, ℕ}
+use Rattle.std.proofs.Common.{◌≡◌, ◌≢◌, ◌+◌, None, refl, sym, ◌∙◌, arith, ◌<◌, length, slice_set, Some, ap, ℕ, subst}
 use Rattle.tl_types.specs.Request.{Request}
-use Rattle.std.proofs.lemmas.Grind.{common_steps}
 use Rattle.tl_master.specs.Master.{MasterState, ticket_at}
 use Rattle.tl_master.proofs.Hands.{shown_at, none_shown}
 use Rattle.tl_master.proofs.Busy.{busy_set}
@@ -26,8 +25,9 @@ invariant_of-self-2 c =
     } in
     let posted = c.post_routed-ticket.ensures.posted in
     let claimed = c.in-Some.ensures.some in
-    let within : c.source-source.result < length old.out = grind (arith, common_steps) in
-    let room : length old.trace + c.self.inside.count ≢ old.limit = grind (arith, common_steps) in
+    let within : c.source-source.result < length old.out = omega (arith, c.len.ensures, c.if-source-len.false) in
+    let room : length old.trace + c.self.inside.count ≢ old.limit =
+    subst (λ (n : ℕ). n + c.self.inside.count ≢ old.limit) c.len-2.ensures.value c.if-len-self.false in
     let idle : ticket_at old.out c.source-source.result ≡ None =
     shown_at old.out c.source-source.result c.index.result.now within c.index.ensures
     ∙ none_shown c.index.result.now (sym c.is_some.ensures ∙ c.if-is_some.false) in
@@ -42,6 +42,7 @@ invariant_of-self-2 c =
 
 pub insert-requires : goal.insert-requires
 insert-requires c =
-    let within : c.source-source.result < length c.self.inside.out.items = grind (arith, common_steps) in
+    let within : c.source-source.result < length c.self.inside.out.items =
+    omega (arith, c.len.ensures, c.if-source-len.false) in
     let known = c.self.invariant.2.known in
     omega arith

@@ -1,5 +1,4 @@
 use Rattle.std.proofs.Common.{◌≡◌, Some, refl, sym, subst, ◌∙◌, ap, arith, IsSome, ◌<◌, length, slice_set, Option}
-use Rattle.std.proofs.lemmas.Grind.{common_steps}
 use Rattle.tl_arena.specs.Views.{TicketView}
 use Rattle.tl_journal.specs.Trace.{TraceView}
 use Rattle.tl_master.specs.Master.{MasterState, ticket_at}
@@ -28,7 +27,7 @@ invariant_of-self-in-Err c =
       trace = c.collect_entry.new.trace.items;
       limit = c.self.inside.limit;
     } in
-    let within : c.args.source < length old.out = grind (arith, common_steps) in
+    let within : c.args.source < length old.out = omega (arith, c.len.ensures, c.if-at-len.false) in
     let was : ticket_at old.out c.args.source ≡ Some c.in-Some.ticket =
     shown_at old.out c.args.source c.index_mut.result.now within c.index_mut.ensures.value
     ∙ (sym c.take.ensures.value ∙ c.in-Some.is) in
@@ -56,7 +55,7 @@ invariant_of-self-in-Ok c =
       trace = c.collect_entry.new.trace.items;
       limit = c.self.inside.limit;
     } in
-    let within : c.args.source < length old.out = grind (arith, common_steps) in
+    let within : c.args.source < length old.out = omega (arith, c.len.ensures, c.if-at-len.false) in
     let was : ticket_at old.out c.args.source ≡ Some c.in-Some.ticket =
     shown_at old.out c.args.source c.index_mut.result.now within c.index_mut.ensures.value
     ∙ (sym c.take.ensures.value ∙ c.in-Some.is) in (
@@ -68,7 +67,7 @@ invariant_of-self-in-Ok c =
     )
 
 pub remove-requires : goal.remove-requires
-remove-requires c = let within : c.args.source < length c.self.inside.out.items = grind (arith, common_steps) in
+remove-requires c = let within : c.args.source < length c.self.inside.out.items = omega (arith, c.len.ensures, c.if-at-len.false) in
     let known = c.self.invariant.2.known in omega arith
 
 pub returns-in-Err-clause-polls : goal.returns-in-Err-clause-polls
@@ -88,7 +87,7 @@ returns-in-Err-clause-polls c =
       trace = c.collect_entry.new.trace.items;
       limit = c.self.inside.limit;
     } in
-    let within : c.args.source < length old.out = grind (arith, common_steps) in
+    let within : c.args.source < length old.out = omega (arith, c.len.ensures, c.if-at-len.false) in
     let was : ticket_at old.out c.args.source ≡ Some c.in-Some.ticket =
     shown_at old.out c.args.source c.index_mut.result.now within c.index_mut.ensures.value
     ∙ (sym c.take.ensures.value ∙ c.in-Some.is) in
@@ -116,7 +115,7 @@ returns-in-Ok-clause-polls c =
       trace = c.collect_entry.new.trace.items;
       limit = c.self.inside.limit;
     } in
-    let within : c.args.source < length old.out = grind (arith, common_steps) in
+    let within : c.args.source < length old.out = omega (arith, c.len.ensures, c.if-at-len.false) in
     let was : ticket_at old.out c.args.source ≡ Some c.in-Some.ticket =
     shown_at old.out c.args.source c.index_mut.result.now within c.index_mut.ensures.value
     ∙ (sym c.take.ensures.value ∙ c.in-Some.is) in

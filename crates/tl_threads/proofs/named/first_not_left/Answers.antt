@@ -1,7 +1,7 @@
 -- One master more has left.
 use borrow.Author.Count.{below_more}
 use Rattle.std.proofs.Common.{Contains, ℕ, rules}
-use Rattle.tl_program.proofs.named.first_not_left.Goals as goal
+use Rattle.tl_threads.proofs.named.first_not_left.Goals as goal
 
 pub loop-master-preserved : goal.loop-master-preserved
 loop-master-preserved c =

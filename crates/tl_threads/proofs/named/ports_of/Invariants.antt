@@ -1,7 +1,7 @@
 use Rattle.std.proofs.Common.{◌≡◌, ◌+◌, ◌≤◌, vec_len, vec_capacity}
 use Rattle.std.specs.Vec.Iter.{into_iter_items, into_iter_len}
 use Rattle.tl_workers.specs.Start.{AreFrom, IsBookIn}
-use Rattle.tl_program.proofs.named.ports_of.Given as goal
+use Rattle.tl_threads.proofs.named.ports_of.Given as goal
 
 -- the books that are left are of the arena
 abbrev pub invariant-loop-book : goal.invariant-loop-book

@@ -1,5 +1,5 @@
-use Rattle.tl_program.specs.Run.{HaveLeft}
-use Rattle.tl_program.proofs.named.first_not_left.Given as goal
+use Rattle.tl_threads.specs.Left.{HaveLeft}
+use Rattle.tl_threads.proofs.named.first_not_left.Given as goal
 
 -- the masters so far have left
 abbrev pub invariant-loop-master : goal.invariant-loop-master

@@ -1,8 +1,8 @@
 use Rattle.std.proofs.Common.{◌≡◌, length, arith}
 use Rattle.std.proofs.lemmas.Grind.{common_steps}
-use Rattle.tl_program.specs.Run.{IsBookOf}
+use Rattle.tl_threads.specs.Left.{IsBookOf}
 use Rattle.tl_workers.proofs.Rows.{row_more}
-use Rattle.tl_program.proofs.named.books_of.Goals as goal
+use Rattle.tl_threads.proofs.named.books_of.Goals as goal
 
 pub loop-port-preserved : goal.loop-port-preserved
 loop-port-preserved g c =

@@ -2,7 +2,7 @@
 use Rattle.std.proofs.Common.{◌≡◌, ◌++◌, drop}
 use Rattle.tl_audit.specs.Reader.{histories_of}
 use Rattle.tl_serial.specs.Text.{histories_from, histories_text}
-use Rattle.tl_program.proofs.engine.threads.push_histories.Given as goal
+use Rattle.tl_threads.proofs.text.push_histories.Given as goal
 
 abbrev pub invariant-loop-port : goal.invariant-loop-port
 invariant-loop-port l =

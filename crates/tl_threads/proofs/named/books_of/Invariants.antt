@@ -1,8 +1,8 @@
 use Rattle.std.proofs.Common.{◌≡◌, ◌+◌, ◌≤◌, vec_len, vec_capacity}
 use Rattle.std.specs.Vec.Iter.{into_iter_len}
-use Rattle.tl_program.specs.Run.{IsBookOf}
+use Rattle.tl_threads.specs.Left.{IsBookOf}
 use Rattle.tl_workers.specs.Start.{AreFrom}
-use Rattle.tl_program.proofs.named.books_of.Given as goal
+use Rattle.tl_threads.proofs.named.books_of.Given as goal
 
 -- the books so far are those of their ports
 abbrev pub invariant-loop-port : goal.invariant-loop-port

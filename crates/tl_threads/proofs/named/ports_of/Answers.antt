@@ -1,7 +1,7 @@
 use Rattle.std.proofs.Common.{arith}
 use Rattle.tl_workers.specs.Start.{IsBookIn}
 use Rattle.tl_workers.proofs.Rows.{row_head, row_rest}
-use Rattle.tl_program.proofs.named.ports_of.Goals as goal
+use Rattle.tl_threads.proofs.named.ports_of.Goals as goal
 
 pub new-requires : goal.new-requires
 new-requires g c = row_head

@@ -1,9 +1,9 @@
 use Rattle.std.proofs.Common.{◌+◌, ◌∙◌, sym, subst}
 use Rattle.tl_arena.specs.Views.{ArenaId}
-use Rattle.tl_program.specs.Run.{IsBookOf}
+use Rattle.tl_threads.specs.Left.{IsBookOf}
 use Rattle.tl_workers.specs.Start.{AreFrom}
 use Rattle.tl_workers.proofs.Arrivals.{new_in}
-use Rattle.tl_program.proofs.named.run_named.Goals as goal
+use Rattle.tl_threads.proofs.named.run_named.Goals as goal
 
 pub ports_of-requires : goal.ports_of-requires
 ports_of-requires g c k book at =

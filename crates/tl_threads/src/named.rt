@@ -1,18 +1,21 @@
 //! A run over one arena, which the ports' locks name.
-ghost use Rattle.std.specs.Prelude.{◌≡◌, ◌+◌, ◌<◌, ◌≤◌, All, Contains, IfOk, IfNone, IfSome, vec_len, vec_capacity, length};
+ghost use Rattle.std.specs.Prelude.{◌≡◌, ◌+◌, ◌*◌, ◌<◌, ◌≤◌, All, Contains, IfOk, IfNone, IfSome, vec_len, vec_capacity, length};
+ghost use Rattle.tl_types.specs.declared.limits.TheConstants.{MAX_MASTERS, MAX_WORKERS};
 ghost use Rattle.tl_arena.specs.Account.{IsClosing};
-ghost use Rattle.tl_program.specs.Run.{HaveLeft, IsBookOf};
-ghost use Rattle.tl_workers.specs.Start.{AreFrom, AreTracesOf, IsBookIn, IsNewBook, IsNewThreadSet};
+ghost use Rattle.tl_arena.specs.Views.{AreNewMasters};
+ghost use Rattle.tl_script.specs.declared.system.TheConstants.{MAX_JOBS};
+ghost use Rattle.tl_threads.specs.Left.{HaveLeft, IsBookOf};
+ghost use Rattle.tl_workers.specs.Start.{AreFrom, AreTracesOf, IsBookIn, IsNewBook};
 
 use std::alloc::Global;
 use std::sync::Wait;
 use std::thread::Threads;
-use tl_arena::{Account, Arena, ArenaName};
+use tl_arena::{Account, Arena, ArenaName, MasterSeat};
 use tl_journal::Trace;
 use tl_port::{Book, Port};
 use tl_script::System;
 use tl_types::Memory;
-use tl_workers::{Ended, Gate, Shared, ThreadFault, ThreadSet, run_all};
+use tl_workers::{Ended, Gate, Shared, ThreadFault, run_all, threads_of};
 
 /// What the threads of a run leave: a trace for each master, the book of each port, and the account of the arena.
 #[derive(Drop)]
@@ -69,19 +72,26 @@ fn first_not_left(system: &System, account: &Account) -> Option<usize>
     None
 }
 
-/// A run over the arena that N names.
-pub(crate) fn run_named<N: ArenaName + Send + Sync, R: Threads + Wait + Sync, G: Gate + Sync>(
+/// A run over the arena that N names, where a port has so many threads. What the threads are handed is made here, right
+/// before they start, so no other exit has to drop it.
+pub fn run_named<N: ArenaName + Send + Sync, R: Threads + Wait + Sync, G: Gate + Sync>(
     rt: &R,
     alloc: Global,
     arena: Arena,
     system: &System,
     books: Vec<Book>,
-    threads: ThreadSet,
+    masters: Vec<MasterSeat>,
+    journals: &[usize],
+    workers: usize,
     gate: &G,
 ) -> Result<ThreadedRun, ThreadFault>
     requires name { arena ≡ N.arena }
     requires ports { length system.now.ranges + 1 ≤ arena.about.ports }
-    requires threads { IsNewThreadSet arena system.now threads }
+    requires masters { AreNewMasters arena (length system.now.jobs) masters.items }
+    requires sources { arena.about.owners ≡ system.now.owners }
+    requires journals { length journals.now ≡ length system.now.ranges + 1 }
+    requires few { All (λ n. n ≤ MAX_MASTERS * MAX_JOBS) journals.now }
+    requires workers { workers ≤ MAX_WORKERS }
     requires books { AreFrom (IsNewBook arena system.now) 0 books.items }
     requires all_books { vec_len books ≡ length system.now.ranges + 1 }
     requires counts { length system.now.jobs ≡ length system.now.owners }
@@ -96,6 +106,9 @@ pub(crate) fn run_named<N: ArenaName + Send + Sync, R: Threads + Wait + Sync, G:
         return Err(ThreadFault::Memory);
     };
     let Ok(ports) = ports_of::<N>(alloc, books) else {
+        return Err(ThreadFault::Memory);
+    };
+    let Ok(threads) = threads_of(alloc, &arena, masters, system, journals, workers) else {
         return Err(ThreadFault::Memory);
     };
     let shared = Shared {
