@@ -85,5 +85,9 @@ fn audit_of_one(alloc: Global) -> Result<(), AuditFault> {
 #[test]
 fn an_audit_says_yes_or_memory_is_refused(rt: HostRuntime) {
     let answer = audit_of_one(rt.alloc());
-    holds(&rt, "yes, or memory", answer == Ok(()) || answer == Err(AuditFault::Memory));
+    holds(
+        &rt,
+        "yes, or memory",
+        answer == Ok(()) || answer == Err(AuditFault::Memory),
+    );
 }
