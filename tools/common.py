@@ -25,12 +25,15 @@ KEYS = {"": ("slots", "port", "master"), "port": ("kind", "base", "length", "res
 # The keys of a system file; those of a script that it may have too; and those that say where signals are (docs/CAPTURE.md).
 SIGNALS = ("a_valid", "a_ready", "a_opcode", "a_param", "a_size", "a_source", "a_address", "a_mask", "a_data", "a_corrupt", "d_valid", "d_ready",
            "d_opcode", "d_param", "d_size", "d_source", "d_data", "d_denied", "d_corrupt")
-SYSTEM_KEYS = {"": ("bus", "unaligned", "decode", "port", "master", "clock", "reset", "reset_active", "slots", "extra"),
+SYSTEM_KEYS = {"": ("bus", "unaligned", "decode", "port", "master", "clock", "reset", "reset_active", "bits", "slots", "extra"),
                "port": ("name", "kind", "base", "length", "ranges", "reset", "image", "unknown", "sizes", "order", "bus", "signals", "wires",
-                        "extra"),
-               "master": ("name", "sources", "first", "stride", "bus", "reach", "signals", "wires", "ops", "extra"),
+                        "bits", "extra"),
+               "master": ("name", "sources", "first", "stride", "bus", "reach", "signals", "wires", "bits", "ops", "extra"),
                "sizes": ("get", "putfull", "putpart", "arithmetic", "logical", "intent", "extra"),
                "wires": (*SIGNALS, "extra")}
+
+# The signals of a handshake, which stand outside of the bundle `bits` of their channel.
+HANDSHAKES = ("a_valid", "a_ready", "d_valid", "d_ready")
 
 # The opcode and the parameter of each operation on channel A, and the opcode of each reply on channel D.
 OPERATIONS = {"putfull": (0, 0), "putpart": (1, 0), "min": (2, 0), "max": (2, 1), "minu": (2, 2), "maxu": (2, 3), "add": (2, 4),
@@ -51,6 +54,11 @@ def system_of(front):
         if os.path.exists(path):
             return path
     return os.path.join(os.path.dirname(front), "system.toml")
+
+
+def with_bits(signal):
+    """The name of a signal in the bundle `bits` of its channel, as Chisel has it: all but those of a handshake stand there."""
+    return signal if signal in HANDSHAKES else f"{signal[:2]}bits_{signal[2:]}"
 
 
 def carries_data(name):

@@ -4,7 +4,7 @@ For tools/draft; docs/CAPTURE.md has the rules ("A system file to begin with").
 
 import re
 
-from common import BUSES
+from common import BUSES, with_bits
 from gtkwave_save import SIGNALS
 
 # The signals without which a prefix is no link.
@@ -27,7 +27,7 @@ def spellings(signal):
     """How designs call a signal: the standard's name, Chisel's, and error in place of denied."""
     for name in (signal, "d_error") if signal == "d_denied" else (signal,):
         yield name
-        yield f"{name[:2]}bits_{name[2:]}"
+        yield with_bits(name)
 
 
 def members(prefix, variables):
@@ -64,9 +64,14 @@ class Link:
         self.doubles = [name for name in names.values() if name in variables.twice]
         self.aliases = []
 
-    def is_plain(self):
-        """Whether the standard's names stand behind one prefix, but for signals that the design has not or calls otherwise."""
-        return all(self.names[signal] == self.prefix + signal for signal in self.names if signal != "d_denied")
+    def behind(self):
+        """How the names stand behind one prefix, but for signals that the design has not or calls otherwise: each signal with its name, as the
+        standard has it or else as Chisel has it. None if they do not."""
+        for how in (str, with_bits):
+            names = {signal: self.prefix + how(signal) for signal in SIGNALS}
+            if all(self.names[signal] == names[signal] for signal in self.names if signal != "d_denied"):
+                return names
+        return None
 
     def depth(self):
         return self.names["a_valid"].count(".")
@@ -91,7 +96,7 @@ class Link:
 
     def missing(self):
         """The signals that the dump has not: those that are constants, and those that have to be named."""
-        left_out = EXTRAS if self.is_plain() else ()
+        left_out = EXTRAS if self.behind() else ()
         absent = [signal for signal in SIGNALS if signal not in self.names and signal not in left_out]
         lone = {"a_source", "d_source"} & set(absent)
         constants = [signal for signal in absent if signal in CONSTANTS + EXTRAS or len(lone) == 2 and signal in lone]

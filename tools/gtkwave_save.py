@@ -5,6 +5,7 @@ the cursor at the fault, and markers at its request (A to M) and at the requests
 import os
 import re
 
+from common import with_bits
 from explanation import writers_of
 
 SIGNALS = ("a_valid", "a_ready", "a_opcode", "a_param", "a_size", "a_source", "a_address", "a_mask", "a_data", "a_corrupt",
@@ -44,13 +45,15 @@ def variables_of(dump):
     return found
 
 
-def signals_of(table):
-    """The names of a link's signals in the system file; a constant has none."""
-    wires, prefix = table.get("wires", {}), table.get("signals")
+def signals_of(table, top):
+    """The names of a link's signals in the system file, whose table of the whole file is `top`; a constant has none."""
+    wires, prefix, bits = table.get("wires", {}), table.get("signals"), table.get("bits", top.get("bits", False))
     for signal in SIGNALS:
-        name = wires.get(signal, prefix + signal if prefix is not None else None)
-        if name not in (None, "0", "1"):
-            yield name
+        behind = with_bits(signal) if bits else signal
+        names = wires.get(signal, prefix + behind if prefix is not None else None)
+        for name in names if isinstance(names, list) else [names]:
+            if name not in (None, "0", "1", "-"):
+                yield name
 
 
 def shown_of(names, variables):
@@ -80,7 +83,7 @@ def save_of(dump, table, link, explanation):
     names = [name for name in (table.get("clock"), table.get("reset")) if name]
     times = " ".join(str(time) for time in markers_of(explanation))
     lines = ["[*] tools/explain", f'[dumpfile] "{os.path.abspath(dump)}"', f"[timestart] {max(0, first_of(explanation) - 1)}",
-             f"*-3.000000 {explanation['time']} {times}", *shown_of([*names, *signals_of(of_link)], variables_of(dump))]
+             f"*-3.000000 {explanation['time']} {times}", *shown_of([*names, *signals_of(of_link, table)], variables_of(dump))]
     return "".join(f"{line}\n" for line in lines)
 
 

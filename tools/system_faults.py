@@ -68,7 +68,7 @@ UNKNOWN_KEYS = ("", {
     "prot = []": "unknown key prot (near: port)",
     "unalined = true\nunaligned = 1": "unknown key unalined (near: unaligned)",
     "[[port]]\nunaligned = true": "unknown key unaligned (near: name)",
-    "signals = 'x'\nbus = 3": "unknown key signals (near: slots)",
+    "signals = 'x'\nbus = 3": "unknown key signals (near: bits)",
     "reset_activ = 'low'\nmaster = 1": "unknown key reset_activ (near: reset_active)",
     "ops = []": "unknown key ops (near: bus)",
     # of several the first in the order of bytes

@@ -12,7 +12,7 @@ SYSTEM = f"slots = 1\nclock = 'c'\nport = [{RAM}]\nmaster = [{{ sources = 1, ops
 HEAD = b'$var wire 1 ! c $end $var wire 1 " v $end $enddefinitions $end\n'
 DUMP = HEAD + b'0! 1" #5 1! #6 0! #7 1! 0" #8 0! #9 1!\n'
 FIRST_LINE = f"{HEADER}\n".encode()
-CAPTURE = FIRST_LINE + b"5,m0,A,1,0,0,0,0,01,0000000000000000,,\n7,m0,A,1,0,0,0,0,01,0000000000000000,,\n"
+CAPTURE = FIRST_LINE + b"5,m0,A,1,0,0,0,0,ff,0000000000000000,,\n7,m0,A,1,0,0,0,0,ff,0000000000000000,,\n"
 # The last line of a capture of which rows are missing.
 CUT = b"fault\n"
 NEVER = b"tlvcd: the clock never rises\n"
@@ -141,7 +141,7 @@ $scope begin g[1] $end $var wire 1 ' rdy $end $upscope $end $upscope $end
 $enddefinitions $end
 """
 # The row of the one beat at a time, with this size and source.
-ROW_AT_5 = b"5,m0,A,1,0,2,1,0,01,0000000000000000,,\n"
+ROW_AT_5 = b"5,m0,A,1,0,2,1,0,ff,0000000000000000,,\n"
 # Bodies, and how they end. Of a last word that no blank ends nothing comes.
 BODIES = (
     (b"0! 1\" b101 # 1$ 1' 1& #5 1!\n", ends(0, FIRST_LINE + ROW_AT_5)),

@@ -24,14 +24,14 @@ wire_keys =
 abbrev pub known_keys : TableKind → List (List ℕ)
 known_keys Top =
     codes "bus" ∷ codes "unaligned" ∷ codes "decode" ∷ codes "port" ∷ codes "master" ∷ codes "clock" ∷
-    codes "reset" ∷ codes "reset_active" ∷ codes "slots" ∷ codes "extra" ∷ []
+    codes "reset" ∷ codes "reset_active" ∷ codes "bits" ∷ codes "slots" ∷ codes "extra" ∷ []
 known_keys Port =
     codes "name" ∷ codes "kind" ∷ codes "base" ∷ codes "length" ∷ codes "ranges" ∷ codes "reset" ∷
     codes "image" ∷ codes "unknown" ∷ codes "sizes" ∷ codes "order" ∷ codes "bus" ∷ codes "signals" ∷
-    codes "wires" ∷ codes "extra" ∷ []
+    codes "wires" ∷ codes "bits" ∷ codes "extra" ∷ []
 known_keys Master =
     codes "name" ∷ codes "sources" ∷ codes "first" ∷ codes "stride" ∷ codes "bus" ∷ codes "reach" ∷ codes "signals" ∷
-    codes "wires" ∷ codes "ops" ∷ codes "extra" ∷ []
+    codes "wires" ∷ codes "bits" ∷ codes "ops" ∷ codes "extra" ∷ []
 known_keys Sizes =
     codes "get" ∷ codes "putfull" ∷ codes "putpart" ∷ codes "arithmetic" ∷ codes "logical" ∷ codes "intent" ∷
     codes "extra" ∷ []

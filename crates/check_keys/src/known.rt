@@ -105,16 +105,17 @@ impl TableKind {
                 b"clock",
                 b"reset",
                 b"reset_active",
+                b"bits",
                 b"slots",
                 b"extra",
             ],
             TableKind::Port => &[
                 b"name", b"kind", b"base", b"length", b"ranges", b"reset", b"image", b"unknown",
-                b"sizes", b"order", b"bus", b"signals", b"wires", b"extra",
+                b"sizes", b"order", b"bus", b"signals", b"wires", b"bits", b"extra",
             ],
             TableKind::Master => &[
                 b"name", b"sources", b"first", b"stride", b"bus", b"reach", b"signals", b"wires",
-                b"ops", b"extra",
+                b"bits", b"ops", b"extra",
             ],
             TableKind::Sizes => &[
                 b"get",

@@ -106,10 +106,12 @@ rows_of needs time values (channel ∷ channels) =
 
 -- ---- the edges
 
--- what is looked at: the clock, the reset, and the channels in the order in which their beats cross
+-- what is looked at: the clock, the reset, the parts of values that are put together, and the channels in the order in
+-- which their beats cross
 pub record Probes : Type 0 where
   pub clock : Tap
   pub reset : Option Reset
+  pub joins : List Tap
   pub channels : List Channel
 
 -- a reset is active, by the bit that makes it so; one that is unknown is not
@@ -143,4 +145,9 @@ Writes (Err (Gap line)) old new rows = ⊥
 Writes (Err Memory) old new rows = Unit {0}
 
 abbrev pub view_of : code_probes.Probes → Probes
-view_of probes = record { clock = probes.clock; reset = probes.reset; channels = probes.channels.items }
+view_of probes = record {
+  clock = probes.clock;
+  reset = probes.reset;
+  joins = probes.joins.items;
+  channels = probes.channels.items;
+}

@@ -3,15 +3,15 @@ use Rattle.std.specs.Prelude.{◌≡◌, ℕ, ◌==◌, Bool, true, false, nat_l
 use Rattle.check_vcd.specs.Body.{Happens, At, Sets, Resumes, Wrong}
 use Rattle.check_vcd.specs.declared.body.Event.{Event}
 use Rattle.check_vcd.specs.declared.body.Event.TheVariants as event
-use Rattle.check_samples.specs.Digits.{set_extended}
+use Rattle.check_samples.specs.Digits.{set_extended, with_joined}
 use Rattle.check_samples.specs.Edges.{needs_of, with_edge}
 use Rattle.check_samples.specs.declared.edges.Edges.{Edges}
 use Rattle.check_samples.specs.declared.sampler.SampleFault.{SampleFault}
 use Rattle.check_samples.specs.declared.sampler.SampleFault.TheVariants.{Unknown, Gap, Memory}
 use Rattle.check_samples.specs.Rows.{Probes, Rows, and_then, has_edge, is_active, no_rows, rises, rows_of, some_crosses}
 
--- what is looked at; the values before the present time and at it, and how many bits each has; the present time; and
--- what there was at the edges of the times that are over
+-- what is looked at; the values before the present time, with what is put together of them; those at it, and how many bits
+-- each has; the present time; and what there was at the edges of the times that are over
 pub record Sampling : Type 0 where
   pub probes : Probes
   pub before : List (List ℕ)
@@ -50,10 +50,11 @@ edges_when (Some time) s =
 abbrev pub edges_now : Sampling → Edges
 edges_now s = edges_when s.time s
 
--- a time begins, and the present one is over: what the values are, they were before it
+-- a time begins, and the present one is over: what the values are, they were before it, and so was what is put together
 abbrev pub at_time : Sampling → ℕ → Sampling
 at_time s time =
-    if is_at s time then s else record s { before = s.now; time = Some time; edges = edges_now s }
+    if is_at s time then s
+    else record s { before = with_joined s.probes.joins s.now; time = Some time; edges = edges_now s }
 
 -- what is so after one thing that happens
 abbrev pub behind : Happens → Sampling → Sampling

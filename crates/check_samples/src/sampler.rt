@@ -180,11 +180,13 @@ fn push_rows(
     Ok(())
 }
 
-/// What is looked at in a dump: the clock, the reset, and the channels in the order in which their beats cross.
+/// What is looked at in a dump: the clock, the reset, the parts of values that are put together, and the channels in the
+/// order in which their beats cross.
 #[derive(Drop)]
 pub struct Probes {
     pub clock: Tap,
     pub reset: Option<Reset>,
+    pub joins: Vec<Tap>,
     pub channels: Vec<Channel>,
 }
 
@@ -323,7 +325,7 @@ impl Sampler {
         edge_fault(self.probes.reset, self.edges_now())
     }
 
-    /// A time begins, and the present one is over.
+    /// A time begins, and the present one is over. What is put together of values is so as they are now.
     fn begin(&mut self, time: u64) -> Result<(), AllocError>
         ensures { OnOk result (self.new ≡ at_time self.old time) }
     {
@@ -331,7 +333,7 @@ impl Sampler {
             return Ok(());
         }
         let edges = self.edges_now();
-        self.values.pass()?;
+        self.values.pass(&self.probes.joins)?;
         self.time = Some(time);
         self.edges = edges;
         Ok(())

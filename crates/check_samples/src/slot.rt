@@ -1,5 +1,5 @@
 //! A value that is kept of a dump.
-ghost use Rattle.std.specs.Prelude.{◌≡◌, IfOk, OnOk};
+ghost use Rattle.std.specs.Prelude.{◌≡◌, IfOk, OnOk, replicate};
 ghost use Rattle.check_samples.specs.Digits.{extended, fill_of, part_of, unknown};
 ghost use Rattle.check_samples.specs.Slot.{before_of};
 
@@ -60,6 +60,21 @@ impl Slot {
         self.digits
             .resize(self.width.saturating_sub(digits.len()), fill_of(digits))?;
         self.digits.extend_from_slice(digits)
+    }
+
+    /// Gives all bits this digit, when so many times have begun.
+    pub(crate) fn fill(&mut self, times: u64, digit: u8) -> Result<(), AllocError>
+        ensures before { OnOk result (before_of times self.new ≡ before_of times self.old) }
+        ensures now { OnOk result (self.new.digits.items ≡ replicate self.old.width digit) }
+        ensures width { self.new.width ≡ self.old.width }
+        ensures since { self.new.since ≡ times }
+    {
+        if self.since != times {
+            mem::swap(&mut self.earlier, &mut self.digits);
+            self.since = times;
+        }
+        self.digits.clear();
+        self.digits.resize(self.width, digit)
     }
 
     /// The digits that it had before the last of so many times.

@@ -5,20 +5,20 @@ use Rattle.check_beats.specs.Bus.{bus_bytes}
 use Rattle.check_beats.specs.declared.bus.Bus.{Bus}
 use Rattle.check_vcd.specs.Header.{Var}
 use Rattle.check_samples.specs.declared.signal.Signal.{Signal}
-use Rattle.check_signals.specs.Found.{LinkSources, NamesOf, signals_asked, link_at, link_sources, links_from, named_before, names_at, numbered, owner_of, sources_of}
+use Rattle.check_signals.specs.Found.{LinkSources, NamesOf, signals_named, link_at, link_sources, links_from, named_before, names_at, numbered, owner_of, sources_of}
 use Rattle.check_signals.specs.Names.{SignalName}
-use Rattle.check_signals.specs.Source.{WantedSignal, SearchFault, Finds, Source, fault_view}
+use Rattle.check_signals.specs.Source.{SearchFault, Finds, Source, fault_view}
 use Rattle.check_signals.specs.declared.signal_fault.SignalOwner.{SignalOwner}
 use Rattle.check_signals.specs.declared.signal_fault.SignalFault.{SignalFault}
 use Rattle.check_signals.specs.declared.signal_fault.SignalFault.TheVariants.{Memory}
 
 -- no names are left
-pub names-end : (find : WantedSignal → Result Source SearchFault) (owner : SignalOwner) (bus : ℕ) (signals : List Signal)
-    (rest : List SignalName) (front : List Source) (all : Result (List Source) SearchFault) → length rest < 1
-    → with_front front (each find (signals_asked owner bus signals rest)) ≡ all → all ≡ Ok front
-names-end find owner bus [] rest front all few is = sym is ∙ ap Ok (append-nil front)
-names-end find owner bus (signal ∷ signals) [] front all few is = sym is ∙ ap Ok (append-nil front)
-names-end find owner bus (signal ∷ signals) (name ∷ rest) front all few is = absurd (omega (arith, few))
+pub names-end : (vars : List Var) (owner : SignalOwner) (bus : ℕ) (signals : List Signal) (rest : List SignalName)
+    (front : List (List Source)) (all : Result (List (List Source)) SearchFault) → length rest < 1
+    → with_front front (signals_named vars owner bus signals rest) ≡ all → all ≡ Ok front
+names-end vars owner bus [] rest front all few is = sym is ∙ ap Ok (append-nil front)
+names-end vars owner bus (signal ∷ signals) [] front all few is = sym is ∙ ap Ok (append-nil front)
+names-end vars owner bus (signal ∷ signals) (name ∷ rest) front all few is = absurd (omega (arith, few))
 
 -- ---- one link after the other
 
@@ -46,15 +46,15 @@ module _ (vars : List Var) (is_port : Bool) (names : NamesOf) (n : ℕ) (bus : B
       (named_before is_port n bus own (numbered is_port names (n + 1) rest)))) has) ∙ so_far
 
   -- and by what these find
-  by-sources : (own : List SignalName) (found : Result (List Source) SearchFault) → names_at names n ≡ Some own
+  by-sources : (own : List SignalName) (found : Result (List (List Source)) SearchFault) → names_at names n ≡ Some own
       → sources_of vars (owner_of (link_at is_port n)) (bus_bytes bus) own ≡ found
       → with_front front (links_from vars is_port names n here) ≡ all
-      → with_front front ((found >>= (λ sources. Ok (record { link = link_at is_port n; sources = sources })))
+      → with_front front ((found >>= (λ signals. Ok (record { link = link_at is_port n; signals = signals })))
       >>= (λ one. others >>= (λ more. Ok (one ∷ more)))) ≡ all
   unfolding others
   by-sources own found has finds so_far =
-      sym (ap (λ (found : Result (List Source) SearchFault). with_front front
-      ((found >>= (λ sources. Ok (record { link = link_at is_port n; sources = sources })))
+      sym (ap (λ (found : Result (List (List Source)) SearchFault). with_front front
+      ((found >>= (λ signals. Ok (record { link = link_at is_port n; signals = signals })))
       >>= (λ one. others >>= (λ more. Ok (one ∷ more))))) finds) ∙ by-names (Some own) has so_far
 
   pub link-fails : (own : List SignalName) (fault : SearchFault) → names_at names n ≡ Some own
@@ -67,16 +67,16 @@ module _ (vars : List Var) (is_port : Bool) (names : NamesOf) (n : ℕ) (bus : B
   unfolding links_from
   link-without has so_far = by-names None has so_far
 
-  pub link-found : (own : List SignalName) (sources : List Source) → names_at names n ≡ Some own
-      → sources_of vars (owner_of (link_at is_port n)) (bus_bytes bus) own ≡ Ok sources
+  pub link-found : (own : List SignalName) (signals : List (List Source)) → names_at names n ≡ Some own
+      → sources_of vars (owner_of (link_at is_port n)) (bus_bytes bus) own ≡ Ok signals
       → with_front front (links_from vars is_port names n here) ≡ all
-      → with_front (front ++ (record { link = link_at is_port n; sources = sources } ∷ []))
+      → with_front (front ++ (record { link = link_at is_port n; signals = signals } ∷ []))
       (links_from vars is_port names (n + 1) rest) ≡ all
   unfolding links_from others
-  link-found own sources has finds so_far = sym (go others) ∙ by-sources own (Ok sources) has finds so_far
+  link-found own signals has finds so_far = sym (go others) ∙ by-sources own (Ok signals) has finds so_far
     where
       one : LinkSources
-      one = record { link = link_at is_port n; sources = sources }
+      one = record { link = link_at is_port n; signals = signals }
 
       go : (more : Result (List LinkSources) SearchFault)
           → with_front front (more >>= (λ more. Ok (one ∷ more))) ≡ with_front (front ++ (one ∷ [])) more

@@ -1,8 +1,8 @@
 -- Which signals of a dump are looked at, and what is kept of it. This project's own; the order of the channels within one
 -- time is that of captures.
-use Rattle.std.specs.Prelude.{◌≡◌, ℕ, ◌+◌, ◌==◌, ◌&&◌, Bool, true, false, List, [], ◌∷◌, ◌++◌, map, Option, None, Some, option_and_then, option_map, Result, Ok, Err, if◌then◌else◌, slice_get, Vec}
+use Rattle.std.specs.Prelude.{◌≡◌, ℕ, ◌+◌, ◌==◌, ◌&&◌, Bool, true, false, List, [], ◌∷◌, ◌++◌, length, map, replicate, Option, None, Some, option_and_then, option_map, Result, Ok, Err, if◌then◌else◌, slice_get, Vec}
 use Rattle.std.specs.Global.{Global}
-use Rattle.std.specs.List.{filter_map, flat_map, list_any, zip}
+use Rattle.std.specs.List.{cons_option, flat_map, list_any, zip}
 use Rattle.std.specs.Str.{bytes_eq}
 use Rattle.tl_text.specs.Reading.{◌>>=◌, each, if_any}
 use Rattle.check_beats.specs.Bus.{bus_bytes}
@@ -13,7 +13,7 @@ use Rattle.check_vcd.specs.Body.{Find}
 use Rattle.check_vcd.specs.Codes.{coded_in}
 use Rattle.check_vcd.specs.Dump.{with_slot}
 use Rattle.check_vcd.specs.Header.{Var}
-use Rattle.check_samples.specs.Digits.{extended, unknown}
+use Rattle.check_samples.specs.Digits.{unknown}
 use Rattle.check_samples.specs.Edges.{no_edges}
 use Rattle.check_samples.specs.Rows.{Probes, view_of}
 use Rattle.check_samples.specs.Sampling.{Sampling}
@@ -24,10 +24,12 @@ use Rattle.check_samples.specs.declared.reset.Reset.{Reset}
 use Rattle.check_samples.specs.declared.signal.Signal.{Signal}
 use Rattle.check_samples.specs.declared.tap.Tap.{Tap}
 use Rattle.check_signals.specs.Names.{SignalName, SignalNames}
-use Rattle.check_signals.specs.Source.{WantedSignal, SearchFault, Kept, Changing, Constant, Source, source_in, source_view}
+use Rattle.check_signals.specs.Source.{SearchFault, Kept, Changing, Constant, Source, parts_bits, parts_of, parts_view, source_in, source_view}
 use Rattle.check_signals.specs.Wanted.{wanted_of}
 use Rattle.check_signals.specs.declared.keys.TheConstants.{SIGNALS}
 use Rattle.check_signals.specs.declared.links.LinkSources as code_links
+use Rattle.check_signals.specs.declared.parts.LinkSignal.{LinkSignal}
+use Rattle.check_signals.specs.declared.source.Source as code_source
 use Rattle.check_signals.specs.declared.resolve.Resolved as code_resolved
 use Rattle.check_signals.specs.declared.resolve.Sources as code_sources
 use Rattle.check_signals.specs.declared.signal_fault.SignalOwner.{SignalOwner}
@@ -40,25 +42,24 @@ use Rattle.check_signals.specs.declared.wanted.Wanted.TheVariants.{AtMost}
 abbrev pub system_source : List Var → List ℕ → Result Source SearchFault
 system_source vars name = source_in vars (record { owner = owner.System; name = name; is_prefixed = false; wanted = AtMost 1 })
 
--- the signals of a link whose bus has so many bytes, in the order of their names
-abbrev pub asked_by : SignalOwner → ℕ → Signal × SignalName → WantedSignal
-asked_by whose bus named = record {
-  owner = whose;
-  name = named.1.text;
-  is_prefixed = named.1.is_prefixed;
-  wanted = wanted_of named.0 bus;
-}
+-- the parts of a signal of a link whose bus has so many bytes
+abbrev pub signal_by : SignalOwner → ℕ → Signal → LinkSignal
+signal_by whose bus which = record { owner = whose; which = which; wanted = wanted_of which bus }
 
-abbrev pub signals_asked : SignalOwner → ℕ → List Signal → List SignalName → List WantedSignal
-signals_asked whose bus signals names = map (asked_by whose bus) (zip signals names)
+abbrev pub parts_by : List Var → SignalOwner → ℕ → Signal × SignalName → Result (List Source) SearchFault
+parts_by vars whose bus named = parts_of vars (signal_by whose bus named.0) named.1
 
-abbrev pub sources_of : List Var → SignalOwner → ℕ → List SignalName → Result (List Source) SearchFault
-sources_of vars whose bus names = each (source_in vars) (signals_asked whose bus SIGNALS names)
+-- the same of some signals, and of all signals of a link, in the order of their names
+abbrev pub signals_named : List Var → SignalOwner → ℕ → List Signal → List SignalName → Result (List (List Source)) SearchFault
+signals_named vars whose bus signals names = each (parts_by vars whose bus) (zip signals names)
 
--- a link, and what the names of its signals find
+abbrev pub sources_of : List Var → SignalOwner → ℕ → List SignalName → Result (List (List Source)) SearchFault
+sources_of vars whose bus names = signals_named vars whose bus SIGNALS names
+
+-- a link, and the parts of its signals that their names find
 pub record LinkSources : Type 0 where
   pub link : Link
-  pub sources : List Source
+  pub signals : List (List Source)
 
 abbrev pub link_at : Bool → ℕ → Link
 link_at true number = link.Port number
@@ -97,7 +98,7 @@ numbered is_port names number (bus ∷ buses) =
 abbrev pub link_sources : List Var → NamedLink → Result LinkSources SearchFault
 link_sources vars named =
     sources_of vars (owner_of named.link) (bus_bytes named.bus) named.names
-    >>= (λ sources. Ok (record { link = named.link; sources = sources }))
+    >>= (λ signals. Ok (record { link = named.link; signals = signals }))
 
 unfoldable pub links_from : List Var → Bool → NamesOf → ℕ → List Bus → Result (List LinkSources) SearchFault
 links_from vars is_port names number buses = each (link_sources vars) (numbered is_port names number buses)
@@ -137,9 +138,12 @@ distinct some [] = []
 distinct some (value ∷ values) =
     if is_kept some value then distinct some values else value ∷ distinct (some ++ (value ∷ [])) values
 
--- all sources of a system
+-- all parts of signals, and of those of links; all sources of a system
+abbrev pub all_parts : List (List Source) → List Source
+all_parts signals = flat_map (λ parts. parts) signals
+
 abbrev pub flat : List LinkSources → List Source
-flat links = flat_map (λ found. found.sources) links
+flat links = flat_map (λ found. all_parts found.signals) links
 
 abbrev pub all_by : Source → Option Source → List Source → List Source
 all_by clock None others = clock ∷ others
@@ -158,6 +162,44 @@ slot_place (other ∷ kept) value = if is_same other value then 0 else slot_plac
 
 abbrev pub tap_by : List Kept → Source → Tap
 tap_by kept source = record { slot = slot_place kept source.kept; from = source.from; to = source.to }
+
+-- ---- what is put together
+
+-- the parts of all signals that have several stand one after the other, in a value behind those that are kept. What a signal
+-- adds to them, and how many bits it adds
+abbrev pub joins_of : List Kept → List Source → List Tap
+joins_of kept (part ∷ []) = []
+joins_of kept parts = map (tap_by kept) parts
+
+abbrev pub joined_bits : List Source → ℕ
+joined_bits (part ∷ []) = 0
+joined_bits parts = parts_bits parts
+
+-- where the digits of a signal are: those of its one part; or else so many of what is put together, of which so many stand
+-- before
+abbrev pub tap_of : List Kept → ℕ → List Source → Tap
+tap_of kept before (part ∷ []) = tap_by kept part
+tap_of kept before parts = record { slot = length kept; from = before; to = before + parts_bits parts }
+
+-- the same of some signals, one after the other, and of links
+abbrev pub joins_in : List Kept → List (List Source) → List Tap
+joins_in kept signals = flat_map (joins_of kept) signals
+
+abbrev pub bits_in : List (List Source) → ℕ
+bits_in [] = 0
+bits_in (parts ∷ signals) = joined_bits parts + bits_in signals
+
+abbrev pub taps_from : List Kept → ℕ → List (List Source) → List Tap
+taps_from kept before [] = []
+taps_from kept before (parts ∷ signals) =
+    tap_of kept before parts ∷ taps_from kept (before + joined_bits parts) signals
+
+abbrev pub link_joins : List Kept → List LinkSources → List Tap
+link_joins kept links = flat_map (λ found. joins_in kept found.signals) links
+
+abbrev pub link_bits : List LinkSources → ℕ
+link_bits [] = 0
+link_bits (found ∷ links) = bits_in found.signals + link_bits links
 
 -- ---- what is looked at
 
@@ -197,11 +239,12 @@ channels_of_link link (a_valid ∷ a_ready ∷ a_opcode ∷ a_param ∷ a_size �
     )
 channels_of_link link taps = None
 
-abbrev pub pair_at : List Kept → LinkSources → Option (Channel × Channel)
-pair_at kept found = channels_of_link found.link (map (tap_by kept) found.sources)
-
-abbrev pub channel_pairs : List Kept → List LinkSources → List (Channel × Channel)
-channel_pairs kept links = filter_map (pair_at kept) links
+-- those of links; so many bits are put together of signals that stand before theirs
+abbrev pub channel_pairs : List Kept → ℕ → List LinkSources → List (Channel × Channel)
+channel_pairs kept before [] = []
+channel_pairs kept before (found ∷ links) =
+    cons_option (channels_of_link found.link (taps_from kept before found.signals))
+    (channel_pairs kept (before + bits_in found.signals) links)
 
 -- the order in which beats cross within one time
 abbrev pub in_order : List (Channel × Channel) → List (Channel × Channel) → List Channel
@@ -223,7 +266,9 @@ found_by kept is_low sources = record {
   probes = record {
     clock = tap_by kept sources.clock;
     reset = reset_by kept is_low sources.reset;
-    channels = in_order (channel_pairs kept sources.ports) (channel_pairs kept sources.masters);
+    joins = link_joins kept sources.ports ++ link_joins kept sources.masters;
+    channels = in_order (channel_pairs kept 0 sources.ports)
+        (channel_pairs kept (link_bits sources.ports) sources.masters);
   };
   kept = kept;
 }
@@ -246,17 +291,17 @@ width_in (Constant digit width) = width
 
 abbrev pub digits_in : Kept → List ℕ
 digits_in (Changing code width) = unknown width
-digits_in (Constant digit width) = extended width (digit ∷ [])
+digits_in (Constant digit width) = replicate width digit
 
 abbrev pub code_in : Kept → Option (List ℕ)
 code_in (Changing code width) = Some code
 code_in (Constant digit width) = None
 
--- before the body no value was before another, and only constants are known
+-- before the body no value was before another, nothing was put together, and only constants are known
 abbrev pub sampling_of : Found → Sampling
 sampling_of found = record {
   probes = found.probes;
-  before = map (λ value. unknown (width_in value)) found.kept;
+  before = map (λ value. unknown (width_in value)) found.kept ++ ([] ∷ []);
   now = map digits_in found.kept;
   widths = map width_in found.kept;
   time = None;
@@ -278,8 +323,11 @@ find_of vars found = slots_from (map code_in found.kept) 0 (coded_in vars)
 
 -- ---- what calls answer
 
+abbrev pub signals_view : List (Vec code_source.Source Global) → List (List Source)
+signals_view signals = map parts_view signals
+
 abbrev pub link_sources_view : code_links.LinkSources → LinkSources
-link_sources_view found = record { link = found.link; sources = map source_view found.sources.items }
+link_sources_view found = record { link = found.link; signals = signals_view found.signals.items }
 
 abbrev pub links_view : Vec code_links.LinkSources Global → List LinkSources
 links_view links = map link_sources_view links.items
@@ -299,7 +347,7 @@ codes_view codes = map (λ code. option_map (λ code. code.items) code) codes.it
 -- this is looked at and kept
 pub record IsResolved (resolved : code_resolved.Resolved) (found : Found) : Type 0 where
   pub probes : view_of resolved.probes ≡ found.probes
-  pub before : all_before resolved.values ≡ map (λ value. unknown (width_in value)) found.kept
+  pub before : all_before resolved.values ≡ map (λ value. unknown (width_in value)) found.kept ++ ([] ∷ [])
   pub now : all_now resolved.values ≡ map digits_in found.kept
   pub widths : all_widths resolved.values ≡ map width_in found.kept
   pub codes : codes_view resolved.codes ≡ map code_in found.kept

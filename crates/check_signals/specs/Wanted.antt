@@ -17,6 +17,13 @@ count_of (AtMost count) = count
 count_of (Optional count) = count
 count_of (Extra count) = count
 
+-- how many bits a constant has: each of a mask and of data; a number and a flag are 0 or 1, which one bit spells
+abbrev pub constant_bits : Wanted → ℕ
+constant_bits (Exactly count) = count
+constant_bits (AtMost count) = 1
+constant_bits (Optional count) = 1
+constant_bits (Extra count) = 1
+
 -- a design may leave the signal out: a wire says so
 abbrev pub may_be_absent : Wanted → Bool
 may_be_absent (Exactly count) = false

@@ -17,6 +17,7 @@ pub enum SignalKey {
     ResetActive,
     Signals,
     Wires,
+    Bits,
 }
 
 impl SignalKey {
@@ -32,6 +33,7 @@ impl SignalKey {
             SignalKey::ResetActive => "reset_active",
             SignalKey::Signals => "signals",
             SignalKey::Wires => "wires",
+            SignalKey::Bits => "bits",
         }
     }
 }

@@ -1,5 +1,5 @@
 //! What is kept of a dump, each value in a slot of its own.
-ghost use Rattle.std.specs.Prelude.{◌≡◌, IfOk, map};
+ghost use Rattle.std.specs.Prelude.{◌≡◌, ◌++◌, IfOk, OnOk, map};
 ghost use Rattle.check_signals.specs.Found.{is_kept, is_same, values_kept as kept_in, slot_place, tap_by};
 ghost use Rattle.check_signals.specs.Source.{kept_view, source_view};
 
@@ -72,18 +72,17 @@ pub(crate) fn tap_by(kept: &[Kept<'_>], source: Source<'_>) -> Tap
     }
 }
 
-/// Where the digits of sources are kept.
-pub(crate) fn taps_of(
-    alloc: Global,
+/// Appends where the digits of sources are kept.
+pub(crate) fn push_taps(
+    taps: &mut Vec<Tap>,
     kept: &[Kept<'_>],
     sources: &[Source<'_>],
-) -> Result<Vec<Tap>, AllocError>
-    ensures { IfOk result (λ taps. taps.items
-        ≡ map (tap_by (map kept_view kept.now)) (map source_view sources.now)) }
+) -> Result<(), AllocError>
+    ensures { OnOk result (taps.new.items
+        ≡ taps.old.items ++ map (tap_by (map kept_view kept.now)) (map source_view sources.now)) }
 {
-    let mut taps = Vec::with_capacity(alloc, sources.len())?;
     for source in sources {
         taps.push(tap_by(kept, *source))?;
     }
-    Ok(taps)
+    Ok(())
 }

@@ -1,15 +1,15 @@
 //! The names of signals that a system file gives.
-ghost use Rattle.std.specs.Prelude.{◌≡◌, ◌++◌, Ok, map, option_map};
+ghost use Rattle.std.specs.Prelude.{◌≡◌, ◌++◌, OnOk, Ok, map, not, option_map, unwrap_or};
 ghost use Rattle.toml.specs.Data.{get_member};
 ghost use Rattle.toml.specs.View.{table_view, view};
 ghost use Rattle.tl_text.specs.Reading.{each};
 ghost use Rattle.check_samples.specs.Signal.{signal_name as name_of_signal};
 ghost use Rattle.check_signals.specs.Key.{signal_key_name};
-ghost use Rattle.check_signals.specs.Names.{GivesNames, all_names as all_names_of, clock_by, have_signals, is_low_in, link_by, link_in, link_of, link_view, links_in, name_in, name_view, names_in, names_of_file, names_view, optional_text, prefixed as prefixed_in, signal_text_of as text_in, some_names_in, wire_in, wired as wired_in, wires_in};
+ghost use Rattle.check_signals.specs.Names.{GivesNames, all_names as all_names_of, clock_by, have_signals, is_handshake, is_low_in, joined_names, link_by, link_in, link_of, link_view, links_in, lone_name, manner_view, may_be_left_out, name_behind, name_in, name_unless, name_view, names_in, names_of_file, names_view, optional_flag, optional_text, part_name, prefixed as prefixed_in, signal_text_of as text_in, some_names_in, wire_in, wired as wired_in, wires_in, with_bits};
 
 use crate::fault::{KeyFault, SignalKey};
 use check_samples::Signal;
-use std::alloc::Global;
+use std::alloc::{AllocError, Global};
 use toml::{Table, Value};
 
 /// The signals of a link, in the order in which they are looked for.
@@ -35,11 +35,18 @@ pub const SIGNALS: [Signal; 19] = [
     Signal::DCorrupt,
 ];
 
-/// The name of a signal, and whether it is that of the prefix: else it is that of a wire.
+/// The most signals that a wire puts together.
+pub const MAX_PARTS: usize = 512;
+
+/// The name of a signal.
 #[derive(Debug, Drop)]
-pub struct SignalName {
-    pub text: Vec<u8>,
-    pub is_prefixed: bool,
+pub enum SignalName {
+    /// That of the prefix.
+    Prefixed(Vec<u8>),
+    /// That of its wire.
+    Wired(Vec<u8>),
+    /// Those of several signals that its wire puts together, one after the other, the highest bits first.
+    Joined(Vec<Vec<u8>>),
 }
 
 /// The names of the signals of a link, in that order.
@@ -83,6 +90,19 @@ fn text_if_any(table: &Table, key: SignalKey) -> Result<Option<&[u8]>, KeyFault>
     }
 }
 
+/// The flag at a key that may be absent.
+fn flag_if_any(table: &Table, key: SignalKey) -> Result<Option<bool>, KeyFault>
+    ensures { GivesNames (λ flag. flag) result (optional_flag key (table_view table.now)) }
+{
+    let Some(value) = find_value(table, key) else {
+        return Ok(None);
+    };
+    match value.as_bool() {
+        Some(flag) => Ok(Some(flag)),
+        None => Err(KeyFault::WrongType(key)),
+    }
+}
+
 /// Whether the reset is active where it is 0.
 fn read_is_low(table: &Table) -> Result<bool, KeyFault>
     ensures { GivesNames (λ low. low) result (is_low_in (table_view table.now)) }
@@ -107,15 +127,6 @@ fn wires_if_any(table: &Table) -> Result<Option<&Table>, KeyFault>
     }
 }
 
-/// A prefix and a name together.
-fn joined(alloc: Global, prefix: &[u8], name: &[u8]) -> Result<Vec<u8>, KeyFault>
-    ensures { GivesNames (λ text. text.items) result (Ok (prefix.now ++ name.now)) }
-{
-    let mut text = Vec::from_slice(alloc, prefix)?;
-    text.extend_from_slice(name)?;
-    Ok(text)
-}
-
 /// The value at the key of a signal, if it is there.
 fn find_signal(wires: &Table, signal: Signal) -> Option<&Value>
     ensures { option_map (λ value. view value.now) result
@@ -135,78 +146,180 @@ fn wire_of(wires: Option<&Table>, signal: Signal) -> Option<&Value>
     }
 }
 
-/// The name that a wire is.
-fn wired(alloc: Global, value: &Value) -> Result<SignalName, KeyFault>
-    ensures { GivesNames name_view result (wired_in (view value.now)) }
+/// Whether a design may have no such signal.
+fn may_be_left_out(signal: Signal) -> bool
+    ensures { result ≡ may_be_left_out signal }
+{
+    matches!(signal, Signal::ACorrupt | Signal::DParam | Signal::DCorrupt)
+}
+
+/// A name, which may be `-` if that is not refused.
+fn name_unless(refused: bool, text: &[u8]) -> Result<&[u8], KeyFault>
+    ensures { GivesNames (λ text. text.now) result (name_unless refused text.now) }
+{
+    if refused && text == b"-".as_slice() {
+        return Err(KeyFault::OutOfRange(SignalKey::Wires));
+    }
+    Ok(text)
+}
+
+/// The one name that a wire is.
+fn lone(alloc: Global, value: &Value, signal: Signal) -> Result<SignalName, KeyFault>
+    ensures { GivesNames name_view result (lone_name signal (view value.now)) }
 {
     let text = text_of(value, SignalKey::Wires)?;
-    Ok(SignalName {
-        text: Vec::from_slice(alloc, text)?,
-        is_prefixed: false,
-    })
+    let name = name_unless(!may_be_left_out(signal), text)?;
+    Ok(SignalName::Wired(Vec::from_slice(alloc, name)?))
+}
+
+/// The name of one of several signals.
+fn part_name(value: &Value) -> Result<&[u8], KeyFault>
+    ensures { GivesNames (λ text. text.now) result (part_name (view value.now)) }
+{
+    name_unless(true, text_of(value, SignalKey::Wires)?)
+}
+
+/// The names of several signals.
+fn part_names(alloc: Global, values: &[Value]) -> Result<Vec<Vec<u8>>, KeyFault>
+    ensures { GivesNames (λ names. map (λ name. name.items) names.items) result (each part_name (map view values.now)) }
+{
+    let mut names = Vec::with_capacity(alloc, values.len())?;
+    for value in values {
+        let name = part_name(value)?;
+        names.push(Vec::from_slice(alloc, name)?)?;
+    }
+    Ok(names)
+}
+
+/// Several signals that a wire puts together.
+fn joined(alloc: Global, values: &[Value]) -> Result<SignalName, KeyFault>
+    ensures { GivesNames name_view result (joined_names (map view values.now)) }
+{
+    if values.is_empty() || values.len() > MAX_PARTS {
+        return Err(KeyFault::OutOfRange(SignalKey::Wires));
+    }
+    Ok(SignalName::Joined(part_names(alloc, values)?))
+}
+
+/// The name that a wire is, or the names.
+#[tactic(auto, using(crate::proofs::Views::array_laws))]
+fn wired(alloc: Global, value: &Value, signal: Signal) -> Result<SignalName, KeyFault>
+    ensures { GivesNames name_view result (wired_in signal (view value.now)) }
+{
+    match value.as_array() {
+        Some(array) => joined(alloc, array.as_slice()),
+        None => lone(alloc, value, signal),
+    }
+}
+
+/// How the names of a link begin: with this prefix; and whether those that are no handshake stand in a bundle `bits` of
+/// their channel.
+#[derive(Debug, Clone, Copy)]
+struct Manner<'a> {
+    prefix: &'a [u8],
+    bits: bool,
+}
+
+/// Whether a signal is one of a handshake.
+fn is_handshake(signal: Signal) -> bool
+    ensures { result ≡ is_handshake signal }
+{
+    matches!(
+        signal,
+        Signal::AValid | Signal::AReady | Signal::DValid | Signal::DReady
+    )
+}
+
+/// Appends a name with `bits_` after its channel.
+fn push_with_bits(text: &mut Vec<u8>, name: &[u8]) -> Result<(), AllocError>
+    ensures { OnOk result (text.new.items ≡ text.old.items ++ with_bits name.now) }
+{
+    let [channel, line, field @ ..] = name else {
+        return text.extend_from_slice(name);
+    };
+    text.push(*channel)?;
+    text.push(*line)?;
+    text.extend_from_slice(b"bits_")?;
+    text.extend_from_slice(field)
+}
+
+/// Appends the specification's name of a signal, in the bundle of its channel or outside of it.
+fn push_name(text: &mut Vec<u8>, bits: bool, signal: Signal) -> Result<(), AllocError>
+    ensures { OnOk result (text.new.items ≡ text.old.items ++ name_behind bits signal) }
+{
+    let name = signal.name().as_bytes();
+    if bits && !is_handshake(signal) {
+        push_with_bits(text, name)
+    } else {
+        text.extend_from_slice(name)
+    }
 }
 
 /// The prefix with the specification's name.
-fn prefixed(alloc: Global, prefix: &[u8], signal: Signal) -> Result<SignalName, KeyFault>
-    ensures { GivesNames name_view result (Ok (prefixed_in prefix.now signal)) }
+fn prefixed(alloc: Global, manner: Manner<'_>, signal: Signal) -> Result<SignalName, KeyFault>
+    ensures { GivesNames name_view result (Ok (prefixed_in (manner_view manner.entry) signal)) }
 {
-    Ok(SignalName {
-        text: joined(alloc, prefix, signal.name().as_bytes())?,
-        is_prefixed: true,
-    })
+    let mut text = Vec::from_slice(alloc, manner.prefix)?;
+    push_name(&mut text, manner.bits, signal)?;
+    Ok(SignalName::Prefixed(text))
 }
 
 /// The name of a signal: that of its wire, or else the prefix with the specification's name.
 fn name_of(
     alloc: Global,
-    prefix: &[u8],
+    manner: Manner<'_>,
     wires: Option<&Table>,
     signal: Signal,
 ) -> Result<SignalName, KeyFault>
     ensures { GivesNames name_view result
-        (name_in prefix.now (option_map (λ wires. table_view wires.now) wires.entry) signal) }
+        (name_in (manner_view manner.entry) (option_map (λ wires. table_view wires.now) wires.entry) signal) }
 {
     match wire_of(wires, signal) {
-        Some(value) => wired(alloc, value),
-        None => prefixed(alloc, prefix, signal),
+        Some(value) => wired(alloc, value, signal),
+        None => prefixed(alloc, manner, signal),
     }
 }
 
 /// The names of signals of a link.
 fn names_of(
     alloc: Global,
-    prefix: &[u8],
+    manner: Manner<'_>,
     wires: Option<&Table>,
     signals: &[Signal],
 ) -> Result<LinkNames, KeyFault>
     ensures { GivesNames (λ names. map name_view names.items) result
-        (each (name_in prefix.now (option_map (λ wires. table_view wires.now) wires.entry)) signals.now) }
+        (each (name_in (manner_view manner.entry) (option_map (λ wires. table_view wires.now) wires.entry))
+        signals.now) }
 {
     let mut names = Vec::with_capacity(alloc, signals.len())?;
     for signal in signals {
-        names.push(name_of(alloc, prefix, wires, *signal)?)?;
+        names.push(name_of(alloc, manner, wires, *signal)?)?;
     }
     Ok(names)
 }
 
 /// The names of all signals of a link.
-fn all_names(alloc: Global, prefix: &[u8], wires: Option<&Table>) -> Result<LinkNames, KeyFault>
+fn all_names(
+    alloc: Global,
+    manner: Manner<'_>,
+    wires: Option<&Table>,
+) -> Result<LinkNames, KeyFault>
     ensures { GivesNames (λ names. map name_view names.items) result
-        (names_in prefix.now (option_map (λ wires. table_view wires.now) wires.entry)) }
+        (names_in (manner_view manner.entry) (option_map (λ wires. table_view wires.now) wires.entry)) }
 {
-    names_of(alloc, prefix, wires, SIGNALS.as_slice())
+    names_of(alloc, manner, wires, SIGNALS.as_slice())
 }
 
 /// The names of all signals of a link that has names.
 fn some_names(
     alloc: Global,
-    prefix: &[u8],
+    manner: Manner<'_>,
     wires: Option<&Table>,
 ) -> Result<Option<LinkNames>, KeyFault>
     ensures { GivesNames link_view result
-        (some_names_in prefix.now (option_map (λ wires. table_view wires.now) wires.entry)) }
+        (some_names_in (manner_view manner.entry) (option_map (λ wires. table_view wires.now) wires.entry)) }
 {
-    Ok(Some(all_names(alloc, prefix, wires)?))
+    Ok(Some(all_names(alloc, manner, wires)?))
 }
 
 /// The names of a link's signals, if there is a prefix or there are wires.
@@ -214,37 +327,41 @@ fn names_if_any(
     alloc: Global,
     prefix: Option<&[u8]>,
     wires: Option<&Table>,
+    bits: bool,
 ) -> Result<Option<LinkNames>, KeyFault>
     ensures { GivesNames link_view result (link_by (option_map (λ prefix. prefix.now) prefix.entry)
-        (option_map (λ wires. table_view wires.now) wires.entry)) }
+        (option_map (λ wires. table_view wires.now) wires.entry) bits) }
 {
     match prefix {
-        Some(prefix) => some_names(alloc, prefix, wires),
+        Some(prefix) => some_names(alloc, Manner { prefix, bits }, wires),
         None => match wires {
-            Some(wires) => some_names(alloc, b"", Some(wires)),
+            Some(wires) => some_names(alloc, Manner { prefix: b"", bits }, Some(wires)),
             None => Ok(None),
         },
     }
 }
 
-/// The names of the signals of the link that a table is of, if it gives any.
+/// The names of the signals of the link that a table is of, if it gives any. It has the bundles of the whole file, if it
+/// does not say otherwise.
 #[tactic(auto, unfolding(crate::specs::Names::link_in))]
-fn link_names(alloc: Global, table: &Table) -> Result<Option<LinkNames>, KeyFault>
-    ensures { GivesNames link_view result (link_in (table_view table.now)) }
+fn link_names(alloc: Global, top: bool, table: &Table) -> Result<Option<LinkNames>, KeyFault>
+    ensures { GivesNames link_view result (link_in top (table_view table.now)) }
 {
     let prefix = text_if_any(table, SignalKey::Signals)?;
     let wires = wires_if_any(table)?;
-    names_if_any(alloc, prefix, wires)
+    let bits = flag_if_any(table, SignalKey::Bits)?;
+    names_if_any(alloc, prefix, wires, bits.unwrap_or(top))
 }
 
 /// The names of the signals of each link of a kind, of which there may be none.
 #[tactic(auto, using(crate::proofs::Views::array_laws), unfolding(crate::specs::Names::links_in))]
 fn links_at(
     alloc: Global,
+    top: bool,
     table: &Table,
     key: SignalKey,
 ) -> Result<Vec<Option<LinkNames>>, KeyFault>
-    ensures { GivesNames (λ links. map link_view links.items) result (links_in key (table_view table.now)) }
+    ensures { GivesNames (λ links. map link_view links.items) result (links_in top key (table_view table.now)) }
 {
     let Some(value) = find_value(table, key) else {
         return Ok(Vec::new(alloc));
@@ -252,24 +369,25 @@ fn links_at(
     let Some(array) = value.as_array() else {
         return Err(KeyFault::WrongType(key));
     };
-    links_of(alloc, array.as_slice(), key)
+    links_of(alloc, top, array.as_slice(), key)
 }
 
 #[tactic(auto, unfolding(crate::specs::Names::link_of))]
 fn links_of(
     alloc: Global,
+    top: bool,
     values: &[Value],
     key: SignalKey,
 ) -> Result<Vec<Option<LinkNames>>, KeyFault>
     ensures { GivesNames (λ links. map link_view links.items) result
-        (each (link_of key) (map view values.now)) }
+        (each (link_of top key) (map view values.now)) }
 {
     let mut links = Vec::with_capacity(alloc, values.len())?;
     for value in values {
         let Some(link) = value.as_table() else {
             return Err(KeyFault::WrongType(key));
         };
-        links.push(link_names(alloc, link)?)?;
+        links.push(link_names(alloc, top, link)?)?;
     }
     Ok(links)
 }
@@ -310,8 +428,9 @@ fn names_of_table(alloc: Global, table: &Table) -> Result<SignalNames, KeyFault>
         None => None,
     };
     let is_low = read_is_low(table)?;
-    let ports = links_at(alloc, table, SignalKey::Port)?;
-    let masters = links_at(alloc, table, SignalKey::Master)?;
+    let bits = flag_if_any(table, SignalKey::Bits)?.unwrap_or(false);
+    let ports = links_at(alloc, bits, table, SignalKey::Port)?;
+    let masters = links_at(alloc, bits, table, SignalKey::Master)?;
     let named = clock_by(have_signals(&ports) || have_signals(&masters), clock)?;
     Ok(SignalNames {
         clock: Vec::from_slice(alloc, named)?,

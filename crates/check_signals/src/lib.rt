@@ -12,6 +12,7 @@ mod fault;
 mod kept;
 mod keys;
 mod links;
+mod parts;
 mod resolve;
 mod signal_fault;
 mod source;
@@ -19,7 +20,8 @@ mod wanted;
 mod wires;
 
 pub use fault::{KeyFault, SignalKey};
-pub use keys::{LinkNames, SIGNALS, SignalName, SignalNames, read_names};
+pub use keys::{LinkNames, MAX_PARTS, SIGNALS, SignalName, SignalNames, read_names};
+pub use parts::LinkSignal;
 pub use resolve::{Resolved, find_signals};
 pub use signal_fault::{SignalFault, SignalOwner};
 pub use wanted::{Wanted, wanted_of};

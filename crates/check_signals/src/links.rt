@@ -1,16 +1,16 @@
 //! The signals of links, and the channels that are looked at.
-ghost use Rattle.std.specs.Prelude.{◌≡◌, ◌++◌, IfOk, OnOk, map, option_map};
-ghost use Rattle.tl_text.specs.Reading.{each};
+ghost use Rattle.std.specs.Prelude.{[], ◌≡◌, ◌+◌, ◌++◌, IfOk, OnOk, map, option_map};
 ghost use Rattle.check_beats.specs.Bus.{bus_bytes};
 ghost use Rattle.check_vcd.specs.Header.{var_view};
-ghost use Rattle.check_signals.specs.Found.{signals_asked, in_order, link_at, link_sources_view, links_from, links_view, names_at, owner_of, channels_of_link, channel_pairs, sources_of};
+ghost use Rattle.check_signals.specs.Found.{bits_in, channel_pairs, channels_of_link, in_order, joined_bits, joins_in, joins_of, link_at, link_bits, link_joins, link_sources_view, links_from, links_view, names_at, owner_of, signals_named, signals_view, sources_of, tap_of, taps_from};
 ghost use Rattle.check_signals.specs.Names.{link_view, name_view};
-ghost use Rattle.check_signals.specs.Source.{Finds, kept_view, source_in, source_view};
+ghost use Rattle.check_signals.specs.Source.{Finds, kept_view, parts_view, source_view};
 
-use crate::kept::taps_of;
+use crate::kept::{push_taps, tap_by};
 use crate::keys::{LinkNames, SIGNALS, SignalName};
+use crate::parts::{LinkSignal, Parts, parts_bits, parts_of};
 use crate::signal_fault::{SignalFault, SignalOwner};
-use crate::source::{Kept, Source, WantedSignal, source_in};
+use crate::source::{Kept, Source};
 use crate::wanted::wanted_of;
 use check_beats::Bus;
 use check_samples::{AskTaps, BeatTaps, Channel, ReplyTaps, Signal, Tap};
@@ -18,11 +18,11 @@ use check_vcd::Var;
 use check_watch::Link;
 use std::alloc::{AllocError, Global};
 
-/// A link, and what the names of its signals find.
+/// A link, and the parts of its signals that their names find.
 #[derive(Debug, Drop)]
 pub(crate) struct LinkSources<'a> {
     pub(crate) link: Link,
-    pub(crate) sources: Vec<Source<'a>>,
+    pub(crate) signals: Vec<Parts<'a>>,
 }
 
 /// The channels of a link: that of its requests, and that of its replies.
@@ -49,34 +49,33 @@ fn owner_of(link: Link) -> SignalOwner
     }
 }
 
-/// What these names find at a link with this bus, each the name of the signal at its place, or the first fault.
-fn sources_for<'a>(
+/// The parts of signals of a link with this bus by these names, each that of the signal at its place, or the first fault.
+fn signals_named<'a>(
     alloc: Global,
     vars: &'a [Var],
     owner: SignalOwner,
     bus: Bus,
     signals: &[Signal],
     names: &[SignalName],
-) -> Result<Vec<Source<'a>>, SignalFault>
-    ensures { Finds (λ sources. map source_view sources.items) result (each (source_in (map var_view vars.now))
-        (signals_asked owner (bus_bytes bus) signals.now (map name_view names.now))) }
+) -> Result<Vec<Parts<'a>>, SignalFault>
+    ensures { Finds (λ found. signals_view found.items) result
+        (signals_named (map var_view vars.now) owner (bus_bytes bus) signals.now (map name_view names.now)) }
 {
-    let mut sources = Vec::with_capacity(alloc, signals.len())?;
+    let mut found = Vec::with_capacity(alloc, signals.len())?;
     let mut rest = names;
-    for signal in signals {
+    for which in signals {
         let [name, more @ ..] = rest else {
-            return Ok(sources);
+            return Ok(found);
         };
-        let asked = WantedSignal {
+        let signal = LinkSignal {
             owner,
-            name: &name.text,
-            is_prefixed: name.is_prefixed,
-            wanted: wanted_of(*signal, bus),
+            which: *which,
+            wanted: wanted_of(*which, bus),
         };
-        sources.push(source_in(alloc, vars, asked)?)?;
+        found.push(parts_of(alloc, vars, signal, name)?)?;
         rest = more;
     }
-    Ok(sources)
+    Ok(found)
 }
 
 /// What the names of a link's signals find, or the first fault.
@@ -86,11 +85,11 @@ fn sources_of<'a>(
     owner: SignalOwner,
     bus: Bus,
     names: &[SignalName],
-) -> Result<Vec<Source<'a>>, SignalFault>
-    ensures { Finds (λ sources. map source_view sources.items) result
+) -> Result<Vec<Parts<'a>>, SignalFault>
+    ensures { Finds (λ found. signals_view found.items) result
         (sources_of (map var_view vars.now) owner (bus_bytes bus) (map name_view names.now)) }
 {
-    sources_for(alloc, vars, owner, bus, SIGNALS.as_slice(), names)
+    signals_named(alloc, vars, owner, bus, SIGNALS.as_slice(), names)
 }
 
 /// The names of the signals of the link of this number, if it has any.
@@ -117,8 +116,8 @@ pub(crate) fn links_of<'a>(
     for (number, bus) in buses.iter().enumerate() {
         if let Some(names) = names_at(links, number) {
             let link = link_at(is_port, number);
-            let sources = sources_of(alloc, vars, owner_of(link), *bus, names)?;
-            found.push(LinkSources { link, sources })?;
+            let signals = sources_of(alloc, vars, owner_of(link), *bus, names)?;
+            found.push(LinkSources { link, signals })?;
         }
     }
     Ok(found)
@@ -184,17 +183,83 @@ fn channels_of_link(link: Link, taps: &[Tap]) -> Option<Pair>
     Some((ask, reply))
 }
 
-/// The channels of links.
+/// What is put together of parts of values, one signal after the other: the parts, and how many bits they have.
+#[derive(Debug, Drop)]
+pub(crate) struct Joins {
+    pub(crate) taps: Vec<Tap>,
+    pub(crate) bits: u64,
+}
+
+impl Joins {
+    /// Nothing.
+    pub(crate) fn new(alloc: Global) -> Joins
+        ensures taps { result.taps.items ≡ [] }
+        ensures bits { result.bits ≡ 0 }
+    {
+        Joins {
+            taps: Vec::new(alloc),
+            bits: 0,
+        }
+    }
+}
+
+/// Where the digits of a signal are. If it has several parts, they are put together behind what is so already.
+fn tap_of(kept: &[Kept<'_>], joins: &mut Joins, parts: &[Source<'_>]) -> Result<Tap, AllocError>
+    ensures tap { IfOk result (λ tap. tap ≡ tap_of (map kept_view kept.now) joins.old.bits (map source_view parts.now)) }
+    ensures taps { OnOk result (joins.new.taps.items
+        ≡ joins.old.taps.items ++ joins_of (map kept_view kept.now) (map source_view parts.now)) }
+    ensures bits { OnOk result (joins.new.bits ≡ joins.old.bits + joined_bits (map source_view parts.now)) }
+{
+    if let [part] = parts {
+        return Ok(tap_by(kept, *part));
+    }
+    let from = joins.bits;
+    let to = from.checked_add(parts_bits(parts)?).ok_or(AllocError)?;
+    push_taps(&mut joins.taps, kept, parts)?;
+    joins.bits = to;
+    Ok(Tap {
+        slot: kept.len(),
+        from: from as usize,
+        to: to as usize,
+    })
+}
+
+/// Where the digits of signals are, one after the other.
+fn taps_of(
+    alloc: Global,
+    kept: &[Kept<'_>],
+    joins: &mut Joins,
+    signals: &[Parts<'_>],
+) -> Result<Vec<Tap>, AllocError>
+    ensures found { IfOk result (λ taps. taps.items
+        ≡ taps_from (map kept_view kept.now) joins.old.bits (signals_view signals.now)) }
+    ensures taps { OnOk result (joins.new.taps.items
+        ≡ joins.old.taps.items ++ joins_in (map kept_view kept.now) (signals_view signals.now)) }
+    ensures bits { OnOk result (joins.new.bits ≡ joins.old.bits + bits_in (signals_view signals.now)) }
+{
+    let mut taps = Vec::with_capacity(alloc, signals.len())?;
+    for parts in signals {
+        taps.push(tap_of(kept, joins, parts)?)?;
+    }
+    Ok(taps)
+}
+
+/// The channels of links. What their signals put together stands behind what is so already.
 pub(crate) fn channel_pairs(
     alloc: Global,
     kept: &[Kept<'_>],
+    joins: &mut Joins,
     links: &[LinkSources<'_>],
 ) -> Result<Vec<Pair>, AllocError>
-    ensures { IfOk result (λ pairs. pairs.items ≡ channel_pairs (map kept_view kept.now) (map link_sources_view links.now)) }
+    ensures pairs { IfOk result (λ pairs. pairs.items
+        ≡ channel_pairs (map kept_view kept.now) joins.old.bits (map link_sources_view links.now)) }
+    ensures taps { OnOk result (joins.new.taps.items
+        ≡ joins.old.taps.items ++ link_joins (map kept_view kept.now) (map link_sources_view links.now)) }
+    ensures bits { OnOk result (joins.new.bits ≡ joins.old.bits + link_bits (map link_sources_view links.now)) }
 {
     let mut pairs = Vec::with_capacity(alloc, links.len())?;
     for link in links {
-        let taps = taps_of(alloc, kept, &link.sources)?;
+        let taps = taps_of(alloc, kept, joins, &link.signals)?;
         if let Some(pair) = channels_of_link(link.link, &taps) {
             pairs.push(pair)?;
         }

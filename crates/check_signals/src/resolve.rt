@@ -1,17 +1,18 @@
 //! Finds the signals that a system file names among those that a dump declares.
-ghost use Rattle.std.specs.Prelude.{◌≡◌, ◌≢◌, ◌++◌, Err, IfOk, MatchResult, OnOk, map, option_map};
+ghost use Rattle.std.specs.Prelude.{◌≡◌, ◌≢◌, [], ◌++◌, ◌∷◌, Err, IfOk, MatchResult, OnOk, map, option_map};
 ghost use Rattle.tl_text.specs.Reading.{if_any};
 ghost use Rattle.check_vcd.specs.Header.{var_view};
 ghost use Rattle.check_samples.specs.Digits.{unknown};
-ghost use Rattle.check_samples.specs.Values.{all_before, all_now, all_widths};
-ghost use Rattle.check_signals.specs.Found.{IsFound, IsResolved, all_of, code_in, codes_view, digits_in, flat, found_in, found_of, link_sources_view, reset_by, sources_in, sources_view, system_source, width_in};
+ghost use Rattle.check_samples.specs.Values.{all_before, all_now, all_widths, kept_before};
+ghost use Rattle.check_signals.specs.Found.{IsFound, IsResolved, all_of, code_in, codes_view, digits_in, flat, found_in, found_of, link_sources_view, all_parts, reset_by, signals_view, sources_in, sources_view, system_source, width_in};
 ghost use Rattle.check_signals.specs.Names.{names_view};
 ghost use Rattle.check_signals.specs.Source.{Finds, fault_view, kept_view, source_view};
 ghost use Rattle.check_signals.specs.declared.signal_fault.SignalFault.TheVariants.{Memory};
 
 use crate::kept::{tap_by, values_kept};
 use crate::keys::SignalNames;
-use crate::links::{LinkSources, channel_pairs, in_order, links_of};
+use crate::links::{Joins, LinkSources, channel_pairs, in_order, links_of};
+use crate::parts::Parts;
 use crate::signal_fault::{SignalFault, SignalOwner};
 use crate::source::{Kept, Source, WantedSignal, source_in};
 use crate::wanted::Wanted;
@@ -81,13 +82,24 @@ fn sources_in<'a>(
     })
 }
 
+/// Appends the parts of signals.
+fn push_parts<'a>(all: &mut Vec<Source<'a>>, signals: &[Parts<'a>]) -> Result<(), AllocError>
+    ensures { OnOk result (map source_view all.new.items
+        ≡ map source_view all.old.items ++ all_parts (signals_view signals.now)) }
+{
+    for parts in signals {
+        all.extend_from_slice(parts)?;
+    }
+    Ok(())
+}
+
 /// Appends the sources of links.
 fn push_links<'a>(all: &mut Vec<Source<'a>>, links: &[LinkSources<'a>]) -> Result<(), AllocError>
     ensures { OnOk result (map source_view all.new.items
         ≡ map source_view all.old.items ++ flat (map link_sources_view links.now)) }
 {
     for link in links {
-        all.extend_from_slice(&link.sources)?;
+        push_parts(all, &link.signals)?;
     }
     Ok(())
 }
@@ -106,14 +118,14 @@ fn all_of<'a>(alloc: Global, sources: &Sources<'a>) -> Result<Vec<Source<'a>>, A
     Ok(all)
 }
 
-/// The values that are kept, as they are before a dump's body.
-fn values_of(alloc: Global, kept: &[Kept<'_>]) -> Result<Values, AllocError>
+/// The values that are kept, as they are before a dump's body, with room for so many digits that are put together.
+fn values_of(alloc: Global, kept: &[Kept<'_>], room: u64) -> Result<Values, AllocError>
     ensures before { IfOk result (λ values. all_before values
-        ≡ map (λ value. unknown (width_in value)) (map kept_view kept.now)) }
+        ≡ map (λ value. unknown (width_in value)) (map kept_view kept.now) ++ ([] ∷ [])) }
     ensures now { IfOk result (λ values. all_now values ≡ map digits_in (map kept_view kept.now)) }
     ensures widths { IfOk result (λ values. all_widths values ≡ map width_in (map kept_view kept.now)) }
 {
-    let mut values = Values::new(alloc);
+    let mut values = Values::new(alloc, room as usize)?;
     for value in kept {
         match *value {
             Kept::Signal(_, width) => values.add(alloc, width as usize)?,
@@ -171,15 +183,18 @@ fn resolved_of(alloc: Global, is_low: bool, sources: &Sources<'_>) -> Result<Res
 {
     let all = all_of(alloc, sources)?;
     let kept = values_kept(alloc, &all)?;
-    let ports = channel_pairs(alloc, &kept, &sources.ports)?;
-    let masters = channel_pairs(alloc, &kept, &sources.masters)?;
+    let mut joins = Joins::new(alloc);
+    let ports = channel_pairs(alloc, &kept, &mut joins, &sources.ports)?;
+    let masters = channel_pairs(alloc, &kept, &mut joins, &sources.masters)?;
+    let values = values_of(alloc, &kept, joins.bits)?;
     Ok(Resolved {
         probes: Probes {
             clock: tap_by(&kept, sources.clock),
             reset: reset_by(&kept, sources.reset, is_low),
+            joins: joins.taps,
             channels: in_order(alloc, &ports, &masters)?,
         },
-        values: values_of(alloc, &kept)?,
+        values,
         codes: codes_of(alloc, &kept)?,
     })
 }

@@ -26,7 +26,7 @@ pub(crate) struct WantedSignal<'a> {
     pub(crate) wanted: Wanted,
 }
 
-/// A value that is kept: that of an identifier, or a constant, which has this digit; and how many bits it has.
+/// A value that is kept: that of an identifier, or a constant, whose bits all have this digit; and how many bits it has.
 #[derive(Debug, Clone, Copy)]
 pub(crate) enum Kept<'a> {
     Signal(&'a [u8], u64),
@@ -252,7 +252,7 @@ pub(crate) fn source_in<'a>(
         return Ok(left_out());
     }
     match digit_in(asked.name) {
-        Some(digit) => Ok(constant_of(digit, asked.wanted.count())),
+        Some(digit) => Ok(constant_of(digit, asked.wanted.constant_bits())),
         None => signal_in(alloc, vars, asked),
     }
 }

@@ -1,7 +1,7 @@
 //! How many bits the signals of a link have.
 ghost use Rattle.std.specs.Prelude.{◌≡◌};
 ghost use Rattle.check_beats.specs.Bus.{bus_bytes};
-ghost use Rattle.check_signals.specs.Wanted.{bits_fit, count_of, may_be_absent, may_be_unfound, wanted_of};
+ghost use Rattle.check_signals.specs.Wanted.{bits_fit, constant_bits, count_of, may_be_absent, may_be_unfound, wanted_of};
 
 use check_beats::Bus;
 use check_samples::Signal;
@@ -25,6 +25,16 @@ impl Wanted {
         match self {
             Wanted::Exactly(count) => bits == count,
             Wanted::AtMost(count) | Wanted::Optional(count) | Wanted::Extra(count) => bits <= count,
+        }
+    }
+
+    /// How many bits a constant has: each of a mask and of data; a number and a flag are 0 or 1, which one bit spells.
+    pub fn constant_bits(self) -> u64
+        ensures { result ≡ constant_bits self }
+    {
+        match self {
+            Wanted::Exactly(count) => count,
+            Wanted::AtMost(_) | Wanted::Optional(_) | Wanted::Extra(_) => 1,
         }
     }
 

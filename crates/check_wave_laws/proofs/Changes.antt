@@ -7,7 +7,7 @@ use Rattle.std.proofs.lemmas.List.{get_or-set_other, get_or-set_same, length-set
 use Rattle.std.proofs.lemmas.List.Elements.{filter-append}
 use Rattle.std.proofs.lemmas.List.FromFn.{fill_by_all, get_or-map-range_with_len, length-map-range_with_len}
 use Rattle.check_vcd.specs.Body.{Happens, At, Sets, Resumes, Wrong}
-use Rattle.check_samples.specs.Digits.{extended, set_extended}
+use Rattle.check_samples.specs.Digits.{extended, set_extended, with_joined}
 use Rattle.check_samples.specs.Sampling.{Sampling, with_value}
 use Rattle.check_wave_laws.specs.Sampled.{ValueChange, NeverFalls, Wave, changes_after, cut_after, gaps_after, is_before, is_until, is_whole, last_of, value_after, value_by, values_after, values_before, values_until}
 
@@ -152,10 +152,11 @@ first-pass test past later on off =
 
 pub before-past : (wave : Wave) (past later : List ValueChange) (time : ℕ) → wave.changes ≡ past ++ later
     → EachTime (λ at. is_before time at ≡ true) past → EachTime (λ at. is_before time at ≡ false) later
-    → values_before wave time ≡ values_after wave past
+    → values_before wave time ≡ with_joined wave.probes.joins (values_after wave past)
 before-past wave past later time is on off =
-    ap (λ (cs : List ValueChange). values_after wave (filter (λ (change : ValueChange). is_before time change.time) cs)) is
-    ∙ ap (λ (cs : List ValueChange). values_after wave cs) (first-pass (is_before time) past later on off)
+    ap (λ (vs : List (List ℕ)). with_joined wave.probes.joins vs)
+    (ap (λ (cs : List ValueChange). values_after wave (filter (λ (change : ValueChange). is_before time change.time) cs)) is
+    ∙ ap (λ (cs : List ValueChange). values_after wave cs) (first-pass (is_before time) past later on off))
 
 pub until-past : (wave : Wave) (past later : List ValueChange) (time : ℕ) → wave.changes ≡ past ++ later
     → EachTime (λ at. is_until time at ≡ true) past → EachTime (λ at. is_until time at ≡ false) later

@@ -2,12 +2,13 @@
 use Rattle.std.proofs.Common.{◌≡◌, ◌∙◌, ℕ, ◌<◌, ◌≤◌, ◌^◌, nat_lt, Bool, true, false, ◌||◌, cond, List, [], ◌∷◌, length, Option, Some, None, Result, Ok, Err, ok_or, arith, refl, subst, sym, ap}
 use Rattle.std.proofs.lemmas.Bool.{ltb-false}
 use Rattle.std.specs.List.{list_any}
+use Rattle.std.specs.Option.{unwrap_or}
 use Rattle.std.specs.Str.{is_utf8}
 use Rattle.toml.specs.Data.{Data, Items, Members, as_array, get_member}
 use Rattle.toml.specs.Parse.{parse_document}
 use Rattle.tl_script.specs.Value.{list_of}
 use Rattle.tl_map.specs.declared.limits.TheConstants.{MAX_JUDGED_MASTERS, MAX_JUDGED_PORTS}
-use Rattle.check_signals.specs.Names.{SignalName, SignalNames, all_names, clock_by, have_signals, is_low_in, link_of, links_by, links_in, names_of_file, optional_text}
+use Rattle.check_signals.specs.Names.{SignalName, SignalNames, all_names, clock_by, have_signals, is_low_in, link_of, links_by, links_in, names_of_file, optional_flag, optional_text}
 use Rattle.check_signals.specs.declared.fault.SignalKey.{SignalKey}
 use Rattle.check_signals.specs.declared.fault.SignalKey.TheVariants as key
 use Rattle.check_signals.specs.declared.fault.KeyFault.{KeyFault}
@@ -69,36 +70,33 @@ one-table file names parts named divided =
     go false true (Some members) x y = record { members = members; named = x; divided = y }
     go false false read x y = absurd (cc)
 
--- the links of each kind
+-- the links of each kind, by the bundles of the whole file
 record Links (members : Members) (names : SignalNames) : Type 0 where
-  ports : links_in key.Port members ≡ Ok names.ports
-  masters : links_in key.Master members ≡ Ok names.masters
+  bits : Bool
+  ports : links_in bits key.Port members ≡ Ok names.ports
+  masters : links_in bits key.Master members ≡ Ok names.masters
 
 links-are : (members : Members) (names : SignalNames) → all_names members ≡ Ok names → Links members names
 unfolding all_names
 links-are members names is =
-    go (optional_text key.Clock members) (optional_text key.Reset members) (is_low_in members) (links_in key.Port members)
-    (links_in key.Master members) refl refl is
+    go (optional_text key.Clock members) (optional_text key.Reset members) (is_low_in members)
+    (optional_flag key.Bits members) is
   where
-    go : (c r : Result (Option (List ℕ)) KeyFault) (l : Result Bool KeyFault)
-        (p m : Result (List (Option (List SignalName))) KeyFault)
-        → links_in key.Port members ≡ p → links_in key.Master members ≡ m
-        → ◌>>=◌ c (λ clock. ◌>>=◌ r (λ reset. ◌>>=◌ l (λ is_low. ◌>>=◌ p
-        (λ of_ports. ◌>>=◌ m (λ of_masters. ◌>>=◌ (clock_by (have_signals of_ports || have_signals of_masters) clock)
+    by : (c r : Option (List ℕ)) (l bits : Bool) (p m : Result (List (Option (List SignalName))) KeyFault)
+        → links_in bits key.Port members ≡ p → links_in bits key.Master members ≡ m
+        → ◌>>=◌ p (λ of_ports. ◌>>=◌ m (λ of_masters.
+        ◌>>=◌ (clock_by (have_signals of_ports || have_signals of_masters) c)
         (λ named. Ok (record {
           clock = named;
-          reset = reset;
-          is_low = is_low;
+          reset = r;
+          is_low = l;
           ports = of_ports;
           masters = of_masters;
-        }))))))) ≡ Ok names
+        })))) ≡ Ok names
         → Links members names
-    go (Err e) r l p m x y w = absurd (cc)
-    go (Ok c) (Err e) l p m x y w = absurd (cc)
-    go (Ok c) (Ok r) (Err e) p m x y w = absurd (cc)
-    go (Ok c) (Ok r) (Ok l) (Err e) m x y w = absurd (cc)
-    go (Ok c) (Ok r) (Ok l) (Ok p) (Err e) x y w = absurd (cc)
-    go (Ok c) (Ok r) (Ok l) (Ok p) (Ok m) x y w = last (clock_by (have_signals p || have_signals m) c) w
+    by c r l bits (Err e) m x y w = absurd (cc)
+    by c r l bits (Ok p) (Err e) x y w = absurd (cc)
+    by c r l bits (Ok p) (Ok m) x y w = last (clock_by (have_signals p || have_signals m) c) w
       where
         last : (n : Result (List ℕ) KeyFault)
             → ◌>>=◌ n (λ named. Ok (record { clock = named; reset = r; is_low = l; ports = p; masters = m })) ≡ Ok names
@@ -108,9 +106,31 @@ links-are members names is =
             let made : SignalNames = record { clock = named; reset = r; is_low = l; ports = p; masters = m } in
             let same : made ≡ names = cc in
             record {
+              bits = bits;
               ports = x ∙ ap (λ (n : SignalNames). Ok n.ports) same;
               masters = y ∙ ap (λ (n : SignalNames). Ok n.masters) same;
             }
+
+    go : (c r : Result (Option (List ℕ)) KeyFault) (l : Result Bool KeyFault) (b : Result (Option Bool) KeyFault)
+        → ◌>>=◌ c (λ clock. ◌>>=◌ r (λ reset. ◌>>=◌ l (λ is_low. ◌>>=◌ b (λ bits.
+        ◌>>=◌ (links_in (unwrap_or bits false) key.Port members) (λ of_ports.
+        ◌>>=◌ (links_in (unwrap_or bits false) key.Master members) (λ of_masters.
+        ◌>>=◌ (clock_by (have_signals of_ports || have_signals of_masters) clock)
+        (λ named. Ok (record {
+          clock = named;
+          reset = reset;
+          is_low = is_low;
+          ports = of_ports;
+          masters = of_masters;
+        })))))))) ≡ Ok names
+        → Links members names
+    go (Err e) r l b w = absurd (cc)
+    go (Ok c) (Err e) l b w = absurd (cc)
+    go (Ok c) (Ok r) (Err e) b w = absurd (cc)
+    go (Ok c) (Ok r) (Ok l) (Err e) w = absurd (cc)
+    go (Ok c) (Ok r) (Ok l) (Ok b) w =
+        let bits = unwrap_or b false in
+        by c r l bits (links_in bits key.Port members) (links_in bits key.Master members) refl refl w
 
 -- the parts of each kind
 record Divided (members : Members) (parts : Parts) : Type 0 where
@@ -154,16 +174,17 @@ parts-are members parts is = go (bus_in_table Eight members) (rules_in members) 
 -- ---- the values at a key
 
 -- as many links as the array at a key has values
-link-values : (which : SignalKey) (value : Data) (links : List (Option (List SignalName))) → links_by which (Some value) ≡ Ok links
+link-values : (top : Bool) (which : SignalKey) (value : Data) (links : List (Option (List SignalName)))
+    → links_by top which (Some value) ≡ Ok links
     → (items : Items) × (as_array value ≡ Some items) × (length (list_of items) ≡ length links)
-link-values which value links is = go (as_array value) refl is
+link-values top which value links is = go (as_array value) refl is
   where
     go : (o : Option Items) → as_array value ≡ o
-        → ◌>>=◌ (ok_or o (key_fault.WrongType which)) (λ items. each (link_of which) (list_of items))
+        → ◌>>=◌ (ok_or o (key_fault.WrongType which)) (λ items. each (link_of top which) (list_of items))
         ≡ Ok links
         → (items : Items) × (as_array value ≡ Some items) × (length (list_of items) ≡ length links)
     go None x y = absurd (cc)
-    go (Some items) x y = (items, x, each-counts (link_of which) (list_of items) links y)
+    go (Some items) x y = (items, x, each-counts (link_of top which) (list_of items) links y)
 
 -- as many tables, if they are tables
 table-values : (value : Data) (which : part_key.Key) (tables : List Members) (items : Items)
@@ -193,13 +214,14 @@ few which most xs ys is = go (nat_lt most (length xs)) refl is
 
 -- ---- the counts
 
-ports-same : (bus : Bus) (members : Members) (links : List (Option (List SignalName))) (of_ports : List Port)
-    → links_in key.Port members ≡ Ok links → ports_of bus members ≡ Ok of_ports
+ports-same : (bus : Bus) (top : Bool) (members : Members) (links : List (Option (List SignalName))) (of_ports : List Port)
+    → links_in top key.Port members ≡ Ok links → ports_of bus members ≡ Ok of_ports
     → (length links ≡ length of_ports) × (length of_ports ≤ MAX_JUDGED_PORTS)
 unfolding links_in ports_of port_tables
-ports-same bus members links of_ports named divided = go (get_member (system_key.key_name part.Port) members) named divided
+ports-same bus top members links of_ports named divided =
+    go (get_member (system_key.key_name part.Port) members) named divided
   where
-    by : (value : Data) → links_by key.Port (Some value) ≡ Ok links → (r : Result (List Members) SystemFault)
+    by : (value : Data) → links_by top key.Port (Some value) ≡ Ok links → (r : Result (List Members) SystemFault)
         → tables_of part.Port value ≡ r → ((r >>= up_to part.Port MAX_JUDGED_PORTS) >>= each (port_of bus)) ≡ Ok of_ports
         → (length links ≡ length of_ports) × (length of_ports ≤ MAX_JUDGED_PORTS)
     by value x (Err e) at y = absurd (cc)
@@ -209,13 +231,13 @@ ports-same bus members links of_ports named divided = go (get_member (system_key
             → (r >>= each (port_of bus)) ≡ Ok of_ports → (length links ≡ length of_ports) × (length of_ports ≤ MAX_JUDGED_PORTS)
         then (Err e) z w = absurd (cc)
         then (Ok some) z w =
-            let found = link-values key.Port value links x in
+            let found = link-values top key.Port value links x in
             let are = few part.Port MAX_JUDGED_PORTS tables some z in
             let count = table-values value part.Port tables found.0 found.1 at in
             let parts = each-counts (port_of bus) some of_ports w in
             (omega (arith, found.2, count, ap length are.0, parts), omega (arith, are.1, parts))
 
-    go : (o : Option Data) → links_by key.Port o ≡ Ok links → (tables_by o >>= each (port_of bus)) ≡ Ok of_ports
+    go : (o : Option Data) → links_by top key.Port o ≡ Ok links → (tables_by o >>= each (port_of bus)) ≡ Ok of_ports
         → (length links ≡ length of_ports) × (length of_ports ≤ MAX_JUDGED_PORTS)
     go None x y =
         let one : [] ≡ links = cc in
@@ -227,14 +249,14 @@ ports-same bus members links of_ports named divided = go (get_member (system_key
 abbrev counted : Data → Result (List Members) SystemFault
 counted value = tables_of part.Master value >>= one_up_to part.Master MAX_JUDGED_MASTERS
 
-masters-same : (bus : Bus) (ports : List (Option (List ℕ))) (members : Members) (links : List (Option (List SignalName))) (of_masters : List Master)
-    → links_in key.Master members ≡ Ok links → masters_of bus ports members ≡ Ok of_masters
+masters-same : (bus : Bus) (top : Bool) (ports : List (Option (List ℕ))) (members : Members) (links : List (Option (List SignalName))) (of_masters : List Master)
+    → links_in top key.Master members ≡ Ok links → masters_of bus ports members ≡ Ok of_masters
     → (length links ≡ length of_masters) × (length of_masters ≤ MAX_JUDGED_MASTERS)
 unfolding links_in masters_of master_tables value_at
-masters-same bus ports members links of_masters named divided =
+masters-same bus top ports members links of_masters named divided =
     go (get_member (system_key.key_name part.Master) members) named divided
   where
-    by : (value : Data) → links_by key.Master (Some value) ≡ Ok links → (r : Result (List Members) SystemFault)
+    by : (value : Data) → links_by top key.Master (Some value) ≡ Ok links → (r : Result (List Members) SystemFault)
         → tables_of part.Master value ≡ r
         → ((r >>= one_up_to part.Master MAX_JUDGED_MASTERS)
         >>= (λ tables. each (master_of bus ports (list_any has_first tables)) tables)) ≡ Ok of_masters
@@ -257,13 +279,13 @@ masters-same bus ports members links of_masters named divided =
                 → (length links ≡ length of_masters) × (length of_masters ≤ MAX_JUDGED_MASTERS)
             last (Err e) z w = absurd (cc)
             last (Ok some) z w =
-                let found = link-values key.Master value links x in
+                let found = link-values top key.Master value links x in
                 let are = few part.Master MAX_JUDGED_MASTERS tables some z in
                 let count = table-values value part.Master tables found.0 found.1 at in
                 let parts = each-counts (master_of bus ports (list_any has_first some)) some of_masters w in
                 (omega (arith, found.2, count, ap length are.0, parts), omega (arith, are.1, parts))
 
-    go : (o : Option Data) → links_by key.Master o ≡ Ok links
+    go : (o : Option Data) → links_by top key.Master o ≡ Ok links
         → ((ok_or o (fault.Missing part.Master) >>= counted)
         >>= (λ tables. each (master_of bus ports (list_any has_first tables)) tables)) ≡ Ok of_masters
         → (length links ≡ length of_masters) × (length of_masters ≤ MAX_JUDGED_MASTERS)
@@ -283,8 +305,8 @@ same-counts file names parts system is makes named =
     let table = one-table file names parts named is in
     let links = links-are table.members names table.named in
     let divided = parts-are table.members parts table.divided in
-    let of_ports = ports-same divided.bus table.members names.ports parts.ports links.ports divided.ports in
-    let of_masters = masters-same divided.bus (names_of_ports parts.ports) table.members names.masters parts.masters links.masters divided.masters in
+    let of_ports = ports-same divided.bus links.bits table.members names.ports parts.ports links.ports divided.ports in
+    let of_masters = masters-same divided.bus links.bits (names_of_ports parts.ports) table.members names.masters parts.masters links.masters divided.masters in
     let ports_are = ap (λ (xs : List Port). length xs) makes.ports in
     let masters_are = ap (λ (xs : List Master). length xs) makes.masters in
     record {

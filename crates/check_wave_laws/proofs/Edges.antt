@@ -4,12 +4,13 @@ use Rattle.std.proofs.lemmas.Bool.{and_from, and_parts, both_ways, not-true, not
 use Rattle.std.proofs.lemmas.List.Elements.{Contains-append_cases}
 use Rattle.std.proofs.lemmas.Option.{same_Some}
 use Rattle.std.proofs.lemmas.Slice.Eq.{bytes_eq-Decides}
-use Rattle.check_samples.specs.Digits.{bits_of}
+use Rattle.check_samples.specs.Digits.{bits_of, joined_of, part_if_any, with_joined}
 use Rattle.check_samples.specs.Rows.{Rows, and_then, crosses, followed_by, hand_alone, has_edge, is_active, is_one, is_unsure, is_zero, no_rows, ready_of, rises, row_alone, row_at, rows_at, rows_of, unknown_hand, valid_of}
 use Rattle.check_samples.specs.declared.channel.Channel.{Channel}
 use Rattle.check_samples.specs.declared.channel.UnknownBit.{UnknownBit}
 use Rattle.check_samples.specs.declared.edges.Needs.{Needs}
 use Rattle.check_samples.specs.declared.signal.Signal.{Signal}
+use Rattle.check_samples.specs.declared.tap.Tap.{Tap}
 use Rattle.check_wave_laws.specs.Sampled.{AreInOrder, HasEdge, HidesReady, HidesValid, IsJoinedUntil, IsSampledBeat, Meets, Precedes, SampledBeat, WasReset, Wave, hidden_hand, is_whole, sampled_row, sampled_rows, shown_row, values_before, values_until}
 
 -- ---- rows, one after the other
@@ -260,19 +261,46 @@ not-both bits is0 is1 =
     let same : ◌≡◌ {A = ℕ} 48 49 = ap (λ (bs : List ℕ). get_or bs 0 0) (sym low ∙ high) in
     omega (arith, same)
 
+-- a value has the same digits before and behind others
+slot-before : (values more : List (List ℕ)) (slot : ℕ) (digits : List ℕ) → slice_get values slot ≡ Some digits
+    → slice_get (values ++ more) slot ≡ Some digits
+slot-before [] more slot digits is = absurd (cc)
+slot-before (value ∷ values) more zero digits is = is
+slot-before (value ∷ values) more (suc slot) digits is = slot-before values more slot digits is
+
+-- bits that are 1 are so too before what is put together
+one-before : (parts : List Tap) (values : List (List ℕ)) (tap : Tap) → is_one (bits_of values tap) ≡ true
+    → bits_of (with_joined parts values) tap ≡ bits_of values tap
+one-before parts values tap one = go (slice_get values tap.slot) refl one
+  where
+    go : (found : Option (List ℕ)) → slice_get values tap.slot ≡ found → is_one (part_if_any found tap) ≡ true
+        → bits_of (with_joined parts values) tap ≡ part_if_any found tap
+    go None is none = absurd (cc)
+    go (Some digits) is some =
+        ap (λ (found : Option (List ℕ)). part_if_any found tap)
+        (slot-before values (joined_of values parts ∷ []) tap.slot digits is)
+
+-- without a change of values no bits are 0 before a time and 1 at its end
+never-rises : (parts : List Tap) (values : List (List ℕ)) (tap : Tap)
+    → is_zero (bits_of (with_joined parts values) tap) ≡ true → is_one (bits_of values tap) ≡ true → ⊥
+never-rises parts values tap low high =
+    not-both (bits_of values tap) (subst (λ (bits : List ℕ). is_zero bits ≡ true) (one-before parts values tap high) low) high
+
 -- without a change of its values a time has no edge
 pub no-edge : (wave : Wave) (values : List (List ℕ)) (so : List (List ℕ) → Bool) (below : Option ℕ)
-    (one : HasEdge wave so below) → values_before wave one.time ≡ values → values_until wave one.time ≡ values → ⊥
+    (one : HasEdge wave so below) → values_before wave one.time ≡ with_joined wave.probes.joins values
+    → values_until wave one.time ≡ values → ⊥
 no-edge wave values so below one before until =
-    not-both (bits_of values wave.probes.clock)
+    never-rises wave.probes.joins values wave.probes.clock
     (subst (λ (vs : List (List ℕ)). is_zero (bits_of vs wave.probes.clock) ≡ true) before one.low)
     (subst (λ (vs : List (List ℕ)). is_one (bits_of vs wave.probes.clock) ≡ true) until one.high)
 
 -- nor has it a beat
-pub no-beat : (wave : Wave) (values : List (List ℕ)) (beat : SampledBeat) → values_before wave beat.time ≡ values
-    → values_until wave beat.time ≡ values → IsSampledBeat wave beat → ⊥
+pub no-beat : (wave : Wave) (values : List (List ℕ)) (beat : SampledBeat)
+    → values_before wave beat.time ≡ with_joined wave.probes.joins values → values_until wave beat.time ≡ values
+    → IsSampledBeat wave beat → ⊥
 no-beat wave values beat before until is =
-    not-both (bits_of values wave.probes.clock)
+    never-rises wave.probes.joins values wave.probes.clock
     (subst (λ (vs : List (List ℕ)). is_zero (bits_of vs wave.probes.clock) ≡ true) before is.low)
     (subst (λ (vs : List (List ℕ)). is_one (bits_of vs wave.probes.clock) ≡ true) until is.high)
 

@@ -12,14 +12,16 @@ use Rattle.check_beats.specs.declared.bus.Bus.{Bus}
 use Rattle.check_rows.specs.Buses.{HasBus, IsLinkOf, bus_of_link}
 use Rattle.check_vcd.specs.Header.{Var}
 use Rattle.check_vcd.specs.declared.range.Span.{Span}
+use Rattle.check_samples.specs.Signal.{signal_name}
 use Rattle.check_samples.specs.declared.signal.Signal.{Signal}
 use Rattle.check_samples.specs.declared.signal.Signal.TheVariants as signal
-use Rattle.check_signals.specs.Found.{LinkSources, NamedLink, NamesOf, asked_by, signals_asked, link_at, link_sources, links_from, named_before, names_at, numbered, owner_of, sources_of, width_in}
-use Rattle.check_signals.specs.Names.{SignalName}
-use Rattle.check_signals.specs.Source.{WantedSignal, Changing, Constant, SearchFault, Kept, Source, Twice, alone, constant_of, digit_in, left_out, measured, missing, source_by, source_in, too_wide, unfound, width_of, within}
-use Rattle.check_signals.specs.Wanted.{bits_fit, count_of, may_be_absent, may_be_unfound, wanted_of}
+use Rattle.check_signals.specs.Found.{LinkSources, NamedLink, NamesOf, signal_by, signals_named, parts_by, link_at, link_sources, links_from, named_before, names_at, numbered, owner_of, sources_of, width_in}
+use Rattle.check_signals.specs.Names.{Joined, Prefixed, SignalName, Wired}
+use Rattle.check_signals.specs.Source.{WantedSignal, Changing, Constant, SearchFault, Kept, Source, Twice, Width, alone, constant_of, digit_in, fitting, left_out, measured, missing, part_of, parts_bits, parts_of, source_by, source_in, too_wide, unfound, whole_of, width_of, within}
+use Rattle.check_signals.specs.Wanted.{bits_fit, constant_bits, count_of, may_be_absent, may_be_unfound, wanted_of}
 use Rattle.check_signals.specs.Wires.{Wire, places_in, sought, wider, widest_from, widest_of, wire_at, wire_by, wire_of, wires, wires_called}
 use Rattle.check_signals.specs.declared.keys.TheConstants.{SIGNALS}
+use Rattle.check_signals.specs.declared.parts.LinkSignal.{LinkSignal}
 use Rattle.check_signals.specs.declared.signal_fault.SignalOwner.{SignalOwner}
 use Rattle.check_signals.specs.declared.source.TheConstants.{MAX_WIDTH}
 use Rattle.check_signals.specs.declared.wanted.Wanted.{Wanted}
@@ -59,7 +61,7 @@ each-has {A} P (y ∷ ys) x all (suc k, inside, is) = each-has P ys x all.1 (k, 
 -- ---- one name
 
 -- so many bits are as many as are wanted
-abbrev HasBits : Wanted → ℕ → Type 0
+abbrev pub HasBits : Wanted → ℕ → Type 0
 HasBits (Exactly count) bits = bits ≡ count
 HasBits (AtMost count) bits = bits ≤ count
 HasBits (Optional count) bits = bits ≤ count
@@ -84,15 +86,15 @@ pub record SourceFits (vars : List Var) (wanted : Wanted) (s : Source) : Type 0 
   pub bits : HasBits wanted (s.to - s.from)
 
 constant-fits : (vars : List Var) (wanted : Wanted) (digit : ℕ) → 0 < count_of wanted
-    → SourceFits vars wanted (constant_of digit (count_of wanted))
+    → SourceFits vars wanted (constant_of digit (constant_bits wanted))
 constant-fits vars (Exactly count) digit some =
     record { kept = some; from = omega arith; inside = omega arith; bits = omega arith }
 constant-fits vars (AtMost count) digit some =
-    record { kept = some; from = omega arith; inside = omega arith; bits = omega arith }
+    record { kept = omega arith; from = omega arith; inside = omega arith; bits = omega (arith, some) }
 constant-fits vars (Optional count) digit some =
-    record { kept = some; from = omega arith; inside = omega arith; bits = omega arith }
+    record { kept = omega arith; from = omega arith; inside = omega arith; bits = omega (arith, some) }
 constant-fits vars (Extra count) digit some =
-    record { kept = some; from = omega arith; inside = omega arith; bits = omega arith }
+    record { kept = omega arith; from = omega arith; inside = omega arith; bits = omega (arith, some) }
 
 -- a signal that a design leaves out has no bits
 left-out-fits : (vars : List Var) (wanted : Wanted) → may_be_absent wanted ≡ true → SourceFits vars wanted left_out
@@ -248,7 +250,7 @@ source-fits vars asked s some is =
   where
     go : (d : Option ℕ) → source_by vars asked d ≡ Ok s → SourceFits vars asked.wanted s
     go (Some digit) e =
-        let same : constant_of digit (count_of asked.wanted) ≡ s = cc in
+        let same : constant_of digit (constant_bits asked.wanted) ≡ s = cc in
         subst (SourceFits vars asked.wanted) same (constant-fits vars asked.wanted digit some)
     go None e =
         let looked = sought vars asked.name in
@@ -266,12 +268,91 @@ source-fits vars asked s some is =
 
 -- ---- the names of a link
 
--- the sources of signals at a link whose bus has so many bytes, each with as many bits as its signal has
-abbrev pub FitsAll : List Var → ℕ → List Signal → List Source → Type 0
+-- a part lies within its value
+pub record PartFits (vars : List Var) (s : Source) : Type 0 where
+  pub kept : KeptFits vars s.kept
+  pub from : s.from ≤ s.to
+  pub inside : s.to ≤ width_in s.kept
+
+-- parts have as many bits together as are wanted, each within its value
+pub record PartsFit (vars : List Var) (wanted : Wanted) (parts : List Source) : Type 0 where
+  pub each : Each (PartFits vars) parts
+  pub bits : HasBits wanted (parts_bits parts)
+
+whole-fits : (vars : List Var) (signal : LinkSignal) (name : List ℕ) (is_prefixed : Bool) (parts : List Source)
+    → 0 < count_of signal.wanted → whole_of vars signal name is_prefixed ≡ Ok parts → PartsFit vars signal.wanted parts
+whole-fits vars signal name is_prefixed parts some is = go (source_in vars asked) refl is
+  where
+    asked : WantedSignal
+    asked = record { owner = signal.owner; name = name; is_prefixed = is_prefixed; wanted = signal.wanted }
+
+    go : (r : Result Source SearchFault) → source_in vars asked ≡ r → (r >>= (λ source. Ok (source ∷ []))) ≡ Ok parts
+        → PartsFit vars signal.wanted parts
+    go (Err fault) x e = absurd (cc)
+    go (Ok s) x e =
+        let same : s ∷ [] ≡ parts = cc in
+        let fits = source-fits vars asked s some x in
+        let bits : s.to - s.from ≡ parts_bits (s ∷ []) = omega arith in
+        subst (PartsFit vars signal.wanted) same (record {
+          each = (record { kept = fits.kept; from = fits.from; inside = fits.inside }, tt);
+          bits = subst (HasBits signal.wanted) bits fits.bits;
+        })
+
+part-fits : (vars : List Var) (signal : LinkSignal) (name : List ℕ) (s : Source) → part_of vars signal name ≡ Ok s
+    → PartFits vars s
+part-fits vars signal name s is =
+    let fits = source-fits vars
+    (record { owner = signal.owner; name = name; is_prefixed = false; wanted = AtMost MAX_WIDTH }) s (omega arith) is in
+    record { kept = fits.kept; from = fits.from; inside = fits.inside }
+
+each-part-fits : (vars : List Var) (signal : LinkSignal) (names : List (List ℕ)) (parts : List Source)
+    → each (part_of vars signal) names ≡ Ok parts → Each (PartFits vars) parts
+each-part-fits vars signal [] parts is = let same : [] ≡ parts = cc in subst (Each (PartFits vars)) same tt
+each-part-fits vars signal (name ∷ names) parts is =
+    go (part_of vars signal name) (each (part_of vars signal) names) refl
+    (λ more x. each-part-fits vars signal names more x) is
+  where
+    go : (r : Result Source SearchFault) (rest : Result (List Source) SearchFault) → part_of vars signal name ≡ r
+        → ((more : List Source) → rest ≡ Ok more → Each (PartFits vars) more)
+        → (r >>= (λ y. rest >>= (λ ys. Ok (y ∷ ys)))) ≡ Ok parts → Each (PartFits vars) parts
+    go (Err fault) rest x y e = absurd (cc)
+    go (Ok s) (Err fault) x y e = absurd (cc)
+    go (Ok s) (Ok more) x y e =
+        let same : s ∷ more ≡ parts = cc in
+        subst (Each (PartFits vars)) same (part-fits vars signal name s x, y more refl)
+
+joined-fits : (vars : List Var) (signal : LinkSignal) (names : List (List ℕ)) (parts : List Source)
+    → (each (part_of vars signal) names >>= fitting signal) ≡ Ok parts → PartsFit vars signal.wanted parts
+joined-fits vars signal names parts is =
+    go (each (part_of vars signal) names) (λ some x. each-part-fits vars signal names some x) is
+  where
+    by : (some : List Source) → Each (PartFits vars) some → (t : Bool) → bits_fit signal.wanted (parts_bits some) ≡ t
+        → cond t (Ok some) (Err (Width signal.owner (signal_name signal.which) (parts_bits some) (count_of signal.wanted)))
+        ≡ Ok parts
+        → PartsFit vars signal.wanted parts
+    by some all true x e =
+        let same : some ≡ parts = cc in
+        subst (PartsFit vars signal.wanted) same
+        (record { each = all; bits = bits-fit signal.wanted (parts_bits some) x })
+    by some all false x e = absurd (cc)
+
+    go : (r : Result (List Source) SearchFault) → ((some : List Source) → r ≡ Ok some → Each (PartFits vars) some)
+        → (r >>= fitting signal) ≡ Ok parts → PartsFit vars signal.wanted parts
+    go (Err fault) each e = absurd (cc)
+    go (Ok some) each e = by some (each some refl) (bits_fit signal.wanted (parts_bits some)) refl e
+
+parts-fit : (vars : List Var) (signal : LinkSignal) (name : SignalName) (parts : List Source) → 0 < count_of signal.wanted
+    → parts_of vars signal name ≡ Ok parts → PartsFit vars signal.wanted parts
+parts-fit vars signal (Prefixed name) parts some is = whole-fits vars signal name true parts some is
+parts-fit vars signal (Wired name) parts some is = whole-fits vars signal name false parts some is
+parts-fit vars signal (Joined names) parts some is = joined-fits vars signal names parts is
+
+-- the parts of signals at a link whose bus has so many bytes, each with as many bits as its signal has
+abbrev pub FitsAll : List Var → ℕ → List Signal → List (List Source) → Type 0
 FitsAll vars bus signals [] = ⊤
-FitsAll vars bus [] (s ∷ sources) = ⊥
-FitsAll vars bus (which ∷ signals) (s ∷ sources) =
-    SourceFits vars (wanted_of which bus) s × FitsAll vars bus signals sources
+FitsAll vars bus [] (parts ∷ found) = ⊥
+FitsAll vars bus (which ∷ signals) (parts ∷ found) =
+    PartsFit vars (wanted_of which bus) parts × FitsAll vars bus signals found
 
 wanted-some : (which : Signal) (bus : ℕ) → 0 < bus → 0 < count_of (wanted_of which bus)
 wanted-some signal.AValid bus some = omega arith
@@ -295,33 +376,33 @@ wanted-some signal.DDenied bus some = omega arith
 wanted-some signal.DCorrupt bus some = omega arith
 
 all-fit : (vars : List Var) (owner : SignalOwner) (bus : ℕ) (signals : List Signal) (names : List SignalName)
-    (sources : List Source) → 0 < bus → each (source_in vars) (signals_asked owner bus signals names) ≡ Ok sources
-    → FitsAll vars bus signals sources
-all-fit vars owner bus [] names sources some is =
-    let same : [] ≡ sources = cc in subst (FitsAll vars bus []) same tt
-all-fit vars owner bus (which ∷ signals) [] sources some is =
-    let same : [] ≡ sources = cc in subst (FitsAll vars bus (which ∷ signals)) same tt
-all-fit vars owner bus (which ∷ signals) (name ∷ names) sources some is =
-    go (source_in vars (asked_by owner bus (which, name))) (each (source_in vars) (signals_asked owner bus signals names)) refl
+    (found : List (List Source)) → 0 < bus → signals_named vars owner bus signals names ≡ Ok found
+    → FitsAll vars bus signals found
+all-fit vars owner bus [] names found some is =
+    let same : [] ≡ found = cc in subst (FitsAll vars bus []) same tt
+all-fit vars owner bus (which ∷ signals) [] found some is =
+    let same : [] ≡ found = cc in subst (FitsAll vars bus (which ∷ signals)) same tt
+all-fit vars owner bus (which ∷ signals) (name ∷ names) found some is =
+    go (parts_by vars owner bus (which, name)) (signals_named vars owner bus signals names) refl
     (λ more fits. all-fit vars owner bus signals names more some fits) is
   where
-    go : (r : Result Source SearchFault) (rest : Result (List Source) SearchFault)
-        → source_in vars (asked_by owner bus (which, name)) ≡ r
-        → ((more : List Source) → rest ≡ Ok more → FitsAll vars bus signals more)
-        → (r >>= (λ y. rest >>= (λ ys. Ok (y ∷ ys)))) ≡ Ok sources → FitsAll vars bus (which ∷ signals) sources
+    go : (r : Result (List Source) SearchFault) (rest : Result (List (List Source)) SearchFault)
+        → parts_by vars owner bus (which, name) ≡ r
+        → ((more : List (List Source)) → rest ≡ Ok more → FitsAll vars bus signals more)
+        → (r >>= (λ y. rest >>= (λ ys. Ok (y ∷ ys)))) ≡ Ok found → FitsAll vars bus (which ∷ signals) found
     go (Err fault) rest x y e = absurd (cc)
-    go (Ok s) (Err fault) x y e = absurd (cc)
-    go (Ok s) (Ok more) x y e =
-        let same : s ∷ more ≡ sources = cc in
+    go (Ok parts) (Err fault) x y e = absurd (cc)
+    go (Ok parts) (Ok more) x y e =
+        let same : parts ∷ more ≡ found = cc in
         subst (FitsAll vars bus (which ∷ signals)) same (
-          source-fits vars (asked_by owner bus (which, name)) s (wanted-some which bus some) x,
+          parts-fit vars (signal_by owner bus which) name parts (wanted-some which bus some) x,
           y more refl,
         )
 
--- a link that the system has, whose signals' sources fit
+-- a link that the system has, the parts of whose signals fit
 pub record LinkFits (vars : List Var) (masters ports : List Bus) (found : LinkSources) : Type 0 where
   pub link : IsLinkOf masters ports found.link
-  pub sources : FitsAll vars (bus_of_link masters ports found.link) SIGNALS found.sources
+  pub signals : FitsAll vars (bus_of_link masters ports found.link) SIGNALS found.signals
 
 -- ---- the links of a kind
 
@@ -350,18 +431,18 @@ link-fits : (vars : List Var) (masters ports : List Bus) (named : NamedLink) (fo
 link-fits vars masters ports named found has is =
     go (sources_of vars (owner_of named.link) (bus_bytes named.bus) named.names) refl is
   where
-    go : (r : Result (List Source) SearchFault)
+    go : (r : Result (List (List Source)) SearchFault)
         → sources_of vars (owner_of named.link) (bus_bytes named.bus) named.names ≡ r
-        → (r >>= (λ sources. Ok (record { link = named.link; sources = sources }))) ≡ Ok found
+        → (r >>= (λ signals. Ok (record { link = named.link; signals = signals }))) ≡ Ok found
         → LinkFits vars masters ports found
     go (Err fault) x e = absurd (cc)
-    go (Ok sources) x e =
-        let one : LinkSources = record { link = named.link; sources = sources } in
+    go (Ok signals) x e =
+        let one : LinkSources = record { link = named.link; signals = signals } in
         let same : one ≡ found = cc in
         let there = link-there masters ports named.link named.bus has in
         subst (LinkFits vars masters ports) same (record {
           link = there.inside;
-          sources = all-fit vars (owner_of named.link) (bus_of_link masters ports named.link) SIGNALS named.names sources
+          signals = all-fit vars (owner_of named.link) (bus_of_link masters ports named.link) SIGNALS named.names signals
               there.some
               (ap (λ (bytes : ℕ). sources_of vars (owner_of named.link) bytes named.names) there.bytes ∙ x);
         })

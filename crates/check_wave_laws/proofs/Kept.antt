@@ -1,5 +1,5 @@
 -- What is kept has the bits of all that is looked at.
-use Rattle.std.proofs.Common.{◌≡◌, ◌∙◌, ℕ, suc, ◌+◌, ◌-◌, ◌*◌, ◌<◌, ◌≤◌, ◌==◌, nat_lt, Bool, true, false, ◌||◌, cond, List, [], ◌∷◌, ◌++◌, length, get_or, map, replicate, Option, Some, None, Result, Ok, Err, arith, refl, sym, ap, subst, append_assoc, length-append}
+use Rattle.std.proofs.Common.{◌≡◌, ◌∙◌, ℕ, zero, suc, ◌+◌, ◌-◌, ◌*◌, ◌<◌, ◌≤◌, ◌==◌, nat_lt, Bool, true, false, ◌||◌, cond, List, [], ◌∷◌, ◌++◌, length, get_or, map, replicate, Option, Some, None, Result, Ok, Err, arith, refl, sym, ap, subst, append_assoc}
 use Rattle.std.specs.Prelude.{⊤}
 use Rattle.std.specs.List.{cons_option}
 use Rattle.std.specs.Str.{bytes_eq}
@@ -18,15 +18,18 @@ use Rattle.check_vcd.specs.declared.codes.Coded.{Coded}
 use Rattle.check_samples.specs.Digits.{unknown}
 use Rattle.check_samples.specs.declared.channel.BeatTaps.TheVariants.{A, D}
 use Rattle.check_samples.specs.declared.channel.Channel.{Channel}
-use Rattle.check_signals.specs.Found.{Found, LinkSources, FoundSources, all_by, all_of, code_in, digits_in, distinct, find_of, flat, found_in, found_of, in_order, is_kept, is_same, values_kept, links_from, pair_at, channels_of_link, channel_pairs, slot_place, sampling_of, slot_one, slots_from, sources_in, system_source, tap_by, width_in}
+use Rattle.check_signals.specs.Found.{Found, LinkSources, FoundSources, all_by, all_of, all_parts, bits_in, code_in, digits_in, distinct, find_of, flat, found_in, found_of, in_order, is_kept, is_same, joined_bits, joins_in, joins_of, link_bits, link_joins, values_kept, links_from, channels_of_link, channel_pairs, slot_place, sampling_of, slot_one, slots_from, sources_in, system_source, tap_by, tap_of, taps_from, width_in}
 use Rattle.check_signals.specs.Names.{SignalNames}
-use Rattle.check_signals.specs.Source.{Changing, Constant, SearchFault, Kept, Source, width_by, width_of}
+use Rattle.check_signals.specs.Source.{Changing, Constant, SearchFault, Kept, Source, parts_bits, width_by, width_of}
 use Rattle.check_signals.specs.declared.keys.TheConstants.{SIGNALS}
 use Rattle.check_samples.specs.declared.signal.Signal.{Signal}
+use Rattle.check_samples.specs.declared.tap.Tap.{Tap}
+use Rattle.check_signals.specs.Wanted.{wanted_of}
 use Rattle.check_signals.specs.declared.signal_fault.SignalOwner.TheVariants as owner
-use Rattle.check_signals.specs.declared.wanted.Wanted.TheVariants.{AtMost}
-use Rattle.check_wave_laws.specs.Text.{ChannelFits, FindFits, SamplingFits, TakesBeat}
-use Rattle.check_wave_laws.proofs.Found.{Each, FitsAll, KeptFits, LinkFits, SourceFits, each-append, each-first, each-has, each-map, each-second, masters-fit, ports-fit, source-fits}
+use Rattle.check_signals.specs.declared.wanted.Wanted.{Wanted}
+use Rattle.check_signals.specs.declared.wanted.Wanted.TheVariants.{AtMost, Exactly}
+use Rattle.check_wave_laws.specs.Text.{AllLieWithin, ChannelFits, FindFits, SamplingFits, TakesBeat, taps_bits}
+use Rattle.check_wave_laws.proofs.Found.{Each, FitsAll, HasBits, KeptFits, LinkFits, PartFits, PartsFit, SourceFits, each-append, each-first, each-has, each-map, each-second, masters-fit, ports-fit, source-fits}
 
 -- ---- one value and another
 
@@ -123,18 +126,24 @@ SlotFits kept s = get_or (map width_in kept) (slot_place kept s.kept) 0 ≡ widt
 abbrev ValueFits : List Var → Source → Type 0
 ValueFits vars s = KeptFits vars s.kept
 
-values-fit : (vars : List Var) (bus : ℕ) (signals : List Signal) (sources : List Source) → FitsAll vars bus signals sources
-    → Each (ValueFits vars) sources
+values-of-parts : (vars : List Var) (parts : List Source) → Each (PartFits vars) parts → Each (ValueFits vars) parts
+values-of-parts vars [] fits = tt
+values-of-parts vars (s ∷ parts) fits = (fits.0.kept, values-of-parts vars parts fits.1)
+
+values-fit : (vars : List Var) (bus : ℕ) (signals : List Signal) (found : List (List Source))
+    → FitsAll vars bus signals found → Each (ValueFits vars) (all_parts found)
 values-fit vars bus signals [] fits = tt
-values-fit vars bus [] (s ∷ sources) fits = absurd fits
-values-fit vars bus (which ∷ signals) (s ∷ sources) fits = (fits.0.kept, values-fit vars bus signals sources fits.1)
+values-fit vars bus [] (parts ∷ found) fits = absurd fits
+values-fit vars bus (which ∷ signals) (parts ∷ found) fits =
+    each-append (ValueFits vars) parts (all_parts found) (values-of-parts vars parts fits.0.each)
+    (values-fit vars bus signals found fits.1)
 
 flat-fits : (vars : List Var) (masters ports : List Bus) (links : List LinkSources)
     → Each (LinkFits vars masters ports) links → Each (ValueFits vars) (flat links)
 flat-fits vars masters ports [] fits = tt
 flat-fits vars masters ports (found ∷ links) fits =
-    each-append (ValueFits vars) found.sources (flat links)
-    (values-fit vars (bus_of_link masters ports found.link) SIGNALS found.sources fits.0.sources)
+    each-append (ValueFits vars) (all_parts found.signals) (flat links)
+    (values-fit vars (bus_of_link masters ports found.link) SIGNALS found.signals fits.0.signals)
     (flat-fits vars masters ports links fits.1)
 
 slots-fit : (vars : List Var) (kept : List Kept) (sources : List Source) → Each (KeptFits vars) kept
@@ -165,58 +174,122 @@ abbrev PairFits : List Bus → List Bus → List ℕ → Channel × Channel → 
 PairFits masters ports widths pair =
     ChannelFits masters ports widths pair.0 × ChannelFits masters ports widths pair.1
 
-takes : (kept : List Kept) (s : Source) (n : ℕ) → s.from ≤ s.to → s.to ≤ width_in s.kept → s.to - s.from ≡ n
-    → SlotFits kept s → TakesBeat (map width_in kept) (tap_by kept s) n
-takes kept s n from inside bits slot = record {
-  from = from;
-  inside = subst (λ (w : ℕ). s.to ≤ w) (sym slot) inside;
-  bits = bits;
-}
+-- a tap lies within the value of its slot, and has as many bits as its signal
+record TapFits (widths : List ℕ) (wanted : Wanted) (tap : Tap) : Type 0 where
+  from : tap.from ≤ tap.to
+  inside : tap.to ≤ get_or widths tap.slot 0
+  bits : HasBits wanted (tap.to - tap.from)
 
-pair-fits : (vars : List Var) (masters ports : List Bus) (kept : List Kept) (link : Link) (sources : List Source)
-    (pair : Channel × Channel) → IsLinkOf masters ports link → FitsAll vars (bus_of_link masters ports link) SIGNALS sources
-    → Each (SlotFits kept) sources → channels_of_link link (map (tap_by kept) sources) ≡ Some pair
-    → PairFits masters ports (map width_in kept) pair
-pair-fits vars masters ports kept link
+abbrev TapsFit : List ℕ → ℕ → List Signal → List Tap → Type 0
+TapsFit widths bus signals [] = ⊤
+TapsFit widths bus [] (tap ∷ taps) = ⊥
+TapsFit widths bus (which ∷ signals) (tap ∷ taps) =
+    TapFits widths (wanted_of which bus) tap × TapsFit widths bus signals taps
+
+-- what stands before more widths
+get-before : (widths more : List ℕ) (slot : ℕ) → get_or widths slot 0 ≤ get_or (widths ++ more) slot 0
+get-before [] more slot = omega arith
+get-before (width ∷ widths) more zero = omega arith
+get-before (width ∷ widths) more (suc slot) = get-before widths more slot
+
+-- and what stands behind those of the values that are kept
+get-behind : (kept : List Kept) (total : ℕ) → get_or (map width_in kept ++ (total ∷ [])) (length kept) 0 ≡ total
+get-behind [] total = refl
+get-behind (value ∷ kept) total = get-behind kept total
+
+part-inside : (kept : List Kept) (s : Source) → s.to ≤ width_in s.kept → SlotFits kept s
+    → s.to ≤ get_or (map width_in kept) (slot_place kept s.kept) 0
+part-inside kept s inside slot = subst (λ (w : ℕ). s.to ≤ w) (sym slot) inside
+
+-- a signal of several parts is some bits of what is put together
+several-fits : (vars : List Var) (kept : List Kept) (total before : ℕ) (wanted : Wanted) (parts : List Source)
+    → HasBits wanted (parts_bits parts) → before + parts_bits parts ≤ total
+    → TapFits (map width_in kept ++ (total ∷ [])) wanted
+    (record { slot = length kept; from = before; to = before + parts_bits parts })
+several-fits vars kept total before wanted parts bits room =
+    let count : parts_bits parts ≡ before + parts_bits parts - before = omega arith in
+    record {
+      from = omega arith;
+      inside = subst (λ (w : ℕ). before + parts_bits parts ≤ w) (sym (get-behind kept total)) room;
+      bits = subst (HasBits wanted) count bits;
+    }
+
+tap-fits : (vars : List Var) (kept : List Kept) (total before : ℕ) (wanted : Wanted) (parts : List Source)
+    → PartsFit vars wanted parts → Each (SlotFits kept) parts → before + joined_bits parts ≤ total
+    → TapFits (map width_in kept ++ (total ∷ [])) wanted (tap_of kept before parts)
+tap-fits vars kept total before wanted [] fits slots room = several-fits vars kept total before wanted [] fits.bits room
+tap-fits vars kept total before wanted (s ∷ []) fits slots room =
+    let count : parts_bits (s ∷ []) ≡ s.to - s.from = omega arith in
+    record {
+      from = fits.each.0.from;
+      inside = omega (
+        arith,
+        part-inside kept s fits.each.0.inside slots.0,
+        get-before (map width_in kept) (total ∷ []) (slot_place kept s.kept),
+      );
+      bits = subst (HasBits wanted) count fits.bits;
+    }
+tap-fits vars kept total before wanted (s ∷ (r ∷ parts)) fits slots room =
+    several-fits vars kept total before wanted (s ∷ (r ∷ parts)) fits.bits room
+
+taps-fit : (vars : List Var) (kept : List Kept) (total before bus : ℕ) (signals : List Signal)
+    (found : List (List Source)) → FitsAll vars bus signals found → Each (SlotFits kept) (all_parts found)
+    → before + bits_in found ≤ total
+    → TapsFit (map width_in kept ++ (total ∷ [])) bus signals (taps_from kept before found)
+taps-fit vars kept total before bus signals [] fits slots room = tt
+taps-fit vars kept total before bus [] (parts ∷ found) fits slots room = absurd fits
+taps-fit vars kept total before bus (which ∷ signals) (parts ∷ found) fits slots room = (
+  tap-fits vars kept total before (wanted_of which bus) parts fits.0
+      (each-first (SlotFits kept) parts (all_parts found) slots) (omega (arith, room)),
+  taps-fit vars kept total (before + joined_bits parts) bus signals found fits.1
+      (each-second (SlotFits kept) parts (all_parts found) slots) (omega (arith, room)),
+)
+
+takes : (widths : List ℕ) (tap : Tap) (n : ℕ) → TapFits widths (Exactly n) tap → TakesBeat widths tap n
+takes widths tap n fits = record { from = fits.from; inside = fits.inside; bits = fits.bits }
+
+pair-fits : (masters ports : List Bus) (widths : List ℕ) (link : Link) (taps : List Tap) (pair : Channel × Channel)
+    → IsLinkOf masters ports link → TapsFit widths (bus_of_link masters ports link) SIGNALS taps
+    → channels_of_link link taps ≡ Some pair → PairFits masters ports widths pair
+pair-fits masters ports widths link
     (a_valid ∷ a_ready ∷ a_opcode ∷ a_param ∷ a_size ∷ a_source ∷ a_address ∷ a_mask ∷ a_data ∷ a_corrupt ∷ d_valid
     ∷ d_ready ∷ d_opcode ∷ d_param ∷ d_size ∷ d_source ∷ d_data ∷ d_denied ∷ d_corrupt ∷ [])
-    pair one fits slots is =
+    pair one fits is =
     let f = fits.1.1 in
     let g = f.1.1.1.1.1 in
     let h = g.1.1.1.1.1 in
-    let r = slots.1.1.1.1.1.1.1 in
     let bus = bus_of_link masters ports link in
     let ask : Channel = record {
       link = link;
-      valid = tap_by kept a_valid;
-      ready = tap_by kept a_ready;
+      valid = a_valid;
+      ready = a_ready;
       beat = A (record {
-        opcode = tap_by kept a_opcode;
-        param = tap_by kept a_param;
-        size = tap_by kept a_size;
-        source = tap_by kept a_source;
-        address = tap_by kept a_address;
-        mask = tap_by kept a_mask;
-        «data» = tap_by kept a_data;
-        corrupt = tap_by kept a_corrupt;
+        opcode = a_opcode;
+        param = a_param;
+        size = a_size;
+        source = a_source;
+        address = a_address;
+        mask = a_mask;
+        «data» = a_data;
+        corrupt = a_corrupt;
       });
     } in
     let reply : Channel = record {
       link = link;
-      valid = tap_by kept d_valid;
-      ready = tap_by kept d_ready;
+      valid = d_valid;
+      ready = d_ready;
       beat = D (record {
-        opcode = tap_by kept d_opcode;
-        param = tap_by kept d_param;
-        size = tap_by kept d_size;
-        source = tap_by kept d_source;
-        «data» = tap_by kept d_data;
-        denied = tap_by kept d_denied;
-        corrupt = tap_by kept d_corrupt;
+        opcode = d_opcode;
+        param = d_param;
+        size = d_size;
+        source = d_source;
+        «data» = d_data;
+        denied = d_denied;
+        corrupt = d_corrupt;
       });
     } in
     let same : (ask, reply) ≡ pair = cc in
-    subst (PairFits masters ports (map width_in kept)) same (
+    subst (PairFits masters ports widths) same (
       record {
         link = one;
         taps = record {
@@ -224,8 +297,8 @@ pair-fits vars masters ports kept link
           param = f.1.0.bits;
           size = f.1.1.0.bits;
           source = f.1.1.1.0.bits;
-          mask = takes kept a_mask bus g.0.from g.0.inside g.0.bits r.0;
-          lanes = takes kept a_data (8 * bus) g.1.0.from g.1.0.inside g.1.0.bits r.1.0;
+          mask = takes widths a_mask bus g.0;
+          lanes = takes widths a_data (8 * bus) g.1.0;
           corrupt = g.1.1.0.bits;
         };
       },
@@ -236,31 +309,107 @@ pair-fits vars masters ports kept link
           param = h.1.0.bits;
           size = h.1.1.0.bits;
           source = h.1.1.1.0.bits;
-          lanes = takes kept d_data (8 * bus) h.1.1.1.1.0.from h.1.1.1.1.0.inside h.1.1.1.1.0.bits
-              r.1.1.1.1.1.1.1.1.1.0;
+          lanes = takes widths d_data (8 * bus) h.1.1.1.1.0;
           denied = h.1.1.1.1.1.0.bits;
           corrupt = h.1.1.1.1.1.1.0.bits;
         };
       },
     )
-pair-fits vars masters ports kept link sources pair one fits slots is = absurd (cc)
+pair-fits masters ports widths link taps pair one fits is = absurd (cc)
 
-pairs-fit : (vars : List Var) (masters ports : List Bus) (kept : List Kept) (links : List LinkSources)
-    → Each (LinkFits vars masters ports) links → Each (SlotFits kept) (flat links)
-    → Each (PairFits masters ports (map width_in kept)) (channel_pairs kept links)
-pairs-fit vars masters ports kept [] fits slots = tt
-pairs-fit vars masters ports kept (found ∷ links) fits slots =
-    go (pair_at kept found)
-    (λ pair is. pair-fits vars masters ports kept found.link found.sources pair fits.0.link fits.0.sources
-    (each-first (SlotFits kept) found.sources (flat links) slots) is)
-    (pairs-fit vars masters ports kept links fits.1 (each-second (SlotFits kept) found.sources (flat links) slots))
+-- the values that are kept, and behind them one of so many bits
+abbrev widths-with : List Kept → ℕ → List ℕ
+widths-with kept total = map width_in kept ++ (total ∷ [])
+
+pairs-fit : (vars : List Var) (masters ports : List Bus) (kept : List Kept) (total before : ℕ) (links : List LinkSources)
+    → Each (LinkFits vars masters ports) links → Each (SlotFits kept) (flat links) → before + link_bits links ≤ total
+    → Each (PairFits masters ports (widths-with kept total)) (channel_pairs kept before links)
+pairs-fit vars masters ports kept total before [] fits slots room = tt
+pairs-fit vars masters ports kept total before (found ∷ links) fits slots room =
+    go (channels_of_link found.link (taps_from kept before found.signals))
+    (λ pair is. pair-fits masters ports (widths-with kept total) found.link (taps_from kept before found.signals) pair
+    fits.0.link (taps-fit vars kept total before (bus_of_link masters ports found.link) SIGNALS found.signals fits.0.signals
+    (each-first (SlotFits kept) (all_parts found.signals) (flat links) slots) (omega (arith, room))) is)
+    (pairs-fit vars masters ports kept total (before + bits_in found.signals) links fits.1
+    (each-second (SlotFits kept) (all_parts found.signals) (flat links) slots) (omega (arith, room)))
   where
     go : (o : Option (Channel × Channel))
-        → ((pair : Channel × Channel) → o ≡ Some pair → PairFits masters ports (map width_in kept) pair)
-        → Each (PairFits masters ports (map width_in kept)) (channel_pairs kept links)
-        → Each (PairFits masters ports (map width_in kept)) (cons_option o (channel_pairs kept links))
+        → ((pair : Channel × Channel) → o ≡ Some pair → PairFits masters ports (widths-with kept total) pair)
+        → Each (PairFits masters ports (widths-with kept total))
+        (channel_pairs kept (before + bits_in found.signals) links)
+        → Each (PairFits masters ports (widths-with kept total))
+        (cons_option o (channel_pairs kept (before + bits_in found.signals) links))
     go None fit others = others
     go (Some pair) fit others = (fit pair refl, others)
+
+-- ---- what is put together
+
+taps-append : (some more : List Tap) → taps_bits (some ++ more) ≡ taps_bits some + taps_bits more
+taps-append [] more = omega arith
+taps-append (tap ∷ some) more = omega (arith, taps-append some more)
+
+parts-count : (kept : List Kept) (parts : List Source) → taps_bits (map (tap_by kept) parts) ≡ parts_bits parts
+parts-count kept [] = refl
+parts-count kept (s ∷ parts) = ap (λ (n : ℕ). (s.to - s.from) + n) (parts-count kept parts)
+
+joins-count : (kept : List Kept) (parts : List Source) → taps_bits (joins_of kept parts) ≡ joined_bits parts
+joins-count kept [] = refl
+joins-count kept (s ∷ []) = refl
+joins-count kept (s ∷ (r ∷ parts)) = parts-count kept (s ∷ (r ∷ parts))
+
+signals-count : (kept : List Kept) (found : List (List Source)) → taps_bits (joins_in kept found) ≡ bits_in found
+signals-count kept [] = refl
+signals-count kept (parts ∷ found) =
+    taps-append (joins_of kept parts) (joins_in kept found)
+    ∙ ap (λ (n : ℕ). n + taps_bits (joins_in kept found)) (joins-count kept parts)
+    ∙ ap (λ (n : ℕ). joined_bits parts + n) (signals-count kept found)
+
+links-count : (kept : List Kept) (links : List LinkSources) → taps_bits (link_joins kept links) ≡ link_bits links
+links-count kept [] = refl
+links-count kept (found ∷ links) =
+    taps-append (joins_in kept found.signals) (link_joins kept links)
+    ∙ ap (λ (n : ℕ). n + taps_bits (link_joins kept links)) (signals-count kept found.signals)
+    ∙ ap (λ (n : ℕ). bits_in found.signals + n) (links-count kept links)
+
+lie-append : (widths : List ℕ) (some more : List Tap) → AllLieWithin widths some → AllLieWithin widths more
+    → AllLieWithin widths (some ++ more)
+lie-append widths [] more one two = two
+lie-append widths (tap ∷ some) more one two = (one.0, lie-append widths some more one.1 two)
+
+parts-lie : (vars : List Var) (kept : List Kept) (parts : List Source) → Each (PartFits vars) parts
+    → Each (SlotFits kept) parts → AllLieWithin (map width_in kept) (map (tap_by kept) parts)
+parts-lie vars kept [] fits slots = tt
+parts-lie vars kept (s ∷ parts) fits slots = (
+  record { from = fits.0.from; inside = part-inside kept s fits.0.inside slots.0 },
+  parts-lie vars kept parts fits.1 slots.1,
+)
+
+joins-lie : (vars : List Var) (kept : List Kept) (parts : List Source) → Each (PartFits vars) parts
+    → Each (SlotFits kept) parts → AllLieWithin (map width_in kept) (joins_of kept parts)
+joins-lie vars kept [] fits slots = tt
+joins-lie vars kept (s ∷ []) fits slots = tt
+joins-lie vars kept (s ∷ (r ∷ parts)) fits slots = parts-lie vars kept (s ∷ (r ∷ parts)) fits slots
+
+signals-lie : (vars : List Var) (kept : List Kept) (bus : ℕ) (signals : List Signal) (found : List (List Source))
+    → FitsAll vars bus signals found → Each (SlotFits kept) (all_parts found)
+    → AllLieWithin (map width_in kept) (joins_in kept found)
+signals-lie vars kept bus signals [] fits slots = tt
+signals-lie vars kept bus [] (parts ∷ found) fits slots = absurd fits
+signals-lie vars kept bus (which ∷ signals) (parts ∷ found) fits slots =
+    lie-append (map width_in kept) (joins_of kept parts) (joins_in kept found)
+    (joins-lie vars kept parts fits.0.each (each-first (SlotFits kept) parts (all_parts found) slots))
+    (signals-lie vars kept bus signals found fits.1 (each-second (SlotFits kept) parts (all_parts found) slots))
+
+links-lie : (vars : List Var) (masters ports : List Bus) (kept : List Kept) (links : List LinkSources)
+    → Each (LinkFits vars masters ports) links → Each (SlotFits kept) (flat links)
+    → AllLieWithin (map width_in kept) (link_joins kept links)
+links-lie vars masters ports kept [] fits slots = tt
+links-lie vars masters ports kept (found ∷ links) fits slots =
+    lie-append (map width_in kept) (joins_in kept found.signals) (link_joins kept links)
+    (signals-lie vars kept (bus_of_link masters ports found.link) SIGNALS found.signals fits.0.signals
+    (each-first (SlotFits kept) (all_parts found.signals) (flat links) slots))
+    (links-lie vars masters ports kept links fits.1
+    (each-second (SlotFits kept) (all_parts found.signals) (flat links) slots))
 
 order-fits : (masters ports : List Bus) (widths : List ℕ) (of_ports of_masters : List (Channel × Channel))
     → Each (PairFits masters ports widths) of_ports → Each (PairFits masters ports widths) of_masters
@@ -279,25 +428,9 @@ order-fits masters ports widths of_ports of_masters one two =
 
 -- ---- the values before a dump's body
 
-unknown-widths : (kept : List Kept) → map length (map (λ value. unknown (width_in value)) kept) ≡ map width_in kept
-unknown-widths [] = refl
-unknown-widths (value ∷ kept) =
-    ap (λ (n : ℕ). n ∷ map length (map (λ value. unknown (width_in value)) kept))
-    (length-replicate (width_in value) 120)
-    ∙ ap (λ (ws : List ℕ). width_in value ∷ ws) (unknown-widths kept)
-
 digits-width : (vars : List Var) (value : Kept) → KeptFits vars value → length (digits_in value) ≡ width_in value
 digits-width vars (Changing code width) fits = length-replicate width 120
-digits-width vars (Constant digit width) fits = go ((digit == 48) || (digit == 49))
-  where
-    go : (t : Bool) → length (replicate (width - 1) (cond t 48 digit) ++ (digit ∷ [])) ≡ width
-    go t =
-        omega (
-          arith,
-          length-append (replicate (width - 1) (cond t 48 digit)) (digit ∷ []),
-          length-replicate (width - 1) (cond t 48 digit),
-          fits,
-        )
+digits-width vars (Constant digit width) fits = length-replicate width digit
 
 digits-widths : (vars : List Var) (kept : List Kept) → Each (KeptFits vars) kept
     → map length (map digits_in kept) ≡ map width_in kept
@@ -434,19 +567,29 @@ found-fits vars masters ports is_low sources fits =
     (flat-fits vars masters ports sources.ports fits.of_ports)
     (flat-fits vars masters ports sources.masters fits.of_masters))) in
     let slots = slots-of-others kept sources.clock sources.reset others are.slots in
-    let channels = order-fits masters ports (map width_in kept) (channel_pairs kept sources.ports)
-    (channel_pairs kept sources.masters)
-    (pairs-fit vars masters ports kept sources.ports fits.of_ports
-    (each-first (SlotFits kept) (flat sources.ports) (flat sources.masters) slots))
-    (pairs-fit vars masters ports kept sources.masters fits.of_masters
-    (each-second (SlotFits kept) (flat sources.ports) (flat sources.masters) slots)) in (
+    let of_ports = each-first (SlotFits kept) (flat sources.ports) (flat sources.masters) slots in
+    let of_masters = each-second (SlotFits kept) (flat sources.ports) (flat sources.masters) slots in
+    let first = link_joins kept sources.ports in
+    let second = link_joins kept sources.masters in
+    let total = taps_bits (first ++ second) in
+    let count : link_bits sources.ports + link_bits sources.masters ≡ total =
+    omega (arith, taps-append first second, links-count kept sources.ports, links-count kept sources.masters) in
+    let channels = order-fits masters ports (widths-with kept total) (channel_pairs kept 0 sources.ports)
+    (channel_pairs kept (link_bits sources.ports) sources.masters)
+    (pairs-fit vars masters ports kept total 0 sources.ports fits.of_ports of_ports (omega (arith, count)))
+    (pairs-fit vars masters ports kept total (link_bits sources.ports) sources.masters fits.of_masters of_masters
+    (omega (arith, count))) in (
       record {
-        before = unknown-widths kept;
+        before = tt;
         now = digits-widths vars kept are.values;
         time = tt;
+        joins = lie-append (map width_in kept) first second
+            (links-lie vars masters ports kept sources.ports fits.of_ports of_ports)
+            (links-lie vars masters ports kept sources.masters fits.of_masters of_masters);
         channels = λ which has.
-            each-has (ChannelFits masters ports (map width_in kept))
-            (in_order (channel_pairs kept sources.ports) (channel_pairs kept sources.masters)) which channels has;
+            each-has (ChannelFits masters ports (widths-with kept total))
+            (in_order (channel_pairs kept 0 sources.ports)
+            (channel_pairs kept (link_bits sources.ports) sources.masters)) which channels has;
       },
       find-fits vars kept are.values,
     )

@@ -4,7 +4,7 @@ use Rattle.std.specs.Prelude.{⊤, ◌↔◌}
 use Rattle.std.proofs.lemmas.Bool.{and_from, and_parts, both_ways, cases_lt, cond-false, cond-true, eq-eqb, le-leb, leb-true, ne_eqb, not-true}
 use Rattle.std.proofs.lemmas.List.Elements.{Contains-append_cases, Contains-append_left, Contains-append_right}
 use Rattle.check_vcd.specs.Body.{Happens, At, Sets, Resumes, Wrong}
-use Rattle.check_samples.specs.Digits.{bits_of}
+use Rattle.check_samples.specs.Digits.{bits_of, with_joined}
 use Rattle.check_samples.specs.Edges.{edge_fault, needs_of, no_edges, with_edge}
 use Rattle.check_vcd.specs.declared.fault.Mistake.TheVariants.{Gap}
 use Rattle.check_samples.specs.Left.{BeforeLine, end_in, end_of_edges}
@@ -85,6 +85,10 @@ module _ (wave : Wave) (time : Option ℕ) (next : ℕ) (one two : Rows) (less :
         ∙ sym (rows-append wave first.beats second.beats);
   }
 
+-- a sampler after another time began
+abbrev begun : Sampling → ℕ → Sampling
+begun s next = record s { before = with_joined s.probes.joins s.now; time = Some next; edges = edges_now s }
+
 -- ---- the present time ends
 
 -- the values before the present time, if it is known
@@ -103,7 +107,8 @@ record Ends (wave : Wave) (time next : Option ℕ) : Type 0 where
   whole : (early : ℕ) → StandsBelow next early → is_whole wave.cut early ≡ true
 
 module _ (wave : Wave) (time next : Option ℕ) (ends : Ends wave time next) where
-  before-is : (at : ℕ) → IsLess time at → StandsBelow next at → values_before wave at ≡ values_after wave ends.past
+  before-is : (at : ℕ) → IsLess time at → StandsBelow next at
+      → values_before wave at ≡ with_joined wave.probes.joins (values_after wave ends.past)
   before-is at less below =
       before-past wave ends.past ends.later at ends.changes
       (each-weaker (IsUpTo time) (λ other. is_before at other ≡ true) ends.past
@@ -487,7 +492,7 @@ module _ (wave : Wave) (time : Option ℕ) (next : ℕ) (happens : List Happens)
   unfolding later-ends
   later-edges = edges-next wave time (Some next) later-ends s runs.sampler (now-below time next less)
 
-  later-runs : Runs wave (Some next) happens (record s { before = s.now; time = Some next; edges = edges_now s })
+  later-runs : Runs wave (Some next) happens (begun s next)
   later-runs = record {
     past = runs.past;
     sampler = record {
@@ -495,7 +500,9 @@ module _ (wave : Wave) (time : Option ℕ) (next : ℕ) (happens : List Happens)
       probes = runs.sampler.probes;
       widths = runs.sampler.widths;
       now = runs.sampler.now;
-      before = runs.sampler.now ∙ sym (before-past wave runs.past (changes_after (Some next) happens) next runs.changes
+      before = ap (λ (p : Probes). with_joined p.joins s.now) runs.sampler.probes
+          ∙ ap (λ (vs : List (List ℕ)). with_joined wave.probes.joins vs) runs.sampler.now
+          ∙ sym (before-past wave runs.past (changes_after (Some next) happens) next runs.changes
           (each-weaker (IsUpTo time) (λ at. is_before next at ≡ true) runs.past
           (λ at up. up-to-before time next at less up) runs.until)
           (each-weaker (IsFrom next) (λ at. is_before next at ≡ false) (changes_after (Some next) happens)
@@ -621,12 +628,12 @@ same-rows s next happens same =
 
 later-rows : (s : Sampling) (next : ℕ) (happens : List Happens) → is_at s next ≡ false
     → rows_from (At next ∷ happens) s
-    ≡ and_then (rows_now s) (rows_from happens (record s { before = s.now; time = Some next; edges = edges_now s }))
+    ≡ and_then (rows_now s) (rows_from happens (begun s next))
 unfolding rows_from
 later-rows s next happens other =
     cond-false (is_at s next) (rows_from happens s) (and_then (rows_now s) (rows_from happens (at_time s next))) other
     ∙ ap (λ (new : Sampling). and_then (rows_now s) (rows_from happens new))
-    (cond-false (is_at s next) s (record s { before = s.now; time = Some next; edges = edges_now s }) other)
+    (cond-false (is_at s next) s (begun s next) other)
 
 -- the rows of the rest, wherever it begins
 abbrev Continues : Wave → List Happens → Type 0
@@ -639,10 +646,10 @@ later-beats : (wave : Wave) (time : Option ℕ) (next : ℕ) (happens : List Hap
 unfolding later-ends
 later-beats wave time next happens s runs less other more =
     subst (λ (r : Rows). HasBeats wave time None r) (sym (later-rows s next happens other))
-    (join wave time next (rows_now s) (rows_from happens (record s { before = s.now; time = Some next; edges = edges_now s })) less
+    (join wave time next (rows_now s) (rows_from happens (begun s next)) less
     (ended wave time (Some next) (later-ends wave time next happens s runs less) s runs.sampler
     (now-below time next less))
-    (more (Some next) (record s { before = s.now; time = Some next; edges = edges_now s }) (later-runs wave time next happens s runs less)))
+    (more (Some next) (begun s next) (later-runs wave time next happens s runs less)))
 
 time-on : (wave : Wave) (time : Option ℕ) (next : ℕ) (happens : List Happens) (s : Sampling)
     → Runs wave time (At next ∷ happens) s → Continues wave happens
@@ -727,12 +734,12 @@ sampled happens s none edgeless rises =
 -- ---- how a whole dump ends
 
 at-same : (s : Sampling) (next : ℕ) → is_at s next ≡ true → at_time s next ≡ s
-at-same s next same = cond-true (is_at s next) s (record s { before = s.now; time = Some next; edges = edges_now s }) same
+at-same s next same = cond-true (is_at s next) s (begun s next) same
 
 at-later : (s : Sampling) (next : ℕ) → is_at s next ≡ false
-    → at_time s next ≡ record s { before = s.now; time = Some next; edges = edges_now s }
+    → at_time s next ≡ begun s next
 at-later s next other =
-    cond-false (is_at s next) s (record s { before = s.now; time = Some next; edges = edges_now s }) other
+    cond-false (is_at s next) s (begun s next) other
 
 abbrev Concludes : Wave → List Happens → Type 0
 Concludes wave happens = (time : Option ℕ) (s : Sampling) → Runs wave time happens s
@@ -743,7 +750,7 @@ time-ends : (wave : Wave) (time : Option ℕ) (next : ℕ) (happens : List Happe
 time-ends wave None next happens s runs more =
     subst (λ (new : Sampling). EndsSampled wave (end_in happens new))
     (sym (at-later s next (ap (λ (at : Option ℕ). is_time at next) runs.sampler.present)))
-    (more (Some next) (record s { before = s.now; time = Some next; edges = edges_now s })
+    (more (Some next) (begun s next)
     (later-runs wave None next happens s runs tt))
 time-ends wave (Some time) next happens s runs more = go (cases_lt time next)
   where
@@ -754,7 +761,7 @@ time-ends wave (Some time) next happens s runs more = go (cases_lt time next)
     go (inl less) =
         subst (λ (new : Sampling). EndsSampled wave (end_in happens new))
         (sym (at-later s next (test ∙ ne_eqb time next (λ same. omega (arith, less, same)))))
-        (more (Some next) (record s { before = s.now; time = Some next; edges = edges_now s })
+        (more (Some next) (begun s next)
         (later-runs wave (Some time) next happens s runs less))
     go (inr order) =
         let same : next ≡ time = omega (arith, order, leb-true time next runs.rises.0) in

@@ -2,12 +2,12 @@
 use Rattle.std.proofs.Common.{◌≡◌, ◌∙◌, ℕ, zero, suc, ◌+◌, ◌-◌, ◌*◌, ◌^◌, ◌<◌, ◌≤◌, nat_le, nat_lt, Bool, true, false, ◌&&◌, cond, List, [], ◌∷◌, ◌++◌, length, get_or, set, take, drop, map, replicate, slice_get, Option, Some, None, Result, Ok, Err, Contains, arith, refl, sym, ap, subst, append_assoc, append-nil, length-append, length-drop, length-take, length-take-le}
 use Rattle.std.specs.Option.{IfSome}
 use Rattle.std.proofs.lemmas.Bool.{and_from, le-leb}
-use Rattle.std.proofs.lemmas.List.{length-replicate, map-set, set-get_or}
+use Rattle.std.proofs.lemmas.List.{length-replicate, map-append, map-set, set-get_or}
 use Rattle.check_vcd.specs.Body.{At, Happens, Resumes, Sets, Wrong}
 use Rattle.check_beats.specs.declared.bus.Bus.{Bus}
 use Rattle.check_rows.specs.Buses.{bus_of_link}
 use Rattle.check_rows.specs.Row.{SeenRow}
-use Rattle.check_samples.specs.Digits.{bits_of, extended, fill_of, part_if_any, part_of, set_extended}
+use Rattle.check_samples.specs.Digits.{bits_of, extended, fill_of, joined_of, part_if_any, part_of, set_extended, with_joined}
 use Rattle.check_samples.specs.Edges.{needs_of}
 use Rattle.check_samples.specs.Rows.{Probes, Rows, and_then, crosses, followed_by, hand_alone, has_edge, no_rows, row_alone, row_at, rows_at, rows_of, unknown_hand}
 use Rattle.check_samples.specs.Sampling.{Sampling, at_time, edges_now, is_at, rows_from, rows_now, rows_when, with_value}
@@ -19,7 +19,7 @@ use Rattle.check_samples.specs.declared.edges.Needs.{Needs}
 use Rattle.check_samples.specs.declared.signal.Signal.{Signal}
 use Rattle.check_samples.specs.declared.tap.Tap.{Tap}
 use Rattle.check_wave_laws.specs.Seen.{BeatFits, row_of_channel}
-use Rattle.check_wave_laws.specs.Text.{AreRows, BeatTakes, ChannelFits, HappensFit, HasRows, SamplingFits, TakesBeat}
+use Rattle.check_wave_laws.specs.Text.{AllLieWithin, AreRows, BeatTakes, ChannelFits, HappensFit, HasRows, LiesWithin, SamplingFits, TakesBeat, taps_bits, with_joined_width}
 use Rattle.check_wave_laws.proofs.Beats.{beat-row}
 use Rattle.check_wave_laws.proofs.Buses.{bus-of}
 
@@ -212,17 +212,50 @@ value-fits masters ports s slot digits fits short = go (nat_lt slot (length s.no
       before = fits.before;
       now = same-widths s.now s.widths slot digits fits.now short;
       time = fits.time;
+      joins = fits.joins;
       channels = fits.channels;
     }
     go false = fits
+
+-- a part that lies within its value has all its bits
+part-bits : (values : List (List ℕ)) (widths : List ℕ) (part : Tap) → map length values ≡ widths → LiesWithin widths part
+    → length (bits_of values part) ≡ part.to - part.from
+part-bits values widths part has lies = go (part.to - part.from) refl
+  where
+    go : (n : ℕ) → part.to - part.from ≡ n → length (bits_of values part) ≡ n
+    go zero is = omega (arith, bits-few values part 0 (omega (arith, is)))
+    go (suc n) is =
+        bits-all values widths part (suc n) has (omega arith) (record { from = lies.from; inside = lies.inside; bits = is })
+
+joined-bits : (values : List (List ℕ)) (widths : List ℕ) (parts : List Tap) → map length values ≡ widths
+    → AllLieWithin widths parts → length (joined_of values parts) ≡ taps_bits parts
+joined-bits values widths [] has lie = refl
+joined-bits values widths (part ∷ parts) has lie =
+    length-append (bits_of values part) (joined_of values parts)
+    ∙ ap (λ (n : ℕ). n + length (joined_of values parts)) (part-bits values widths part has lie.0)
+    ∙ ap (λ (n : ℕ). (part.to - part.from) + n) (joined-bits values widths parts has lie.1)
+
+joined-widths : (values : List (List ℕ)) (widths : List ℕ) (parts : List Tap) → map length values ≡ widths
+    → AllLieWithin widths parts → map length (with_joined parts values) ≡ with_joined_width parts widths
+joined-widths values widths parts has lie =
+    map-append (λ (value : List ℕ). length value) values (joined_of values parts ∷ [])
+    ∙ ap (λ (ws : List ℕ). ws ++ (length (joined_of values parts) ∷ [])) has
+    ∙ ap (λ (n : ℕ). widths ++ (n ∷ [])) (joined-bits values widths parts has lie)
 
 pub time-fits : (masters ports : List Bus) (s : Sampling) (time : ℕ) → SamplingFits masters ports s → time < 2 ^ 64
     → SamplingFits masters ports (at_time s time)
 time-fits masters ports s time fits below = go (is_at s time)
   where
-    go : (t : Bool) → SamplingFits masters ports (cond t s (record s { before = s.now; time = Some time; edges = edges_now s }))
+    go : (t : Bool) → SamplingFits masters ports
+        (cond t s (record s { before = with_joined s.probes.joins s.now; time = Some time; edges = edges_now s }))
     go true = fits
-    go false = record { before = fits.now; now = fits.now; time = below; channels = fits.channels }
+    go false = record {
+      before = joined-widths s.now s.widths s.probes.joins fits.now fits.joins;
+      now = fits.now;
+      time = below;
+      joins = fits.joins;
+      channels = fits.channels;
+    }
 
 -- what is looked at and how many bits values have stays
 record IsSame (after before : Sampling) : Type 0 where
@@ -239,27 +272,29 @@ value-same s slot digits = go (nat_lt slot (length s.now))
 time-same : (s : Sampling) (time : ℕ) → IsSame (at_time s time) s
 time-same s time = go (is_at s time)
   where
-    go : (t : Bool) → IsSame (cond t s (record s { before = s.now; time = Some time; edges = edges_now s })) s
+    go : (t : Bool)
+        → IsSame (cond t s (record s { before = with_joined s.probes.joins s.now; time = Some time; edges = edges_now s })) s
     go true = record { probes = refl; widths = refl }
     go false = record { probes = refl; widths = refl }
 
 module _ (masters ports : List Bus) (few_masters : length masters < 2 ^ 64) (few_ports : length ports < 2 ^ 64) where
   readable-now : (s : Sampling) → SamplingFits masters ports s
       → Readable masters ports s.probes.channels (rows_now s).text
-  readable-now s fits = go s.time fits.time
+  readable-now s fits = go s.time fits.time fits.before
     where
-      edge : (time : ℕ) → time < 2 ^ 64 → (t : Bool)
+      edge : (time : ℕ) → time < 2 ^ 64 → map length s.before ≡ with_joined_width s.probes.joins s.widths → (t : Bool)
           → Readable masters ports s.probes.channels
           (cond t (rows_of (needs_of s.probes.reset s.edges) time s.before s.probes.channels) no_rows).text
-      edge time below true =
-          readable-of masters ports s.probes.channels s.widths few_masters few_ports fits.channels time below s.before
-          fits.before (needs_of s.probes.reset s.edges) s.probes.channels (λ which one. one)
-      edge time below false = readable-none masters ports s.probes.channels
+      edge time below has true =
+          readable-of masters ports s.probes.channels (with_joined_width s.probes.joins s.widths) few_masters few_ports
+          fits.channels time below s.before has (needs_of s.probes.reset s.edges) s.probes.channels (λ which one. one)
+      edge time below has false = readable-none masters ports s.probes.channels
 
       go : (at : Option ℕ) → IfSome at (λ time. time < 2 ^ 64)
+          → IfSome at (λ time. map length s.before ≡ with_joined_width s.probes.joins s.widths)
           → Readable masters ports s.probes.channels (rows_when at s).text
-      go None below = readable-none masters ports s.probes.channels
-      go (Some time) below = edge time below (has_edge s.before s.now s.probes)
+      go None below has = readable-none masters ports s.probes.channels
+      go (Some time) below has = edge time below has (has_edge s.before s.now s.probes)
 
   readable-same : (s next : Sampling) (text : List ℕ) → IsSame next s
       → Readable masters ports next.probes.channels text → Readable masters ports s.probes.channels text

@@ -3,7 +3,7 @@
 use Rattle.std.specs.Prelude.{◌≡◌, ◌⊎◌, ◌↔◌, ℕ, ◌<◌, ◌==◌, Bool, true, false, ◌&&◌, not, nat_le, nat_lt, ⊤, List, [], ◌∷◌, length, get_or, map, filter, slice_get, Option, None, Some, Contains, if◌then◌else◌}
 use Rattle.std.specs.List.{last_or, range_with_len}
 use Rattle.check_vcd.specs.Body.{Happens, At, Sets, Resumes, Wrong}
-use Rattle.check_samples.specs.Digits.{bits_of, extended}
+use Rattle.check_samples.specs.Digits.{bits_of, extended, with_joined}
 use Rattle.check_samples.specs.Edges.{edge_fault}
 use Rattle.check_samples.specs.Left.{End, end_of_edges}
 use Rattle.check_samples.specs.Rows.{Probes, Rows, and_then, crosses, hand_alone, is_active, is_one, is_unsure, is_zero, no_rows, ready_of, row_alone, row_at, some_crosses, valid_of}
@@ -101,9 +101,11 @@ value_after wave changes slot = value_by (get_or wave.first slot []) (get_or wav
 abbrev pub values_after : Wave → List ValueChange → List (List ℕ)
 values_after wave changes = map (value_after wave changes) (range_with_len 0 (length wave.first))
 
--- the values before a time: each by its last change at an earlier time
+-- the values before a time: each by its last change at an earlier time; and behind them what is put together of their parts
 abbrev pub values_before : Wave → ℕ → List (List ℕ)
-values_before wave time = values_after wave (filter (λ change. is_before time change.time) wave.changes)
+values_before wave time =
+    with_joined wave.probes.joins
+    (values_after wave (filter (λ change. is_before time change.time) wave.changes))
 
 -- the values at the end of a time: each by its last change at this time or an earlier one
 abbrev pub values_until : Wave → ℕ → List (List ℕ)

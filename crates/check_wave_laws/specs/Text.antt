@@ -74,17 +74,37 @@ abbrev pub BeatTakes : ℕ → List ℕ → BeatTaps → Type 0
 BeatTakes bus widths (A taps) = AskTakes bus widths taps
 BeatTakes bus widths (D taps) = ReplyTakes bus widths taps
 
+-- a part of a value lies within it; so many bits parts have together
+pub record LiesWithin (widths : List ℕ) (part : Tap) : Type 0 where
+  pub from : part.from ≤ part.to
+  pub inside : part.to ≤ get_or widths part.slot 0
+
+abbrev pub AllLieWithin : List ℕ → List Tap → Type 0
+AllLieWithin widths [] = ⊤
+AllLieWithin widths (part ∷ parts) = LiesWithin widths part × AllLieWithin widths parts
+
+abbrev pub taps_bits : List Tap → ℕ
+taps_bits [] = 0
+taps_bits (part ∷ parts) = (part.to - part.from) + taps_bits parts
+
+-- how many bits values have, and behind them what is put together of these parts
+abbrev pub with_joined_width : List Tap → List ℕ → List ℕ
+with_joined_width parts widths = widths ++ (taps_bits parts ∷ [])
+
 -- a channel of a link that the system has, whose signals have no more bits than their columns have room for
 pub record ChannelFits (masters ports : List Bus) (widths : List ℕ) (which : Channel) : Type 0 where
   pub link : IsLinkOf masters ports which.link
   pub taps : BeatTakes (bus_of_link masters ports which.link) widths which.beat
 
--- the values of a sampler have their widths, its time is one that a number can be, and its channels fit
+-- the values of a sampler have their widths, its time is one that a number can be, what it puts together lies within its
+-- values, and its channels fit
 pub record SamplingFits (masters ports : List Bus) (s : Sampling) : Type 0 where
-  pub before : map length s.before ≡ s.widths
+  pub before : IfSome s.time (λ time. map length s.before ≡ with_joined_width s.probes.joins s.widths)
   pub now : map length s.now ≡ s.widths
   pub time : IfSome s.time (λ time. time < 2 ^ 64)
-  pub channels : (which : Channel) → Contains s.probes.channels which → ChannelFits masters ports s.widths which
+  pub joins : AllLieWithin s.widths s.probes.joins
+  pub channels : (which : Channel) → Contains s.probes.channels which
+      → ChannelFits masters ports (with_joined_width s.probes.joins s.widths) which
 
 -- ---- dumps
 

@@ -1,5 +1,5 @@
 -- A dump that is opened, and the identifiers that are kept of it.
-use Rattle.std.proofs.Common.{◌≡◌, ◌≢◌, ◌∙◌, ℕ, suc, ◌+◌, ◌<◌, List, [], ◌∷◌, length, get_or, drop, drop-cons, map, add-one, Option, Some, None, Result, Ok, Err, IfErr, IsErrAnd, inl, inr, ap, refl, sym, subst, if◌then◌else◌}
+use Rattle.std.proofs.Common.{◌≡◌, ◌≢◌, ◌∙◌, ℕ, suc, ◌+◌, ◌<◌, List, [], ◌∷◌, ◌++◌, length, get_or, drop, drop-cons, map, add-one, Option, Some, None, Result, Ok, Err, IfErr, IsErrAnd, inl, inr, ap, refl, sym, subst, if◌then◌else◌}
 use Rattle.std.proofs.KnownBytes.{Appends-nil}
 use Rattle.std.proofs.Math.Path.{fun_ext}
 use Rattle.std.specs.Option.{IfSome, option_map}
@@ -55,7 +55,7 @@ slots-same (code ∷ codes) slot f g same c =
 -- a sampler that has taken nothing
 pub record IsFresh (s : Sampling) (found : Found) : Type 0 where
   pub probes : s.probes ≡ found.probes
-  pub before : s.before ≡ map (λ value. unknown (width_in value)) found.kept
+  pub before : s.before ≡ map (λ value. unknown (width_in value)) found.kept ++ ([] ∷ [])
   pub now : s.now ≡ map digits_in found.kept
   pub widths : s.widths ≡ map width_in found.kept
   pub time : s.time ≡ None
@@ -75,7 +75,7 @@ same-made p q b c n m w v t u e f probes before now widths time edges =
 
 fresh-is : (s : Sampling) (found : Found) → IsFresh s found → s ≡ sampling_of found
 fresh-is s found fresh =
-    same-made s.probes found.probes s.before (map (λ value. unknown (width_in value)) found.kept) s.now
+    same-made s.probes found.probes s.before (map (λ value. unknown (width_in value)) found.kept ++ ([] ∷ [])) s.now
     (map digits_in found.kept) s.widths (map width_in found.kept) s.time None s.edges no_edges fresh.probes fresh.before
     fresh.now fresh.widths fresh.time fresh.edges
 

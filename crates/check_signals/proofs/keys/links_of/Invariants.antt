@@ -7,5 +7,5 @@ use Rattle.check_signals.proofs.keys.links_of.Given as goal
 
 abbrev pub invariant-loop-value : goal.invariant-loop-value
 invariant-loop-value l =
-    with_front (map link_view l.links.items) (each (link_of l.key) (map view (drop l.value-index l.values)))
-    ≡ each (link_of l.key) (map view l.values)
+    with_front (map link_view l.links.items) (each (link_of l.top l.key) (map view (drop l.value-index l.values)))
+    ≡ each (link_of l.top l.key) (map view l.values)

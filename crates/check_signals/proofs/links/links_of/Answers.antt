@@ -3,25 +3,25 @@ use Rattle.std.proofs.Common.{◌≡◌, ◌+◌, ◌∷◌, add-one, drop, drop
 use Rattle.std.proofs.lemmas.List.{map-append}
 use Rattle.check_beats.specs.declared.bus.Bus.TheVariants.{One}
 use Rattle.check_vcd.specs.Header.{var_view}
-use Rattle.check_signals.specs.Found.{link_sources_view, links_view}
+use Rattle.check_signals.specs.Found.{link_sources_view, links_view, signals_view}
 use Rattle.check_signals.specs.Names.{link_view, name_view}
-use Rattle.check_signals.specs.Source.{fault_view, source_view}
+use Rattle.check_signals.specs.Source.{fault_view}
 use Rattle.check_signals.proofs.LinkLemmas.{finds-fault, link-fails, link-found, link-without}
-use Rattle.check_signals.proofs.links.links_of.Goals.{in-Some+in_ok-sources+in_ok-push, in_default}
+use Rattle.check_signals.proofs.links.links_of.Goals.{in-Some+in_ok-signals+in_ok-push, in_default}
 use Rattle.check_signals.proofs.links.links_of.Goals as goal
 
-pub returns-in_err-sources : goal.returns-in_err-sources
-returns-in_err-sources c =
+pub returns-in_err-signals : goal.returns-in_err-signals
+returns-in_err-signals c =
     let n = c.loop-number.number in
     let buses = c.args.buses.now in
-    let fault = c.in_err-sources.field-0.0 in
+    let fault = c.in_err-signals.field-0.0 in
     let first : drop n buses ≡ get_or buses n One ∷ drop (n + 1) buses =
     rw add-one (drop-cons buses n One (search rules)) in
     finds-fault links_view c.from_residual.result fault _ c.from_residual.ensures.1
     (λ not_memory. link-fails (map var_view c.args.vars.now) c.args.is_port (map link_view c.args.links.now) n
     (get_or buses n One) (drop n buses) (drop (n + 1) buses) first (map link_sources_view c.loop-number.found.items) _
     (map name_view c.in-Some.names.now.items) (fault_view fault) (sym c.in-Some.ensures)
-    (rw (c.deref.ensures.value, c.owner_of.ensures, c.link_at-link.ensures) at (c.in_err-sources.ensures not_memory))
+    (rw (c.deref.ensures.value, c.owner_of.ensures, c.link_at-link.ensures) at (c.in_err-signals.ensures not_memory))
     c.loop-number.invariant)
 
 pub loop-number-preserved : goal.loop-number-preserved
@@ -34,11 +34,11 @@ loop-number-preserved c =
     let first : drop n buses ≡ get_or buses n One ∷ drop (n + 1) buses =
     rw add-one (drop-cons buses n One (search rules)) in
     elim c.match-names_at.branch [
-      | in-Some+in_ok-sources+in_ok-push w ↦
+      | in-Some+in_ok-signals+in_ok-push w ↦
           let next = link-found vars c.args.is_port links n (get_or buses n One) (drop n buses) (drop (n + 1) buses) first
-          found _ (map name_view w.in-Some.names.now.items) (map source_view w.in_ok-sources.sources.items)
+          found _ (map name_view w.in-Some.names.now.items) (signals_view w.in_ok-signals.signals.items)
           (sym w.in-Some.ensures)
-          (rw (w.deref.ensures.value, w.owner_of.ensures, w.link_at-link.ensures) at w.in_ok-sources.ensures)
+          (rw (w.deref.ensures.value, w.owner_of.ensures, w.link_at-link.ensures) at w.in_ok-signals.ensures)
           c.loop-number.invariant in
           rw (w.found-is, w.in_ok-push.ensures.items, map-append, w.link_at-link.ensures) next
       | in_default w ↦

@@ -8,7 +8,7 @@ returns-clause-before c =
     let s = c.args.self.now in
     let old = c.index_mut.result.now in
     let is : old ≡ get_or s.slots.items c.args.slot old = search rules in
-    change-before s.slots.items c.args.slot s.times old c.change.new.self c.change.result is c.change.ensures.before
+    change-before s.slots.items s.joined.items c.args.slot s.times old c.change.new.self c.change.result is c.change.ensures.before
 
 pub returns-clause-now : goal.returns-clause-now
 returns-clause-now c =

@@ -1,0 +1,143 @@
+//! The parts of a signal of a link.
+ghost use Rattle.std.specs.Prelude.{◌≡◌, ◌≢◌, IfOk, map};
+ghost use Rattle.tl_text.specs.Reading.{each};
+ghost use Rattle.check_vcd.specs.Header.{var_view};
+ghost use Rattle.check_samples.specs.Signal.{signal_name};
+ghost use Rattle.check_signals.specs.Names.{name_view};
+ghost use Rattle.check_signals.specs.Source.{Finds, Width as WidthIn, fault_view, fitting, part_of, parts_bits, parts_of, parts_view, source_view, whole_of};
+ghost use Rattle.check_signals.specs.Wanted.{count_of};
+ghost use Rattle.check_signals.specs.declared.signal_fault.SignalFault.TheVariants.{Memory};
+
+use crate::keys::SignalName;
+use crate::signal_fault::{SignalFault, SignalOwner};
+use crate::source::{MAX_WIDTH, Source, WantedSignal, source_in};
+use crate::wanted::Wanted;
+use check_samples::Signal;
+use check_vcd::Var;
+use std::alloc::{AllocError, Global};
+
+/// Which signal of a link is looked for, and how many bits it has to have.
+#[derive(Debug, Clone, Copy, PartialEq, Eq)]
+pub struct LinkSignal {
+    pub owner: SignalOwner,
+    pub which: Signal,
+    pub wanted: Wanted,
+}
+
+/// The parts of a signal, the highest bits first.
+pub(crate) type Parts<'a> = Vec<Source<'a>>;
+
+/// The one signal of a name.
+fn whole_of<'a>(
+    alloc: Global,
+    vars: &'a [Var],
+    signal: LinkSignal,
+    name: &[u8],
+    is_prefixed: bool,
+) -> Result<Parts<'a>, SignalFault>
+    ensures { Finds parts_view result (whole_of (map var_view vars.now) signal name.now is_prefixed) }
+{
+    let asked = WantedSignal {
+        owner: signal.owner,
+        name,
+        is_prefixed,
+        wanted: signal.wanted,
+    };
+    let source = source_in(alloc, vars, asked)?;
+    let mut parts = Vec::new(alloc);
+    parts.push(source)?;
+    Ok(parts)
+}
+
+/// One of several signals, which has any number of bits.
+fn part_of<'a>(
+    alloc: Global,
+    vars: &'a [Var],
+    signal: LinkSignal,
+    name: &[u8],
+) -> Result<Source<'a>, SignalFault>
+    ensures { Finds source_view result (part_of (map var_view vars.now) signal name.now) }
+{
+    let asked = WantedSignal {
+        owner: signal.owner,
+        name,
+        is_prefixed: false,
+        wanted: Wanted::AtMost(MAX_WIDTH),
+    };
+    source_in(alloc, vars, asked)
+}
+
+/// What several names find, or the first fault.
+fn each_part<'a>(
+    alloc: Global,
+    vars: &'a [Var],
+    signal: LinkSignal,
+    names: &[Vec<u8>],
+) -> Result<Parts<'a>, SignalFault>
+    ensures { Finds parts_view result
+        (each (part_of (map var_view vars.now) signal) (map (λ name. name.items) names.now)) }
+{
+    let mut parts = Vec::with_capacity(alloc, names.len())?;
+    for name in names {
+        parts.push(part_of(alloc, vars, signal, name)?)?;
+    }
+    Ok(parts)
+}
+
+/// How many bits parts have together. There are no 2^64.
+pub(crate) fn parts_bits(parts: &[Source<'_>]) -> Result<u64, AllocError>
+    ensures { IfOk result (λ bits. bits ≡ parts_bits (map source_view parts.now)) }
+{
+    let mut bits: u64 = 0;
+    for part in parts {
+        bits = bits
+            .checked_add(part.to.saturating_sub(part.from))
+            .ok_or(AllocError)?;
+    }
+    Ok(bits)
+}
+
+/// That several signals have another number of bits together than is wanted.
+fn misfit(alloc: Global, signal: LinkSignal, bits: u64) -> SignalFault
+    ensures { result ≢ Memory
+        → fault_view result ≡ WidthIn signal.owner (signal_name signal.which) bits (count_of signal.wanted) }
+{
+    match Vec::from_slice(alloc, signal.which.name().as_bytes()) {
+        Ok(name) => SignalFault::Width(signal.owner, name, bits, signal.wanted.count()),
+        Err(_) => SignalFault::Memory,
+    }
+}
+
+/// Several signals, if they have as many bits together as are wanted.
+fn fitting<'a>(
+    alloc: Global,
+    signal: LinkSignal,
+    parts: Parts<'a>,
+) -> Result<Parts<'a>, SignalFault>
+    ensures { Finds parts_view result (fitting signal (parts_view parts.entry)) }
+{
+    let bits = parts_bits(&parts)?;
+    if !signal.wanted.fits(bits) {
+        return Err(misfit(alloc, signal, bits));
+    }
+    Ok(parts)
+}
+
+/// The parts of a signal of this name, the highest bits first.
+pub(crate) fn parts_of<'a>(
+    alloc: Global,
+    vars: &'a [Var],
+    signal: LinkSignal,
+    name: &SignalName,
+) -> Result<Parts<'a>, SignalFault>
+    ensures { Finds parts_view result (parts_of (map var_view vars.now) signal (name_view name.now)) }
+{
+    match name {
+        SignalName::Prefixed(name) => whole_of(alloc, vars, signal, name, true),
+        SignalName::Wired(name) => whole_of(alloc, vars, signal, name, false),
+        SignalName::Joined(names) => {
+            let parts = each_part(alloc, vars, signal, names)?;
+            fitting(alloc, signal, parts)
+        }
+    }
+}
