@@ -8,8 +8,9 @@
 //! and its model is the text of the rows that are left to come, and what they end with (`specs/Left.antt`). A whole dump
 //! whose clock never rises ends with a fault, and so does one whose edges or beats all lie in reset (`specs/Edges.antt`).
 //!
-//! A value is kept in a slot of [`Values`], and a [`Tap`] says which of its digits are a signal. Read on in
-//! `docs/CAPTURE.md`, "Your own design".
+//! A value is kept in a slot of [`Values`], and a [`Tap`] says which of its digits are a signal. Parts of values are put
+//! together, whenever a time begins, in one more value behind those that are kept: there are the signals of several
+//! parts. Read on in `docs/CAPTURE.md`, "Your own design".
 #![tactic(auto)]
 
 mod channel;

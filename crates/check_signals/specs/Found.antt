@@ -24,12 +24,13 @@ use Rattle.check_samples.specs.declared.reset.Reset.{Reset}
 use Rattle.check_samples.specs.declared.signal.Signal.{Signal}
 use Rattle.check_samples.specs.declared.tap.Tap.{Tap}
 use Rattle.check_signals.specs.Names.{SignalName, SignalNames}
-use Rattle.check_signals.specs.Source.{SearchFault, Kept, Changing, Constant, Source, parts_bits, parts_of, parts_view, source_in, source_view}
+use Rattle.check_signals.specs.Nets.{named_in, one_of}
+use Rattle.check_signals.specs.Parts.{all_parts, parts_of, signals_view}
+use Rattle.check_signals.specs.Source.{SearchFault, Kept, Changing, Constant, Source, WantedSignal, parts_bits, source_view}
 use Rattle.check_signals.specs.Wanted.{wanted_of}
 use Rattle.check_signals.specs.declared.keys.TheConstants.{SIGNALS}
 use Rattle.check_signals.specs.declared.links.LinkSources as code_links
 use Rattle.check_signals.specs.declared.parts.LinkSignal.{LinkSignal}
-use Rattle.check_signals.specs.declared.source.Source as code_source
 use Rattle.check_signals.specs.declared.resolve.Resolved as code_resolved
 use Rattle.check_signals.specs.declared.resolve.Sources as code_sources
 use Rattle.check_signals.specs.declared.signal_fault.SignalOwner.{SignalOwner}
@@ -39,8 +40,11 @@ use Rattle.check_signals.specs.declared.wanted.Wanted.TheVariants.{AtMost}
 -- ---- what the names find
 
 -- the clock and the reset have one bit
+abbrev pub system_asked : List ℕ → WantedSignal
+system_asked name = record { owner = owner.System; name = name; is_prefixed = false; wanted = AtMost 1 }
+
 abbrev pub system_source : List Var → List ℕ → Result Source SearchFault
-system_source vars name = source_in vars (record { owner = owner.System; name = name; is_prefixed = false; wanted = AtMost 1 })
+system_source vars name = named_in vars (system_asked name) >>= one_of (system_asked name)
 
 -- the parts of a signal of a link whose bus has so many bytes
 abbrev pub signal_by : SignalOwner → ℕ → Signal → LinkSignal
@@ -138,10 +142,7 @@ distinct some [] = []
 distinct some (value ∷ values) =
     if is_kept some value then distinct some values else value ∷ distinct (some ++ (value ∷ [])) values
 
--- all parts of signals, and of those of links; all sources of a system
-abbrev pub all_parts : List (List Source) → List Source
-all_parts signals = flat_map (λ parts. parts) signals
-
+-- all parts of the signals of links; all sources of a system
 abbrev pub flat : List LinkSources → List Source
 flat links = flat_map (λ found. all_parts found.signals) links
 
@@ -322,9 +323,6 @@ abbrev pub find_of : List Var → Found → Find
 find_of vars found = slots_from (map code_in found.kept) 0 (coded_in vars)
 
 -- ---- what calls answer
-
-abbrev pub signals_view : List (Vec code_source.Source Global) → List (List Source)
-signals_view signals = map parts_view signals
 
 abbrev pub link_sources_view : code_links.LinkSources → LinkSources
 link_sources_view found = record { link = found.link; signals = signals_view found.signals.items }

@@ -1,29 +1,23 @@
 -- What a name of a system file finds among the signals that a dump declares. This project's own.
-use Rattle.std.specs.Prelude.{◌≡◌, ◌≢◌, ℕ, ◌+◌, ◌-◌, Bool, true, false, ◌&&◌, not, nat_lt, List, [], ◌∷◌, map, codes, Option, None, Some, option_map, MatchResult, Result, Ok, Err, Vec, if◌then◌else◌}
+use Rattle.std.specs.Prelude.{◌≡◌, ◌≢◌, ℕ, ◌+◌, ◌-◌, Bool, ◌&&◌, not, nat_lt, List, [], ◌∷◌, map, codes, Option, None, Some, option_map, MatchResult, Result, Ok, Err, Vec, if◌then◌else◌}
 use Rattle.std.specs.Global.{Global}
 use Rattle.std.specs.List.{list_any}
 use Rattle.std.specs.Str.{bytes_eq}
-use Rattle.tl_text.specs.Reading.{◌>>=◌, each}
 use Rattle.check_vcd.specs.Codes.{coded_in}
 use Rattle.check_vcd.specs.Header.{Var}
 use Rattle.check_vcd.specs.declared.codes.Coded.{Coded}
 use Rattle.check_keys.specs.Nearest.{nearest}
-use Rattle.check_samples.specs.Signal.{signal_name}
-use Rattle.check_samples.specs.declared.signal.Signal.{Signal}
-use Rattle.check_signals.specs.Names.{SignalName, Prefixed, Wired, Joined}
-use Rattle.check_signals.specs.Wanted.{bits_fit, constant_bits, count_of, may_be_absent, may_be_unfound}
+use Rattle.check_signals.specs.Wanted.{bits_fit, count_of, may_be_absent, may_be_unfound}
 use Rattle.check_signals.specs.Wires.{Wire, wires_called, widest_of}
 use Rattle.check_signals.specs.declared.signal_fault.SignalOwner.{SignalOwner}
 use Rattle.check_signals.specs.declared.signal_fault.SignalFault.{SignalFault}
 use Rattle.check_signals.specs.declared.signal_fault.SignalFault.TheVariants as code_fault
-use Rattle.check_signals.specs.declared.parts.LinkSignal.{LinkSignal}
 use Rattle.check_signals.specs.declared.source.WantedSignal as code_asked
 use Rattle.check_signals.specs.declared.source.Kept as code_kept
 use Rattle.check_signals.specs.declared.source.Kept.TheVariants as kept
 use Rattle.check_signals.specs.declared.source.Source as code_source
 use Rattle.check_signals.specs.declared.source.TheConstants.{MAX_WIDTH}
 use Rattle.check_signals.specs.declared.wanted.Wanted.{Wanted}
-use Rattle.check_signals.specs.declared.wanted.Wanted.TheVariants.{AtMost}
 
 -- a signal that is looked for: whose it is, its name, whether that is the specification's behind a prefix, and how many bits
 -- it has to have
@@ -122,44 +116,12 @@ abbrev pub signal_in : List Var → WantedSignal → Result Source SearchFault
 signal_in vars asked =
     let wires = wires_called vars asked.name in alone vars asked wires (widest_of wires)
 
--- ---- what a name finds
-
-abbrev pub source_by : List Var → WantedSignal → Option ℕ → Result Source SearchFault
-source_by vars asked (Some digit) = Ok (constant_of digit (constant_bits asked.wanted))
-source_by vars asked None = signal_in vars asked
-
-unfoldable pub source_in : List Var → WantedSignal → Result Source SearchFault
-source_in vars asked = if is_left_out asked then Ok left_out else source_by vars asked (digit_in asked.name)
-
--- ---- a signal of a link
+-- ---- parts
 
 -- how many bits parts have together
 abbrev pub parts_bits : List Source → ℕ
 parts_bits [] = 0
 parts_bits (part ∷ parts) = (part.to - part.from) + parts_bits parts
-
--- the one signal of a name
-abbrev pub whole_of : List Var → LinkSignal → List ℕ → Bool → Result (List Source) SearchFault
-whole_of vars signal name is_prefixed =
-    source_in vars (record { owner = signal.owner; name = name; is_prefixed = is_prefixed; wanted = signal.wanted })
-    >>= (λ source. Ok (source ∷ []))
-
--- one of several, which has any number of bits
-abbrev pub part_of : List Var → LinkSignal → List ℕ → Result Source SearchFault
-part_of vars signal name =
-    source_in vars (record { owner = signal.owner; name = name; is_prefixed = false; wanted = AtMost MAX_WIDTH })
-
--- several, which have as many bits together as are wanted; else the fault names the signal itself
-abbrev pub fitting : LinkSignal → List Source → Result (List Source) SearchFault
-fitting signal parts =
-    if bits_fit signal.wanted (parts_bits parts) then Ok parts
-    else Err (Width signal.owner (signal_name signal.which) (parts_bits parts) (count_of signal.wanted))
-
--- the parts of a signal of this name, the highest bits first
-abbrev pub parts_of : List Var → LinkSignal → SignalName → Result (List Source) SearchFault
-parts_of vars signal (Prefixed name) = whole_of vars signal name true
-parts_of vars signal (Wired name) = whole_of vars signal name false
-parts_of vars signal (Joined names) = each (part_of vars signal) names >>= fitting signal
 
 -- ---- what calls answer
 

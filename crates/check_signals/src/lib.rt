@@ -3,7 +3,9 @@
 //! [`read_names`] reads the names that a system file gives (`specs/Names.antt`): those of the clock and of the reset, and
 //! of the signals of each link. [`find_signals`] finds them among the signals that a dump declares. What one name finds is in
 //! `specs/Source.antt`, with the wires that it means (`specs/Wires.antt`) and how many bits each signal has by the bus of
-//! its link (`specs/Wanted.antt`). What is then looked at and kept, or the first fault, is in `specs/Found.antt`.
+//! its link (`specs/Wanted.antt`). Of a net that is declared bit by bit it is several parts (`specs/Nets.antt`), and of a
+//! wire that names several signals too (`specs/Parts.antt`). What is then looked at and kept, or the first fault, is in
+//! `specs/Found.antt`.
 //!
 //! Read on in `docs/CAPTURE.md`, "Your own design".
 #![tactic(auto)]
@@ -12,6 +14,7 @@ mod fault;
 mod kept;
 mod keys;
 mod links;
+mod nets;
 mod parts;
 mod resolve;
 mod signal_fault;

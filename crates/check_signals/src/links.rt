@@ -2,9 +2,10 @@
 ghost use Rattle.std.specs.Prelude.{[], ◌≡◌, ◌+◌, ◌++◌, IfOk, OnOk, map, option_map};
 ghost use Rattle.check_beats.specs.Bus.{bus_bytes};
 ghost use Rattle.check_vcd.specs.Header.{var_view};
-ghost use Rattle.check_signals.specs.Found.{bits_in, channel_pairs, channels_of_link, in_order, joined_bits, joins_in, joins_of, link_at, link_bits, link_joins, link_sources_view, links_from, links_view, names_at, owner_of, signals_named, signals_view, sources_of, tap_of, taps_from};
+ghost use Rattle.check_signals.specs.Found.{bits_in, channel_pairs, channels_of_link, in_order, joined_bits, joins_in, joins_of, link_at, link_bits, link_joins, link_sources_view, links_from, links_view, names_at, owner_of, signals_named, sources_of, tap_of, taps_from};
 ghost use Rattle.check_signals.specs.Names.{link_view, name_view};
-ghost use Rattle.check_signals.specs.Source.{Finds, kept_view, parts_view, source_view};
+ghost use Rattle.check_signals.specs.Parts.{signals_view};
+ghost use Rattle.check_signals.specs.Source.{Finds, kept_view, source_view};
 
 use crate::kept::{push_taps, tap_by};
 use crate::keys::{LinkNames, SIGNALS, SignalName};

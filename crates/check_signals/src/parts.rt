@@ -1,16 +1,18 @@
 //! The parts of a signal of a link.
-ghost use Rattle.std.specs.Prelude.{◌≡◌, ◌≢◌, IfOk, map};
+ghost use Rattle.std.specs.Prelude.{◌≡◌, ◌≢◌, ◌++◌, IfOk, OnOk, map};
 ghost use Rattle.tl_text.specs.Reading.{each};
 ghost use Rattle.check_vcd.specs.Header.{var_view};
 ghost use Rattle.check_samples.specs.Signal.{signal_name};
 ghost use Rattle.check_signals.specs.Names.{name_view};
-ghost use Rattle.check_signals.specs.Source.{Finds, Width as WidthIn, fault_view, fitting, part_of, parts_bits, parts_of, parts_view, source_view, whole_of};
+ghost use Rattle.check_signals.specs.Parts.{all_parts, fitting, part_of, parts_of, signals_view, whole_of};
+ghost use Rattle.check_signals.specs.Source.{Finds, Width as WidthIn, fault_view, parts_bits, parts_view, source_view};
 ghost use Rattle.check_signals.specs.Wanted.{count_of};
 ghost use Rattle.check_signals.specs.declared.signal_fault.SignalFault.TheVariants.{Memory};
 
 use crate::keys::SignalName;
+use crate::nets::named_in;
 use crate::signal_fault::{SignalFault, SignalOwner};
-use crate::source::{MAX_WIDTH, Source, WantedSignal, source_in};
+use crate::source::{MAX_WIDTH, Source, WantedSignal};
 use crate::wanted::Wanted;
 use check_samples::Signal;
 use check_vcd::Var;
@@ -27,7 +29,7 @@ pub struct LinkSignal {
 /// The parts of a signal, the highest bits first.
 pub(crate) type Parts<'a> = Vec<Source<'a>>;
 
-/// The one signal of a name.
+/// What one name finds.
 fn whole_of<'a>(
     alloc: Global,
     vars: &'a [Var],
@@ -43,20 +45,17 @@ fn whole_of<'a>(
         is_prefixed,
         wanted: signal.wanted,
     };
-    let source = source_in(alloc, vars, asked)?;
-    let mut parts = Vec::new(alloc);
-    parts.push(source)?;
-    Ok(parts)
+    named_in(alloc, vars, asked)
 }
 
-/// One of several signals, which has any number of bits.
+/// What one of several names finds, which has any number of bits.
 fn part_of<'a>(
     alloc: Global,
     vars: &'a [Var],
     signal: LinkSignal,
     name: &[u8],
-) -> Result<Source<'a>, SignalFault>
-    ensures { Finds source_view result (part_of (map var_view vars.now) signal name.now) }
+) -> Result<Parts<'a>, SignalFault>
+    ensures { Finds parts_view result (part_of (map var_view vars.now) signal name.now) }
 {
     let asked = WantedSignal {
         owner: signal.owner,
@@ -64,7 +63,7 @@ fn part_of<'a>(
         is_prefixed: false,
         wanted: Wanted::AtMost(MAX_WIDTH),
     };
-    source_in(alloc, vars, asked)
+    named_in(alloc, vars, asked)
 }
 
 /// What several names find, or the first fault.
@@ -73,15 +72,35 @@ fn each_part<'a>(
     vars: &'a [Var],
     signal: LinkSignal,
     names: &[Vec<u8>],
-) -> Result<Parts<'a>, SignalFault>
-    ensures { Finds parts_view result
+) -> Result<Vec<Parts<'a>>, SignalFault>
+    ensures { Finds (λ found. signals_view found.items) result
         (each (part_of (map var_view vars.now) signal) (map (λ name. name.items) names.now)) }
 {
-    let mut parts = Vec::with_capacity(alloc, names.len())?;
+    let mut found = Vec::with_capacity(alloc, names.len())?;
     for name in names {
-        parts.push(part_of(alloc, vars, signal, name)?)?;
+        found.push(part_of(alloc, vars, signal, name)?)?;
     }
-    Ok(parts)
+    Ok(found)
+}
+
+/// Appends the parts of signals, one after the other.
+pub(crate) fn push_parts<'a>(all: &mut Parts<'a>, signals: &[Parts<'a>]) -> Result<(), AllocError>
+    ensures { OnOk result (map source_view all.new.items
+        ≡ map source_view all.old.items ++ all_parts (signals_view signals.now)) }
+{
+    for parts in signals {
+        all.extend_from_slice(parts)?;
+    }
+    Ok(())
+}
+
+/// The parts of signals, one after the other.
+fn joined<'a>(alloc: Global, signals: &[Parts<'a>]) -> Result<Parts<'a>, AllocError>
+    ensures { IfOk result (λ parts. parts_view parts ≡ all_parts (signals_view signals.now)) }
+{
+    let mut all = Vec::new(alloc);
+    push_parts(&mut all, signals)?;
+    Ok(all)
 }
 
 /// How many bits parts have together. There are no 2^64.
@@ -136,8 +155,8 @@ pub(crate) fn parts_of<'a>(
         SignalName::Prefixed(name) => whole_of(alloc, vars, signal, name, true),
         SignalName::Wired(name) => whole_of(alloc, vars, signal, name, false),
         SignalName::Joined(names) => {
-            let parts = each_part(alloc, vars, signal, names)?;
-            fitting(alloc, signal, parts)
+            let found = each_part(alloc, vars, signal, names)?;
+            fitting(alloc, signal, joined(alloc, &found)?)
         }
     }
 }

@@ -4,7 +4,7 @@ ghost use Rattle.tl_text.specs.Reading.{if_any};
 ghost use Rattle.check_vcd.specs.Header.{var_view};
 ghost use Rattle.check_samples.specs.Digits.{unknown};
 ghost use Rattle.check_samples.specs.Values.{all_before, all_now, all_widths, kept_before};
-ghost use Rattle.check_signals.specs.Found.{IsFound, IsResolved, all_of, code_in, codes_view, digits_in, flat, found_in, found_of, link_sources_view, all_parts, reset_by, signals_view, sources_in, sources_view, system_source, width_in};
+ghost use Rattle.check_signals.specs.Found.{IsFound, IsResolved, all_of, code_in, codes_view, digits_in, flat, found_in, found_of, link_sources_view, reset_by, sources_in, sources_view, system_source, width_in};
 ghost use Rattle.check_signals.specs.Names.{names_view};
 ghost use Rattle.check_signals.specs.Source.{Finds, fault_view, kept_view, source_view};
 ghost use Rattle.check_signals.specs.declared.signal_fault.SignalFault.TheVariants.{Memory};
@@ -12,9 +12,10 @@ ghost use Rattle.check_signals.specs.declared.signal_fault.SignalFault.TheVarian
 use crate::kept::{tap_by, values_kept};
 use crate::keys::SignalNames;
 use crate::links::{Joins, LinkSources, channel_pairs, in_order, links_of};
-use crate::parts::Parts;
+use crate::nets::{named_in, one_of};
+use crate::parts::push_parts;
 use crate::signal_fault::{SignalFault, SignalOwner};
-use crate::source::{Kept, Source, WantedSignal, source_in};
+use crate::source::{Kept, Source, WantedSignal};
 use crate::wanted::Wanted;
 use check_rows::Buses;
 use check_samples::{Probes, Reset, Values};
@@ -40,7 +41,8 @@ fn system_source<'a>(alloc: Global, vars: &'a [Var], name: &[u8]) -> Result<Sour
         is_prefixed: false,
         wanted: Wanted::AtMost(1),
     };
-    source_in(alloc, vars, asked)
+    let parts = named_in(alloc, vars, asked)?;
+    one_of(alloc, asked, &parts)
 }
 
 /// What the name of the reset finds, if there is one.
@@ -80,17 +82,6 @@ fn sources_in<'a>(
         ports,
         masters,
     })
-}
-
-/// Appends the parts of signals.
-fn push_parts<'a>(all: &mut Vec<Source<'a>>, signals: &[Parts<'a>]) -> Result<(), AllocError>
-    ensures { OnOk result (map source_view all.new.items
-        ≡ map source_view all.old.items ++ all_parts (signals_view signals.now)) }
-{
-    for parts in signals {
-        all.extend_from_slice(parts)?;
-    }
-    Ok(())
 }
 
 /// Appends the sources of links.

@@ -1,7 +1,7 @@
 //! What a name of a system file finds among the signals that a dump declares.
 ghost use Rattle.std.specs.Prelude.{◌≡◌, ◌≢◌, ◌≤◌, IfOk, map, option_map};
 ghost use Rattle.check_vcd.specs.Header.{var_view};
-ghost use Rattle.check_signals.specs.Source.{Finds, asked_view, constant_of, digit_in, fault_view, is_left_out, left_out, may_lack, measured, missing as missing_in, signal_in, source_in, source_view, too_wide, unfound, width_of, within};
+ghost use Rattle.check_signals.specs.Source.{Finds, asked_view, constant_of, digit_in, fault_view, is_left_out, left_out, may_lack, measured, missing as missing_in, signal_in, source_view, too_wide, unfound, width_of, within};
 ghost use Rattle.check_signals.specs.Source.{Twice as TwiceIn};
 ghost use Rattle.check_signals.specs.Wires.{IsInside, wire_view};
 ghost use Rattle.check_signals.specs.declared.signal_fault.SignalFault.TheVariants.{Memory};
@@ -42,7 +42,7 @@ pub(crate) struct Source<'a> {
 }
 
 /// The digit that a name is: `0` and `1` are constants.
-fn digit_in(name: &[u8]) -> Option<u8>
+pub(crate) fn digit_in(name: &[u8]) -> Option<u8>
     ensures { result ≡ digit_in name.now }
 {
     if name == b"0".as_slice() {
@@ -55,7 +55,7 @@ fn digit_in(name: &[u8]) -> Option<u8>
 }
 
 /// All bits of a constant of so many.
-fn constant_of<'a>(digit: u8, count: u64) -> Source<'a>
+pub(crate) fn constant_of<'a>(digit: u8, count: u64) -> Source<'a>
     ensures { source_view result ≡ constant_of digit count }
 {
     Source {
@@ -66,7 +66,7 @@ fn constant_of<'a>(digit: u8, count: u64) -> Source<'a>
 }
 
 /// No bits of a constant.
-fn left_out<'a>() -> Source<'a>
+pub(crate) fn left_out<'a>() -> Source<'a>
     ensures { source_view result ≡ left_out }
 {
     Source {
@@ -77,14 +77,14 @@ fn left_out<'a>() -> Source<'a>
 }
 
 /// Whether a name says that the design has no such signal.
-fn is_left_out(asked: WantedSignal<'_>) -> bool
+pub(crate) fn is_left_out(asked: WantedSignal<'_>) -> bool
     ensures { result ≡ is_left_out (asked_view asked.entry) }
 {
     asked.wanted.may_be_absent() && asked.name == b"-".as_slice()
 }
 
 /// How many bits the values of an identifier have: those of the widest signal that has it.
-fn width_of(vars: &[Var], code: &[u8]) -> u64
+pub(crate) fn width_of(vars: &[Var], code: &[u8]) -> u64
     ensures { result ≡ width_of (map var_view vars.now) code.now }
 {
     let mut width = 0;
@@ -138,7 +138,7 @@ fn missing(alloc: Global, vars: &[Var], asked: WantedSignal<'_>) -> SignalFault
 }
 
 /// That two signals have the name.
-fn twice(alloc: Global, asked: WantedSignal<'_>) -> SignalFault
+pub(crate) fn twice(alloc: Global, asked: WantedSignal<'_>) -> SignalFault
     ensures { result ≢ Memory → fault_view result ≡ TwiceIn asked.entry.owner asked.entry.name.now }
 {
     match Vec::from_slice(alloc, asked.name) {
@@ -148,7 +148,12 @@ fn twice(alloc: Global, asked: WantedSignal<'_>) -> SignalFault
 }
 
 /// That the signal has another width than is wanted.
-fn too_wide(alloc: Global, asked: WantedSignal<'_>, bits: u64, wanted: u64) -> SignalFault
+pub(crate) fn too_wide(
+    alloc: Global,
+    asked: WantedSignal<'_>,
+    bits: u64,
+    wanted: u64,
+) -> SignalFault
     ensures { result ≢ Memory → fault_view result ≡ too_wide (asked_view asked.entry) bits wanted }
 {
     match Vec::from_slice(alloc, asked.name) {
@@ -222,7 +227,7 @@ fn unfound<'a>(
 }
 
 /// The widest of the wires that a name means: all of them have its identifier.
-fn signal_in<'a>(
+pub(crate) fn signal_in<'a>(
     alloc: Global,
     vars: &'a [Var],
     asked: WantedSignal<'_>,
@@ -237,22 +242,4 @@ fn signal_in<'a>(
         return Err(twice(alloc, asked));
     }
     measured(alloc, vars, asked, wire)
-}
-
-/// What a name finds among the signals that a dump declares.
-#[tactic(auto, unfolding(crate::specs::Source::source_in))]
-pub(crate) fn source_in<'a>(
-    alloc: Global,
-    vars: &'a [Var],
-    asked: WantedSignal<'_>,
-) -> Result<Source<'a>, SignalFault>
-    ensures { Finds source_view result (source_in (map var_view vars.now) (asked_view asked.entry)) }
-{
-    if is_left_out(asked) {
-        return Ok(left_out());
-    }
-    match digit_in(asked.name) {
-        Some(digit) => Ok(constant_of(digit, asked.wanted.constant_bits())),
-        None => signal_in(alloc, vars, asked),
-    }
 }

@@ -1,5 +1,5 @@
 -- What the names of a system find has no more bits than its columns have room for.
-use Rattle.std.proofs.Common.{◌≡◌, ℕ, zero, suc, ◌+◌, ◌-◌, ◌<◌, ◌≤◌, nat_le, nat_lt, Bool, true, false, ◌&&◌, not, cond, List, [], ◌∷◌, ◌++◌, map, Option, Some, None, Result, Ok, Err, Contains, ◌∙◌, ap, arith, refl, slice_get, subst}
+use Rattle.std.proofs.Common.{◌≡◌, ℕ, zero, suc, ◌+◌, ◌-◌, ◌<◌, ◌≤◌, nat_le, nat_lt, Bool, true, false, ◌&&◌, not, cond, List, [], ◌∷◌, ◌++◌, length, map, Option, Some, None, Result, Ok, Err, Contains, ◌∙◌, ap, arith, refl, slice_get, subst}
 use Rattle.std.specs.Prelude.{⊤, codes}
 use Rattle.std.specs.List.{cons_option, list_any}
 use Rattle.std.specs.Option.{option_and_then}
@@ -15,11 +15,13 @@ use Rattle.check_vcd.specs.declared.range.Span.{Span}
 use Rattle.check_samples.specs.Signal.{signal_name}
 use Rattle.check_samples.specs.declared.signal.Signal.{Signal}
 use Rattle.check_samples.specs.declared.signal.Signal.TheVariants as signal
-use Rattle.check_signals.specs.Found.{LinkSources, NamedLink, NamesOf, signal_by, signals_named, parts_by, link_at, link_sources, links_from, named_before, names_at, numbered, owner_of, sources_of, width_in}
+use Rattle.check_signals.specs.Found.{LinkSources, NamedLink, NamesOf, signal_by, signals_named, parts_by, link_at, link_sources, links_from, system_asked, system_source, named_before, names_at, numbered, owner_of, sources_of, width_in}
 use Rattle.check_signals.specs.Names.{Joined, Prefixed, SignalName, Wired}
-use Rattle.check_signals.specs.Source.{WantedSignal, Changing, Constant, SearchFault, Kept, Source, Twice, Width, alone, constant_of, digit_in, fitting, left_out, measured, missing, part_of, parts_bits, parts_of, source_by, source_in, too_wide, unfound, whole_of, width_of, within}
+use Rattle.check_signals.specs.Nets.{Bit, bit_among, bit_at, bit_within, bits_called, bits_wanted, codes_at, has_whole, indices_down, lone, meant, named_by, named_in, net_by, net_in, one_of, span_of, vector_in}
+use Rattle.check_signals.specs.Parts.{all_parts, fitting, part_of, parts_of}
+use Rattle.check_signals.specs.Source.{WantedSignal, Changing, Constant, SearchFault, Kept, Source, Twice, Width, alone, constant_of, digit_in, left_out, measured, missing, parts_bits, signal_in, too_wide, unfound, width_of, within}
 use Rattle.check_signals.specs.Wanted.{bits_fit, constant_bits, count_of, may_be_absent, may_be_unfound, wanted_of}
-use Rattle.check_signals.specs.Wires.{Wire, places_in, sought, wider, widest_from, widest_of, wire_at, wire_by, wire_of, wires, wires_called}
+use Rattle.check_signals.specs.Wires.{Wire, first_of, places_in, sought, wider, widest_from, widest_of, wire_at, wire_by, wire_of, wires, wires_called}
 use Rattle.check_signals.specs.declared.keys.TheConstants.{SIGNALS}
 use Rattle.check_signals.specs.declared.parts.LinkSignal.{LinkSignal}
 use Rattle.check_signals.specs.declared.signal_fault.SignalOwner.{SignalOwner}
@@ -242,31 +244,14 @@ alone-fits vars asked some (Some wire) s fits is =
     go true e = absurd (cc)
     go false e = measured-fits vars asked wire s (fits wire refl) e
 
-pub source-fits : (vars : List Var) (asked : WantedSignal) (s : Source) → 0 < count_of asked.wanted
-    → source_in vars asked ≡ Ok s → SourceFits vars asked.wanted s
-unfolding source_in
-source-fits vars asked s some is =
-    absent (may_be_absent asked.wanted) (bytes_eq asked.name (codes "-")) refl is
-  where
-    go : (d : Option ℕ) → source_by vars asked d ≡ Ok s → SourceFits vars asked.wanted s
-    go (Some digit) e =
-        let same : constant_of digit (constant_bits asked.wanted) ≡ s = cc in
-        subst (SourceFits vars asked.wanted) same (constant-fits vars asked.wanted digit some)
-    go None e =
-        let looked = sought vars asked.name in
-        alone-fits vars asked (wires_called vars asked.name) (widest_of (wires_called vars asked.name)) s
-        (λ wire is. widest-fits looked.0 looked.1 vars wire is) e
+signal-fits : (vars : List Var) (asked : WantedSignal) (s : Source) → signal_in vars asked ≡ Ok s
+    → SourceFits vars asked.wanted s
+signal-fits vars asked s is =
+    let looked = sought vars asked.name in
+    alone-fits vars asked (wires_called vars asked.name) (widest_of (wires_called vars asked.name)) s
+    (λ wire is. widest-fits looked.0 looked.1 vars wire is) is
 
-    absent : (m n : Bool) → may_be_absent asked.wanted ≡ m
-        → cond (m && n) (Ok left_out) (source_by vars asked (digit_in asked.name)) ≡ Ok s
-        → SourceFits vars asked.wanted s
-    absent true true may e =
-        let same : left_out ≡ s = cc in
-        subst (SourceFits vars asked.wanted) same (left-out-fits vars asked.wanted may)
-    absent true false may e = go (digit_in asked.name) e
-    absent false n may e = go (digit_in asked.name) e
-
--- ---- the names of a link
+-- ---- the parts that a name finds
 
 -- a part lies within its value
 pub record PartFits (vars : List Var) (s : Source) : Type 0 where
@@ -279,52 +264,180 @@ pub record PartsFit (vars : List Var) (wanted : Wanted) (parts : List Source) : 
   pub each : Each (PartFits vars) parts
   pub bits : HasBits wanted (parts_bits parts)
 
-whole-fits : (vars : List Var) (signal : LinkSignal) (name : List ℕ) (is_prefixed : Bool) (parts : List Source)
-    → 0 < count_of signal.wanted → whole_of vars signal name is_prefixed ≡ Ok parts → PartsFit vars signal.wanted parts
-whole-fits vars signal name is_prefixed parts some is = go (source_in vars asked) refl is
-  where
-    asked : WantedSignal
-    asked = record { owner = signal.owner; name = name; is_prefixed = is_prefixed; wanted = signal.wanted }
+one-fits : (vars : List Var) (wanted : Wanted) (s : Source) → SourceFits vars wanted s → PartsFit vars wanted (s ∷ [])
+one-fits vars wanted s fits =
+    let bits : s.to - s.from ≡ parts_bits (s ∷ []) = omega arith in
+    record {
+      each = (record { kept = fits.kept; from = fits.from; inside = fits.inside }, tt);
+      bits = subst (HasBits wanted) bits fits.bits;
+    }
 
-    go : (r : Result Source SearchFault) → source_in vars asked ≡ r → (r >>= (λ source. Ok (source ∷ []))) ≡ Ok parts
-        → PartsFit vars signal.wanted parts
-    go (Err fault) x e = absurd (cc)
-    go (Ok s) x e =
+-- what holds of each that is found holds of all
+each-gives : {A B F : Type 0} → (f : A → Result B F) (P : B → Type 0) → ((x : A) (y : B) → f x ≡ Ok y → P y)
+    → (xs : List A) (ys : List B) → each f xs ≡ Ok ys → Each P ys
+each-gives {A} {B} {F} f P gives [] ys is = let same : [] ≡ ys = cc in subst (Each P) same tt
+each-gives {A} {B} {F} f P gives (x ∷ xs) ys is = go (f x) (each f xs) refl (λ more e. each-gives f P gives xs more e) is
+  where
+    go : (r : Result B F) (rest : Result (List B) F) → f x ≡ r → ((more : List B) → rest ≡ Ok more → Each P more)
+        → (r >>= (λ y. rest >>= (λ zs. Ok (y ∷ zs)))) ≡ Ok ys → Each P ys
+    go (Err fault) rest e others w = absurd (cc)
+    go (Ok y) (Err fault) e others w = absurd (cc)
+    go (Ok y) (Ok more) e others w =
+        let same : y ∷ more ≡ ys = cc in subst (Each P) same (gives x y e, others more refl)
+
+-- a bit that is declared alone
+bit-within-fits : (vars : List Var) (asked : WantedSignal) (code : List ℕ) (width : ℕ) (s : Source)
+    → width ≡ width_of vars code → bit_within asked code width ≡ Ok s → PartFits vars s
+bit-within-fits vars asked code width s has is = go (nat_lt MAX_WIDTH width) is
+  where
+    go : (t : Bool) → cond t (Err (too_wide asked width MAX_WIDTH))
+        (Ok (record { kept = Changing code width; from = width - 1; to = width })) ≡ Ok s
+        → PartFits vars s
+    go true e = absurd (cc)
+    go false e =
+        let made : Source = record { kept = Changing code width; from = width - 1; to = width } in
+        let same : made ≡ s = cc in
+        subst (PartFits vars) same (record { kept = has; from = omega arith; inside = omega arith })
+
+bit-fits : (vars : List Var) (asked : WantedSignal) (bits : List Bit) (index : ℕ) (s : Source)
+    → bit_at vars asked bits index ≡ Ok s → PartFits vars s
+unfolding bit_at
+bit-fits vars asked bits index s is = go (first_of (codes_at bits index)) is
+  where
+    by : (code : List ℕ) (t : Bool)
+        → cond t (Err (Twice asked.owner asked.name)) (bit_within asked code (width_of vars code)) ≡ Ok s → PartFits vars s
+    by code true e = absurd (cc)
+    by code false e = bit-within-fits vars asked code (width_of vars code) s refl e
+
+    go : (first : Option (List ℕ)) → bit_among vars asked (codes_at bits index) first ≡ Ok s → PartFits vars s
+    go None e = absurd (cc)
+    go (Some code) e = by code (list_any (λ other. not (bytes_eq other code)) (codes_at bits index)) e
+
+bits-wanted-fit : (vars : List Var) (asked : WantedSignal) (some parts : List Source) → Each (PartFits vars) some
+    → bits_wanted asked some ≡ Ok parts → PartsFit vars asked.wanted parts
+bits-wanted-fit vars asked some parts all is = go (bits_fit asked.wanted (parts_bits some)) refl is
+  where
+    go : (t : Bool) → bits_fit asked.wanted (parts_bits some) ≡ t
+        → cond t (Ok some) (Err (too_wide asked (parts_bits some) (count_of asked.wanted))) ≡ Ok parts
+        → PartsFit vars asked.wanted parts
+    go true x e =
+        let same : some ≡ parts = cc in
+        subst (PartsFit vars asked.wanted) same
+        (record { each = all; bits = bits-fit asked.wanted (parts_bits some) x })
+    go false x e = absurd (cc)
+
+vector-fits : (vars : List Var) (asked : WantedSignal) (name : List ℕ) (bits : List Bit) (span : Span)
+    (parts : List Source) → vector_in vars asked name bits span ≡ Ok parts → PartsFit vars asked.wanted parts
+vector-fits vars asked name bits span parts is =
+    go (has_whole vars name) (nat_lt (span.left - span.right) (length bits)) is
+  where
+    indices : List ℕ
+    indices = indices_down span.left (span.left - span.right + 1)
+
+    by : (r : Result (List Source) SearchFault)
+        → ((some : List Source) → r ≡ Ok some → Each (PartFits vars) some)
+        → (r >>= bits_wanted asked) ≡ Ok parts → PartsFit vars asked.wanted parts
+    by (Err fault) all e = absurd (cc)
+    by (Ok some) all e = bits-wanted-fit vars asked some parts (all some refl) e
+
+    go : (whole enough : Bool) → cond whole (Err (Twice asked.owner asked.name))
+        (cond enough (each (bit_at vars asked bits) (indices_down span.left (span.left - span.right + 1)) >>= bits_wanted asked)
+        (Err (Twice asked.owner asked.name))) ≡ Ok parts
+        → PartsFit vars asked.wanted parts
+    go true enough e = absurd (cc)
+    go false true e =
+        by (each (bit_at vars asked bits) (indices_down span.left (span.left - span.right + 1)))
+        (λ some x. each-gives (bit_at vars asked bits) (PartFits vars) (λ index s y. bit-fits vars asked bits index s y)
+        (indices_down span.left (span.left - span.right + 1)) some x) e
+    go false false e = absurd (cc)
+
+net-fits : (vars : List Var) (asked : WantedSignal) (parts : List Source) → net_in vars asked ≡ Ok parts
+    → PartsFit vars asked.wanted parts
+net-fits vars asked parts is =
+    go (meant (span_of (bits_called vars (sought vars asked.name).0)) (sought vars asked.name).1) is
+  where
+    by : (r : Result Source SearchFault) → signal_in vars asked ≡ r → lone r ≡ Ok parts
+        → PartsFit vars asked.wanted parts
+    by (Err fault) x e = absurd (cc)
+    by (Ok s) x e =
         let same : s ∷ [] ≡ parts = cc in
-        let fits = source-fits vars asked s some x in
-        let bits : s.to - s.from ≡ parts_bits (s ∷ []) = omega arith in
-        subst (PartsFit vars signal.wanted) same (record {
-          each = (record { kept = fits.kept; from = fits.from; inside = fits.inside }, tt);
-          bits = subst (HasBits signal.wanted) bits fits.bits;
-        })
+        subst (PartsFit vars asked.wanted) same (one-fits vars asked.wanted s (signal-fits vars asked s x))
 
-part-fits : (vars : List Var) (signal : LinkSignal) (name : List ℕ) (s : Source) → part_of vars signal name ≡ Ok s
-    → PartFits vars s
-part-fits vars signal name s is =
-    let fits = source-fits vars
-    (record { owner = signal.owner; name = name; is_prefixed = false; wanted = AtMost MAX_WIDTH }) s (omega arith) is in
-    record { kept = fits.kept; from = fits.from; inside = fits.inside }
+    go : (span : Option Span)
+        → net_by vars asked (sought vars asked.name).0 (bits_called vars (sought vars asked.name).0) span ≡ Ok parts
+        → PartsFit vars asked.wanted parts
+    go None e = by (signal_in vars asked) refl e
+    go (Some span) e =
+        vector-fits vars asked (sought vars asked.name).0 (bits_called vars (sought vars asked.name).0) span parts e
 
-each-part-fits : (vars : List Var) (signal : LinkSignal) (names : List (List ℕ)) (parts : List Source)
-    → each (part_of vars signal) names ≡ Ok parts → Each (PartFits vars) parts
-each-part-fits vars signal [] parts is = let same : [] ≡ parts = cc in subst (Each (PartFits vars)) same tt
-each-part-fits vars signal (name ∷ names) parts is =
-    go (part_of vars signal name) (each (part_of vars signal) names) refl
-    (λ more x. each-part-fits vars signal names more x) is
+pub named-fits : (vars : List Var) (asked : WantedSignal) (parts : List Source) → 0 < count_of asked.wanted
+    → named_in vars asked ≡ Ok parts → PartsFit vars asked.wanted parts
+unfolding named_in
+named-fits vars asked parts some is =
+    absent (may_be_absent asked.wanted) (bytes_eq asked.name (codes "-")) refl is
   where
-    go : (r : Result Source SearchFault) (rest : Result (List Source) SearchFault) → part_of vars signal name ≡ r
-        → ((more : List Source) → rest ≡ Ok more → Each (PartFits vars) more)
-        → (r >>= (λ y. rest >>= (λ ys. Ok (y ∷ ys)))) ≡ Ok parts → Each (PartFits vars) parts
-    go (Err fault) rest x y e = absurd (cc)
-    go (Ok s) (Err fault) x y e = absurd (cc)
-    go (Ok s) (Ok more) x y e =
-        let same : s ∷ more ≡ parts = cc in
-        subst (Each (PartFits vars)) same (part-fits vars signal name s x, y more refl)
+    go : (d : Option ℕ) → named_by vars asked d ≡ Ok parts → PartsFit vars asked.wanted parts
+    go (Some digit) e =
+        let same : constant_of digit (constant_bits asked.wanted) ∷ [] ≡ parts = cc in
+        subst (PartsFit vars asked.wanted) same
+        (one-fits vars asked.wanted (constant_of digit (constant_bits asked.wanted))
+        (constant-fits vars asked.wanted digit some))
+    go None e = net-fits vars asked parts e
+
+    absent : (m n : Bool) → may_be_absent asked.wanted ≡ m
+        → cond (m && n) (Ok (left_out ∷ [])) (named_by vars asked (digit_in asked.name)) ≡ Ok parts
+        → PartsFit vars asked.wanted parts
+    absent true true may e =
+        let same : left_out ∷ [] ≡ parts = cc in
+        subst (PartsFit vars asked.wanted) same
+        (one-fits vars asked.wanted left_out (left-out-fits vars asked.wanted may))
+    absent true false may e = go (digit_in asked.name) e
+    absent false n may e = go (digit_in asked.name) e
+
+-- the clock and the reset
+pub system-fits : (vars : List Var) (name : List ℕ) (s : Source) → system_source vars name ≡ Ok s
+    → SourceFits vars (AtMost 1) s
+system-fits vars name s is = go (named_in vars (system_asked name)) refl is
+  where
+    by : (parts : List Source) → PartsFit vars (AtMost 1) parts → one_of (system_asked name) parts ≡ Ok s
+        → SourceFits vars (AtMost 1) s
+    by [] fits e = absurd (cc)
+    by (part ∷ []) fits e =
+        let same : part ≡ s = cc in
+        subst (SourceFits vars (AtMost 1)) same (record {
+          kept = fits.each.0.kept;
+          from = fits.each.0.from;
+          inside = fits.each.0.inside;
+          bits = omega (arith, fits.bits);
+        })
+    by (part ∷ (other ∷ parts)) fits e = absurd (cc)
+
+    go : (r : Result (List Source) SearchFault) → named_in vars (system_asked name) ≡ r
+        → (r >>= one_of (system_asked name)) ≡ Ok s → SourceFits vars (AtMost 1) s
+    go (Err fault) x e = absurd (cc)
+    go (Ok parts) x e = by parts (named-fits vars (system_asked name) parts (omega arith) x) e
+
+-- ---- the names of a link
+
+all-parts-fit : (vars : List Var) (found : List (List Source)) → Each (Each (PartFits vars)) found
+    → Each (PartFits vars) (all_parts found)
+all-parts-fit vars [] fits = tt
+all-parts-fit vars (parts ∷ found) fits =
+    each-append (PartFits vars) parts (all_parts found) fits.0 (all-parts-fit vars found fits.1)
+
+part-fits : (vars : List Var) (signal : LinkSignal) (name : List ℕ) (parts : List Source)
+    → part_of vars signal name ≡ Ok parts → Each (PartFits vars) parts
+part-fits vars signal name parts is =
+    (named-fits vars
+    (record { owner = signal.owner; name = name; is_prefixed = false; wanted = AtMost MAX_WIDTH }) parts (omega arith) is).each
 
 joined-fits : (vars : List Var) (signal : LinkSignal) (names : List (List ℕ)) (parts : List Source)
-    → (each (part_of vars signal) names >>= fitting signal) ≡ Ok parts → PartsFit vars signal.wanted parts
+    → (each (part_of vars signal) names >>= (λ found. fitting signal (all_parts found))) ≡ Ok parts
+    → PartsFit vars signal.wanted parts
 joined-fits vars signal names parts is =
-    go (each (part_of vars signal) names) (λ some x. each-part-fits vars signal names some x) is
+    go (each (part_of vars signal) names)
+    (λ found x. each-gives (part_of vars signal) (Each (PartFits vars))
+    (λ name some y. part-fits vars signal name some y) names found x) is
   where
     by : (some : List Source) → Each (PartFits vars) some → (t : Bool) → bits_fit signal.wanted (parts_bits some) ≡ t
         → cond t (Ok some) (Err (Width signal.owner (signal_name signal.which) (parts_bits some) (count_of signal.wanted)))
@@ -336,15 +449,20 @@ joined-fits vars signal names parts is =
         (record { each = all; bits = bits-fit signal.wanted (parts_bits some) x })
     by some all false x e = absurd (cc)
 
-    go : (r : Result (List Source) SearchFault) → ((some : List Source) → r ≡ Ok some → Each (PartFits vars) some)
-        → (r >>= fitting signal) ≡ Ok parts → PartsFit vars signal.wanted parts
-    go (Err fault) each e = absurd (cc)
-    go (Ok some) each e = by some (each some refl) (bits_fit signal.wanted (parts_bits some)) refl e
+    go : (r : Result (List (List Source)) SearchFault)
+        → ((found : List (List Source)) → r ≡ Ok found → Each (Each (PartFits vars)) found)
+        → (r >>= (λ found. fitting signal (all_parts found))) ≡ Ok parts → PartsFit vars signal.wanted parts
+    go (Err fault) all e = absurd (cc)
+    go (Ok found) all e =
+        by (all_parts found) (all-parts-fit vars found (all found refl))
+        (bits_fit signal.wanted (parts_bits (all_parts found))) refl e
 
 parts-fit : (vars : List Var) (signal : LinkSignal) (name : SignalName) (parts : List Source) → 0 < count_of signal.wanted
     → parts_of vars signal name ≡ Ok parts → PartsFit vars signal.wanted parts
-parts-fit vars signal (Prefixed name) parts some is = whole-fits vars signal name true parts some is
-parts-fit vars signal (Wired name) parts some is = whole-fits vars signal name false parts some is
+parts-fit vars signal (Prefixed name) parts some is =
+    named-fits vars (record { owner = signal.owner; name = name; is_prefixed = true; wanted = signal.wanted }) parts some is
+parts-fit vars signal (Wired name) parts some is =
+    named-fits vars (record { owner = signal.owner; name = name; is_prefixed = false; wanted = signal.wanted }) parts some is
 parts-fit vars signal (Joined names) parts some is = joined-fits vars signal names parts is
 
 -- the parts of signals at a link whose bus has so many bytes, each with as many bits as its signal has

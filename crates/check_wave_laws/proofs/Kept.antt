@@ -18,18 +18,18 @@ use Rattle.check_vcd.specs.declared.codes.Coded.{Coded}
 use Rattle.check_samples.specs.Digits.{unknown}
 use Rattle.check_samples.specs.declared.channel.BeatTaps.TheVariants.{A, D}
 use Rattle.check_samples.specs.declared.channel.Channel.{Channel}
-use Rattle.check_signals.specs.Found.{Found, LinkSources, FoundSources, all_by, all_of, all_parts, bits_in, code_in, digits_in, distinct, find_of, flat, found_in, found_of, in_order, is_kept, is_same, joined_bits, joins_in, joins_of, link_bits, link_joins, values_kept, links_from, channels_of_link, channel_pairs, slot_place, sampling_of, slot_one, slots_from, sources_in, system_source, tap_by, tap_of, taps_from, width_in}
+use Rattle.check_signals.specs.Found.{Found, LinkSources, FoundSources, all_by, all_of, bits_in, code_in, digits_in, distinct, find_of, flat, found_in, found_of, in_order, is_kept, is_same, joined_bits, joins_in, joins_of, link_bits, link_joins, values_kept, links_from, channels_of_link, channel_pairs, slot_place, sampling_of, slot_one, slots_from, sources_in, system_source, tap_by, tap_of, taps_from, width_in}
 use Rattle.check_signals.specs.Names.{SignalNames}
+use Rattle.check_signals.specs.Parts.{all_parts}
 use Rattle.check_signals.specs.Source.{Changing, Constant, SearchFault, Kept, Source, parts_bits, width_by, width_of}
 use Rattle.check_signals.specs.declared.keys.TheConstants.{SIGNALS}
 use Rattle.check_samples.specs.declared.signal.Signal.{Signal}
 use Rattle.check_samples.specs.declared.tap.Tap.{Tap}
 use Rattle.check_signals.specs.Wanted.{wanted_of}
-use Rattle.check_signals.specs.declared.signal_fault.SignalOwner.TheVariants as owner
 use Rattle.check_signals.specs.declared.wanted.Wanted.{Wanted}
 use Rattle.check_signals.specs.declared.wanted.Wanted.TheVariants.{AtMost, Exactly}
 use Rattle.check_wave_laws.specs.Text.{AllLieWithin, ChannelFits, FindFits, SamplingFits, TakesBeat, taps_bits}
-use Rattle.check_wave_laws.proofs.Found.{Each, FitsAll, HasBits, KeptFits, LinkFits, PartFits, PartsFit, SourceFits, each-append, each-first, each-has, each-map, each-second, masters-fit, ports-fit, source-fits}
+use Rattle.check_wave_laws.proofs.Found.{Each, FitsAll, HasBits, KeptFits, LinkFits, PartFits, PartsFit, SourceFits, each-append, each-first, each-has, each-map, each-second, masters-fit, ports-fit, system-fits}
 
 -- ---- one value and another
 
@@ -607,7 +607,7 @@ reset-fits vars (Some name) reset is s e = go (system_source vars name) refl is
         let same : Some found ≡ reset = cc in
         let is : found ≡ s = cc in
         subst (SourceFits vars (AtMost 1)) is
-        (source-fits vars (record { owner = owner.System; name = name; is_prefixed = false; wanted = AtMost 1 }) found (omega arith) x)
+        (system-fits vars name found x)
 
 pub sources-fit : (vars : List Var) (masters ports : List Bus) (names : SignalNames) (sources : FoundSources)
     → sources_in vars masters ports names ≡ Ok sources → AllFit vars masters ports sources
@@ -631,8 +631,7 @@ sources-fit vars masters ports names sources is =
         record { clock = clock; reset = reset; ports = of_ports; masters = of_masters } in
         let same : made ≡ sources = cc in
         subst (AllFit vars masters ports) same (record {
-          clock = source-fits vars (record { owner = owner.System; name = names.clock; is_prefixed = false; wanted = AtMost 1 }) clock
-              (omega arith) x;
+          clock = system-fits vars names.clock clock x;
           reset = λ s is. reset-fits vars names.reset reset y s is;
           of_ports = ports-fit vars masters ports names.ports of_ports z;
           of_masters = masters-fit vars masters ports names.masters of_masters w;

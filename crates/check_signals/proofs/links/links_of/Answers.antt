@@ -3,7 +3,8 @@ use Rattle.std.proofs.Common.{◌≡◌, ◌+◌, ◌∷◌, add-one, drop, drop
 use Rattle.std.proofs.lemmas.List.{map-append}
 use Rattle.check_beats.specs.declared.bus.Bus.TheVariants.{One}
 use Rattle.check_vcd.specs.Header.{var_view}
-use Rattle.check_signals.specs.Found.{link_sources_view, links_view, signals_view}
+use Rattle.check_signals.specs.Found.{link_sources_view, links_view}
+use Rattle.check_signals.specs.Parts.{signals_view}
 use Rattle.check_signals.specs.Names.{link_view, name_view}
 use Rattle.check_signals.specs.Source.{fault_view}
 use Rattle.check_signals.proofs.LinkLemmas.{finds-fault, link-fails, link-found, link-without}

@@ -3,7 +3,7 @@ use Rattle.std.proofs.Common.{◌<◌, arith, drop, length, map}
 use Rattle.std.proofs.lemmas.List.{length-map}
 use Rattle.check_beats.specs.Bus.{bus_bytes}
 use Rattle.check_vcd.specs.Header.{var_view}
-use Rattle.check_signals.specs.Found.{signals_view}
+use Rattle.check_signals.specs.Parts.{signals_view}
 use Rattle.check_signals.specs.Names.{name_view}
 use Rattle.check_signals.proofs.LinkLemmas.{names-end}
 use Rattle.check_signals.proofs.links.signals_named.Goals as goal

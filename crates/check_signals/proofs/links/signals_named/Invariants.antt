@@ -3,7 +3,8 @@ use Rattle.std.proofs.Common.{◌≡◌, drop, map}
 use Rattle.tl_text.specs.Reading.{with_front}
 use Rattle.check_beats.specs.Bus.{bus_bytes}
 use Rattle.check_vcd.specs.Header.{var_view}
-use Rattle.check_signals.specs.Found.{signals_named, signals_view}
+use Rattle.check_signals.specs.Found.{signals_named}
+use Rattle.check_signals.specs.Parts.{signals_view}
 use Rattle.check_signals.specs.Names.{name_view}
 use Rattle.check_signals.proofs.links.signals_named.Given as goal
 

@@ -1,6 +1,7 @@
 -- The taps so far, and those of the rest, are those of all; and so is what is put together.
 use Rattle.std.proofs.Common.{◌≡◌, ◌+◌, ◌++◌, drop, map}
-use Rattle.check_signals.specs.Found.{bits_in, joins_in, signals_view, taps_from}
+use Rattle.check_signals.specs.Found.{bits_in, joins_in, taps_from}
+use Rattle.check_signals.specs.Parts.{signals_view}
 use Rattle.check_signals.specs.Source.{kept_view}
 use Rattle.check_signals.proofs.links.taps_of.Given as goal
 

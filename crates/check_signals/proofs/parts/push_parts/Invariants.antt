@@ -1,8 +1,8 @@
 -- The parts so far, and those of the rest, are those of all.
 use Rattle.std.proofs.Common.{◌≡◌, ◌++◌, drop, map}
-use Rattle.check_signals.specs.Found.{all_parts, signals_view}
+use Rattle.check_signals.specs.Parts.{all_parts, signals_view}
 use Rattle.check_signals.specs.Source.{source_view}
-use Rattle.check_signals.proofs.resolve.push_parts.Given as goal
+use Rattle.check_signals.proofs.parts.push_parts.Given as goal
 
 abbrev pub invariant-loop-parts : goal.invariant-loop-parts
 invariant-loop-parts l =
