@@ -9,6 +9,7 @@ LONGEST_WORD = 1 << 20
 # What is sampled of a link at an edge.
 SAMPLED = ("a_valid", "a_ready", "a_address", "a_size", "a_source")
 RANGE = re.compile(r"\[[^\[\]]*\]$")
+INDEX = re.compile(r"\[([0-9]+)\]$")
 
 
 class NoDump(Exception):
@@ -39,21 +40,40 @@ def section(words):
 
 class Variables:
     """What a header declares: for each name with its scopes the identifier and the width, in the order of the dump. If a name stands twice
-    with one identifier, it is as wide as its widest declaration. Names that two identifiers have are in `twice`: tlvcd refuses them."""
+    with one identifier, it is as wide as its widest declaration. A net that is declared bit by bit has the identifiers of its bits, the
+    highest first. Names that two signals have are in `twice`: tlvcd refuses them."""
 
     def __init__(self):
         self.named, self.twice, self.scopes = {}, set(), []
+        # the identifiers of each index of the names that are declared bit by bit, and the names of other signals
+        self.bits, self.whole = {}, set()
 
     def declare(self, fields):
         """Takes a $var: its type, width, identifier and name. A range behind the name is not part of it."""
         if len(fields) < 4 or not fields[1].isdecimal():
             raise NoDump("not a dump")
         name, net = ".".join([*self.scopes, RANGE.sub("", fields[3])]), (fields[2], int(fields[1]))
+        if net[1] == 1 and (index := INDEX.search("".join(fields[3:]))):
+            self.bits.setdefault(name, {}).setdefault(int(index[1]), set()).add(net[0])
+        else:
+            self.whole.add(name)
         identifier, bits = self.named.setdefault(name, net)
         if identifier != net[0]:
             self.twice.add(name)
         elif bits < net[1]:
             self.named[name] = net
+
+    def join_bits(self):
+        """Puts nets together that are declared bit by bit, each index once and without a gap."""
+        for name, bits in self.bits.items():
+            indices = range(max(bits), min(bits) - 1, -1)
+            if len(bits) == 1:
+                continue
+            if name in self.whole or len(indices) != len(bits) or any(len(identifiers) > 1 for identifiers in bits.values()):
+                self.twice.add(name)
+            else:
+                self.twice.discard(name)
+                self.named[name] = tuple(next(iter(bits[index])) for index in indices), len(bits)
 
     def take(self, keyword, fields):
         """Takes a section of the header."""
@@ -77,6 +97,7 @@ def variables_of(words):
         if fields is None:
             break
         if word == "$enddefinitions":
+            variables.join_bits()
             return variables
         variables.take(word, fields)
     raise NoDump("cut in its header")
@@ -116,6 +137,19 @@ def steps_of(words, tracked):
     yield changed
 
 
+def parts_of(identifier):
+    """The identifiers of a signal: one, or those of its bits."""
+    return identifier if isinstance(identifier, tuple) else (identifier,)
+
+
+def value_of(identifier, now):
+    """The digits of a signal, or None if some are not told. Of a bit's identifier the lowest digit counts."""
+    parts = [now.get(part) for part in parts_of(identifier)]
+    if None in parts:
+        return None
+    return parts[0] if len(parts) == 1 else "".join(part[-1] for part in parts)
+
+
 def number_of(bits):
     """The number that bits spell, or None if one is unknown."""
     return int(bits, 2) if bits and not set(bits) - {"0", "1"} else None
@@ -150,7 +184,8 @@ class Watch:
 
     def tracked(self):
         """The identifiers whose values are needed."""
-        return {self.clock, self.reset, *(link.get(signal) for link in self.links for signal in SAMPLED)} - {None}
+        identifiers = {self.clock, self.reset, *(link.get(signal) for link in self.links for signal in SAMPLED)} - {None}
+        return {part for identifier in identifiers for part in parts_of(identifier)}
 
     def follow(self, steps):
         """Reads to the end. An edge samples what stood before its time, as tlvcd does."""
@@ -167,7 +202,7 @@ class Watch:
         """Keeps the request of a link, if a beat of channel A crosses. A design without a source has source 0."""
         if now.get(link.get("a_valid")) != "1" or now.get(link.get("a_ready")) != "1":
             return
-        address, size, source = (number_of(now.get(link.get(signal))) for signal in ("a_address", "a_size", "a_source"))
+        address, size, source = (number_of(value_of(link.get(signal), now)) for signal in ("a_address", "a_size", "a_source"))
         source = source if "a_source" in link else 0
         if None not in (address, size, source):
             crossed = self.seen.setdefault((place, now.get(self.reset)), Crossed())
