@@ -128,7 +128,7 @@ window-unknown test cells start n =
     (sym (get_or-take n here k None within ∙ get_or-drop start cells k None))
     ∙ sym (get_or-unknown (λ place. test (start + place)) (take n here) k))
 
-hidden_twice : (b : Bool) (cell : Option ℕ) → (if b then None else cell) ≡ (if b then None else if b then None else cell)
+pub hidden_twice : (b : Bool) (cell : Option ℕ) → (if b then None else cell) ≡ (if b then None else if b then None else cell)
 hidden_twice true cell = refl
 hidden_twice false cell = refl
 

@@ -51,13 +51,12 @@ window_of memory ask = take (2 ^ ask.size) (drop ask.address (seen memory))
 
 -- the memory after a request, which makes of its window what it sees there
 abbrev pub after_partial : Partial → Request → Partial
-after_partial memory ask =
-    if takes_bytes memory ask then
-    record memory {
-      cells = replaced memory.cells ask.address
-          (new_cells memory.kind ask.op (window_of memory ask) ask.bytes);
-    }
-    else memory
+after_partial memory ask = record memory {
+  cells =
+      if takes_bytes memory ask then
+      replaced memory.cells ask.address (new_cells memory.kind ask.op (window_of memory ask) ask.bytes)
+      else memory.cells;
+}
 
 -- the first address of the block that holds an address: blocks are as long as the largest message
 abbrev pub block_of : ℕ → ℕ
