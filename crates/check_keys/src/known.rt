@@ -110,7 +110,7 @@ impl TableKind {
             ],
             TableKind::Port => &[
                 b"name", b"kind", b"base", b"length", b"ranges", b"reset", b"image", b"unknown",
-                b"sizes", b"order", b"bus", b"signals", b"wires", b"extra",
+                b"sizes", b"order", b"bus", b"volatile", b"signals", b"wires", b"extra",
             ],
             TableKind::Master => &[
                 b"name", b"sources", b"first", b"stride", b"bus", b"reach", b"signals", b"wires",
