@@ -1,5 +1,5 @@
 -- The bytes of a port that change by themselves, as offsets in its first range. This project's own.
-use Rattle.std.specs.Prelude.{ℕ, ◌+◌, ◌-◌, ℤ, List, [], Option, None, Some, Result, Ok}
+use Rattle.std.specs.Prelude.{◌+◌, ◌-◌, ℤ, List, [], Option, None, Some, Result, Ok}
 use Rattle.toml.specs.Data.{Data, Members, get_member}
 use Rattle.tl_map.specs.declared.range.Range.{Range}
 use Rattle.tl_text.specs.Reading.{◌>>=◌, each}
