@@ -17,7 +17,7 @@ use Rattle.check_contests.specs.Below.{AreAlone, IsMemoryBelow}
 use Rattle.check_contests.proofs.AcceptedBytes.{IsFree, accepted_byte}
 use Rattle.check_contests.proofs.Bytes.{small_after}
 use Rattle.check_contests.proofs.Courses.{course-here, course-there, IsNew, asked_cases, waiting_cases, entry_of, none_kept}
-use Rattle.check_contests.proofs.Effect.{with_cells, seen_in, seen_at, cells_after, length-cells_after}
+use Rattle.check_contests.proofs.Effect.{with_cells, visible_in, visible_at, cells_after, length-cells_after}
 use Rattle.check_contests.proofs.Expected.{beside_known}
 use Rattle.check_contests.proofs.Kept.{none_of, kept-map, kept-other, kept-new}
 
@@ -260,9 +260,9 @@ below_then ours truth kept course wide index ask is = record {
     left = cells_after truth ask ours
 
     -- a byte that is seen then is not contested, and is seen of what the request leaves
-    known_then : (a byte : ℕ) → get_or (seen_in truth (unknown_where rule left)) a None ≡ Some byte
-        → (rule a ≡ false) × (get_or (seen_in truth left) a None ≡ Some byte)
+    known_then : (a byte : ℕ) → get_or (visible_in truth (unknown_where rule left)) a None ≡ Some byte
+        → (rule a ≡ false) × (get_or (visible_in truth left) a None ≡ Some byte)
     known_then a byte known =
         let seen' = known_where (is_volatile truth) (unknown_where rule left) a byte known in
         let parts = known_where rule left a byte seen'.1 in
-        (parts.0, seen_at truth left a (Some byte) seen'.0 parts.1)
+        (parts.0, visible_at truth left a (Some byte) seen'.0 parts.1)

@@ -21,7 +21,7 @@ use Rattle.check_memory.proofs.Legal.{takes_legal}
 use Rattle.check_memory.proofs.Unknown.{known_where, length-unknown_where}
 use Rattle.check_contests.specs.Moments.{AreBytes}
 use Rattle.check_contests.proofs.Cells.{none_known}
-use Rattle.check_contests.proofs.Effect.{seen_in, seen_at, cells_after, new_of, window, window_long, get_or-window, there_if_known, Stands, stands, after_in, after_out, after_untaken, where_is}
+use Rattle.check_contests.proofs.Effect.{visible_in, visible_at, cells_after, new_of, window, window_long, get_or-window, there_if_known, Stands, stands, after_in, after_out, after_untaken, where_is}
 
 -- each is below 256
 abbrev pub AreSmall : List ℕ → Type 0
@@ -135,22 +135,22 @@ small_window ask cells room small k byte is =
     small (ask.address + k) byte (sym (get_or-window ask cells k below) ∙ is)
 
 pub small_after : (memory : Partial) (ask : Request) (cells : List (Option ℕ)) → memory.kind ≡ ClearRegs
-    → AreWithin memory.ranges (length cells) → IsLawfulAsk ask → AreBytes (seen_in memory cells) → AreBytes ask.bytes
-    → AreBytes (seen_in memory (cells_after memory ask cells))
+    → AreWithin memory.ranges (length cells) → IsLawfulAsk ask → AreBytes (visible_in memory cells) → AreBytes ask.bytes
+    → AreBytes (visible_in memory (cells_after memory ask cells))
 small_after memory ask cells clears within lawful small small' a byte is = by_cases (takes_bytes memory ask) refl
   where
     known : (is_volatile memory a ≡ false) × (get_or (cells_after memory ask cells) a None ≡ Some byte)
     known = known_where (is_volatile memory) (cells_after memory ask cells) a byte is
 
     before : get_or cells a None ≡ Some byte → byte < 256
-    before there = small a byte (seen_at memory cells a (Some byte) known.0 there)
+    before there = small a byte (visible_at memory cells a (Some byte) known.0 there)
 
     new : Stands memory ask cells → AreBytes (new_of memory ask cells)
     new s =
-        let room : ask.address + 2 ^ ask.size ≤ length (seen_in memory cells) =
+        let room : ask.address + 2 ^ ask.size ≤ length (visible_in memory cells) =
         omega (arith, s.room, length-unknown_where (is_volatile memory) cells) in
-        rw clears (small_new ask.op (window ask (seen_in memory cells)) ask.bytes
-        (small_window ask (seen_in memory cells) room small) small')
+        rw clears (small_new ask.op (window ask (visible_in memory cells)) ask.bytes
+        (small_window ask (visible_in memory cells) room small) small')
 
     by_cases : (takes : Bool) → takes_bytes memory ask ≡ takes → byte < 256
     by_cases true taken =

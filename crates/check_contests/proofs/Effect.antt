@@ -26,13 +26,13 @@ abbrev pub with_cells : Partial → List (Option ℕ) → Partial
 with_cells memory cells = record memory { cells = cells }
 
 -- what is seen of other bytes
-abbrev pub seen_in : Partial → List (Option ℕ) → List (Option ℕ)
-seen_in memory cells = unknown_where (is_volatile memory) cells
+abbrev pub visible_in : Partial → List (Option ℕ) → List (Option ℕ)
+visible_in memory cells = unknown_where (is_volatile memory) cells
 
 -- a byte that does not change by itself is seen
-pub seen_at : (memory : Partial) (cells : List (Option ℕ)) (a : ℕ) (cell : Option ℕ) → is_volatile memory a ≡ false
-    → get_or cells a None ≡ cell → get_or (seen_in memory cells) a None ≡ cell
-seen_at memory cells a cell still is =
+pub visible_at : (memory : Partial) (cells : List (Option ℕ)) (a : ℕ) (cell : Option ℕ) → is_volatile memory a ≡ false
+    → get_or cells a None ≡ cell → get_or (visible_in memory cells) a None ≡ cell
+visible_at memory cells a cell still is =
     get_or-unknown (is_volatile memory) cells a
     ∙ ap (λ (b : Bool). if b then None else get_or cells a None) still ∙ is
 
@@ -80,7 +80,7 @@ new_long kind (Intent _) size old given counted wide = wide
 -- ---- the bytes after it
 
 abbrev pub new_of : Partial → Request → List (Option ℕ) → List (Option ℕ)
-new_of memory ask cells = new_cells memory.kind ask.op (window ask (seen_in memory cells)) ask.bytes
+new_of memory ask cells = new_cells memory.kind ask.op (window ask (visible_in memory cells)) ask.bytes
 
 after_taken : (memory : Partial) (ask : Request) (cells : List (Option ℕ)) → takes_bytes memory ask ≡ true
     → cells_after memory ask cells ≡ replaced cells ask.address (new_of memory ask cells)
@@ -93,19 +93,19 @@ after_untaken memory ask cells is = rw (is, cells_after) refl
 -- what a legal request needs to be looked at byte by byte
 pub record Stands (memory : Partial) (ask : Request) (cells : List (Option ℕ)) : Type 0 where
   pub room : ask.address + 2 ^ ask.size ≤ length cells
-  pub wide : length (window ask (seen_in memory cells)) ≡ 2 ^ ask.size
+  pub wide : length (window ask (visible_in memory cells)) ≡ 2 ^ ask.size
   pub long : length (new_of memory ask cells) ≡ 2 ^ ask.size
 
 pub stands : (memory : Partial) (ask : Request) (cells : List (Option ℕ)) → AreWithin memory.ranges (length cells)
     → IsLawfulAsk ask → permits memory ask ≡ true → Stands memory ask cells
 stands memory ask cells within lawful is =
     let room : ask.address + 2 ^ ask.size ≤ length cells = inside memory ask cells within is in
-    let wide : length (window ask (seen_in memory cells)) ≡ 2 ^ ask.size =
-    window_long ask (seen_in memory cells) (omega (arith, room, length-unknown_where (is_volatile memory) cells)) in
+    let wide : length (window ask (visible_in memory cells)) ≡ 2 ^ ask.size =
+    window_long ask (visible_in memory cells) (omega (arith, room, length-unknown_where (is_volatile memory) cells)) in
     record {
       room = room;
       wide = wide;
-      long = new_long memory.kind ask.op ask.size (window ask (seen_in memory cells)) ask.bytes lawful.counted wide;
+      long = new_long memory.kind ask.op ask.size (window ask (visible_in memory cells)) ask.bytes lawful.counted wide;
     }
 
 pub length-cells_after : (memory : Partial) (ask : Request) (cells : List (Option ℕ))
@@ -195,9 +195,9 @@ where_is ask a = ⊎_elim
 
 -- a byte that a request may not write is seen as it was
 pub stays : (memory : Partial) (ask : Request) (cells : List (Option ℕ)) (a : ℕ)
-    → AreWithin memory.ranges (length cells) → IsLawfulAsk ask → IsByteAt memory.kind (seen_in memory cells) a
+    → AreWithin memory.ranges (length cells) → IsLawfulAsk ask → IsByteAt memory.kind (visible_in memory cells) a
     → may_write memory ask a ≡ false
-    → get_or (seen_in memory (cells_after memory ask cells)) a None ≡ get_or (seen_in memory cells) a None
+    → get_or (visible_in memory (cells_after memory ask cells)) a None ≡ get_or (visible_in memory cells) a None
 stays memory ask cells a within lawful small none = by_cases (takes_bytes memory ask) refl
   where
     volatile : Bool
@@ -206,28 +206,28 @@ stays memory ask cells a within lawful small none = by_cases (takes_bytes memory
     hidden : Option ℕ → Option ℕ
     hidden cell = if volatile then None else cell
 
-    seen_then : get_or (seen_in memory (cells_after memory ask cells)) a None
+    seen_then : get_or (visible_in memory (cells_after memory ask cells)) a None
         ≡ hidden (get_or (cells_after memory ask cells) a None)
     seen_then = get_or-unknown (is_volatile memory) (cells_after memory ask cells) a
 
-    seen_now : get_or (seen_in memory cells) a None ≡ hidden (get_or cells a None)
+    seen_now : get_or (visible_in memory cells) a None ≡ hidden (get_or cells a None)
     seen_now = get_or-unknown (is_volatile memory) cells a
 
     -- a cell that is as it was
     same : get_or (cells_after memory ask cells) a None ≡ get_or cells a None
-        → get_or (seen_in memory (cells_after memory ask cells)) a None ≡ get_or (seen_in memory cells) a None
+        → get_or (visible_in memory (cells_after memory ask cells)) a None ≡ get_or (visible_in memory cells) a None
     same is = seen_then ∙ ap hidden is ∙ sym seen_now
 
     -- one that is what was seen of it
-    as_seen : get_or (cells_after memory ask cells) a None ≡ get_or (seen_in memory cells) a None
-        → get_or (seen_in memory (cells_after memory ask cells)) a None ≡ get_or (seen_in memory cells) a None
+    as_seen : get_or (cells_after memory ask cells) a None ≡ get_or (visible_in memory cells) a None
+        → get_or (visible_in memory (cells_after memory ask cells)) a None ≡ get_or (visible_in memory cells) a None
     as_seen is = seen_then ∙ ap hidden (is ∙ seen_now) ∙ sym (hidden_twice volatile (get_or cells a None)) ∙ sym seen_now
 
     here : Stands memory ask cells → takes_bytes memory ask ≡ true → writes ask.op ask a ≡ false
         → (k : ℕ) × (k < 2 ^ ask.size) × (a ≡ ask.address + k)
-        → get_or (cells_after memory ask cells) a None ≡ get_or (seen_in memory cells) a None
+        → get_or (cells_after memory ask cells) a None ≡ get_or (visible_in memory cells) a None
     here s is none' place =
-        let old = seen_in memory cells in
+        let old = visible_in memory cells in
         let window_at : get_or (window ask old) place.0 None ≡ get_or old a None =
         get_or-window ask old place.0 place.1 ∙ ap (λ n. get_or old n None) (sym place.2) in
         let P : ℕ → Type 0 = λ n. writes ask.op ask n ≡ false in
@@ -238,7 +238,7 @@ stays memory ask cells a within lawful small none = by_cases (takes_bytes memory
         ∙ window_at
 
     by_cases : (takes : Bool) → takes_bytes memory ask ≡ takes
-        → get_or (seen_in memory (cells_after memory ask cells)) a None ≡ get_or (seen_in memory cells) a None
+        → get_or (visible_in memory (cells_after memory ask cells)) a None ≡ get_or (visible_in memory cells) a None
     by_cases true is =
         let legal = takes_legal memory ask is in
         let s = stands memory ask cells within lawful legal in
@@ -322,10 +322,10 @@ written_carries (Intent _) ask a is = cc
 pub leaves_more : (memory : Partial) (ask : Request) (less more : List (Option ℕ)) (a byte : ℕ)
     → AreWithin memory.ranges (length less) → length less ≡ length more → IsLawfulAsk ask
     → may_write memory ask a ≡ true
-    → ((place b : ℕ) → Matters memory ask a place → get_or (seen_in memory less) place None ≡ Some b
-    → get_or (seen_in memory more) place None ≡ Some b)
-    → get_or (seen_in memory (cells_after memory ask less)) a None ≡ Some byte
-    → get_or (seen_in memory (cells_after memory ask more)) a None ≡ Some byte
+    → ((place b : ℕ) → Matters memory ask a place → get_or (visible_in memory less) place None ≡ Some b
+    → get_or (visible_in memory more) place None ≡ Some b)
+    → get_or (visible_in memory (cells_after memory ask less)) a None ≡ Some byte
+    → get_or (visible_in memory (cells_after memory ask more)) a None ≡ Some byte
 leaves_more memory ask less more a byte within same lawful may kept is = by_cases (is_atomic ask.op) refl
   where
     parts : (permits memory ask ≡ true) × (writes ask.op ask a ≡ true)
@@ -347,10 +347,10 @@ leaves_more memory ask less more a byte within same lawful may kept is = by_case
     place = place_in ask a (written_in ask.op ask a parts.1)
 
     old : List (Option ℕ)
-    old = seen_in memory less
+    old = visible_in memory less
 
     old' : List (Option ℕ)
-    old' = seen_in memory more
+    old' = visible_in memory more
 
     known : (is_volatile memory a ≡ false) × (get_or (cells_after memory ask less) a None ≡ Some byte)
     known = known_where (is_volatile memory) (cells_after memory ask less) a byte is
@@ -360,8 +360,8 @@ leaves_more memory ask less more a byte within same lawful may kept is = by_case
         ∙ sym (ap (λ n. get_or (cells_after memory ask less) n None) place.2) ∙ known.1
 
     back : get_or (new_of memory ask more) place.0 None ≡ Some byte
-        → get_or (seen_in memory (cells_after memory ask more)) a None ≡ Some byte
-    back left = seen_at memory (cells_after memory ask more) a (Some byte) known.0
+        → get_or (visible_in memory (cells_after memory ask more)) a None ≡ Some byte
+    back left = visible_at memory (cells_after memory ask more) a (Some byte) known.0
         (ap (λ n. get_or (cells_after memory ask more) n None) place.2
         ∙ after_in memory ask more place.0 s' takes place.1 ∙ left)
 
@@ -374,7 +374,7 @@ leaves_more memory ask less more a byte within same lawful may kept is = by_case
     not_both one other = let e : true ≡ false = sym one ∙ other in cc
 
     by_cases : (atomic : Bool) → is_atomic ask.op ≡ atomic
-        → get_or (seen_in memory (cells_after memory ask more)) a None ≡ Some byte
+        → get_or (visible_in memory (cells_after memory ask more)) a None ≡ Some byte
     by_cases true atomic = back (atomic-more memory.kind ask.op (window ask old) (window ask old') ask.bytes place.0 byte
         atomic (s.wide ∙ sym s'.wide)
         (λ k b there.

@@ -9,7 +9,7 @@ use Rattle.tl_types.specs.Operation.{reply_op_of}
 use Rattle.tl_types.specs.Request.{Request}
 use Rattle.tl_types.specs.declared.operation.ReplyOp.{ReplyOp}
 use Rattle.tl_types.specs.declared.operation.ReplyOp.TheVariants.{AccessAck, AccessAckData, HintAck}
-use Rattle.check_memory.specs.Partial.{Partial, permits, seen, after_partial}
+use Rattle.check_memory.specs.Partial.{Partial, permits, visible, after_partial}
 use Rattle.check_memory.specs.Pattern.{Pattern, pattern, shown_cells}
 use Rattle.check_memory.specs.Slave.{expected_of}
 use Rattle.check_memory.specs.declared.slave.Slave.{Slave}
@@ -85,8 +85,8 @@ shown_short HintAck n cells short = omega arith
 expected_short : (memory : Partial) (ask : Request) → permits memory ask ≡ true
     → length (pattern memory ask).bytes ≤ 2 ^ ask.size
 expected_short memory ask is =
-    rw (is, pattern) (shown_short (reply_op_of ask.op) (2 ^ ask.size) (take (2 ^ ask.size) (drop ask.address (seen memory)))
-    (omega (arith, length-take (2 ^ ask.size) (drop ask.address (seen memory)))))
+    rw (is, pattern) (shown_short (reply_op_of ask.op) (2 ^ ask.size) (take (2 ^ ask.size) (drop ask.address (visible memory)))
+    (omega (arith, length-take (2 ^ ask.size) (drop ask.address (visible memory)))))
 
 due_is : (memory : Partial) (kept : List Accepted) (ask : Request)
     → All (λ (entry : Accepted). IsBeside memory ask entry) kept

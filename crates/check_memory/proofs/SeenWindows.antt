@@ -10,7 +10,7 @@ use Rattle.tl_ops.specs.declared.kind.Kind.{Kind}
 use Rattle.tl_map.specs.declared.range.Range.{Range}
 use Rattle.check_memory.specs.Known.{replaced}
 use Rattle.check_memory.specs.Cells.{new_cells, unknown_where, forgotten_cell, forgotten}
-use Rattle.check_memory.specs.Partial.{Partial, holds, permits, takes_bytes, seen, window_of, block_of, after_partial, after_forgetting, AreWithin}
+use Rattle.check_memory.specs.Partial.{Partial, holds, permits, takes_bytes, visible, window_of, block_of, after_partial, after_forgetting, AreWithin}
 use Rattle.check_memory.specs.Pattern.{Pattern, pattern, shown_cells}
 use Rattle.check_memory.proofs.Forgotten.{marked, length-marked, get_or-marked}
 use Rattle.check_memory.proofs.Legal.{replaced-same}
@@ -141,8 +141,8 @@ seen_of memory ask volatile cells read left address width same same' at wide is 
     ∙ sym (window-unknown (λ place. holds volatile place 1) cells address width)
     ∙ ap (λ (ranges : List Range). take width (drop address (unknown_where (λ place. holds ranges place 1) cells))) same
     ∙ ap (λ cs. take width (drop address (unknown_where (λ place. holds memory.volatile place 1) cs))) same'
-    ∙ ap (λ n. take width (drop n (seen memory))) at
-    ∙ ap (λ n. take n (drop ask.address (seen memory))) wide
+    ∙ ap (λ n. take width (drop n (visible memory))) at
+    ∙ ap (λ n. take n (drop ask.address (visible memory))) wide
 
 shown_carried : (op : ReplyOp) (cells : List (Option ℕ)) → reply_carries_bytes op ≡ true → cells ≡ shown_cells op cells
 shown_carried AccessAck cells carries = cc

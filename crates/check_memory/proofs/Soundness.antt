@@ -21,7 +21,7 @@ use Rattle.tl_ops.proofs.Kept.{length-new_window}
 use Rattle.tl_map.specs.declared.range.Range.{Range}
 use Rattle.check_memory.specs.Known.{IsBelow, known, all_known, replaced}
 use Rattle.check_memory.specs.Cells.{put_cell, clear_cell, put_cells, combined, combined_logic, new_cells, unknown_where}
-use Rattle.check_memory.specs.Partial.{Partial, holds, permits, takes_bytes, is_volatile, seen, window_of, after_partial, AreWithin}
+use Rattle.check_memory.specs.Partial.{Partial, holds, permits, takes_bytes, is_volatile, visible, window_of, after_partial, AreWithin}
 use Rattle.check_memory.specs.Pattern.{shown_cells}
 use Rattle.check_memory.specs.Whole.{true_window, true_after}
 use Rattle.check_memory.specs.Laws.{IsLawfulAsk, IsSound, AreSameButVolatile}
@@ -213,15 +213,15 @@ taken memory ask is = rw (is, after_partial) refl
 pub untaken : (memory : Partial) (ask : Request) → takes_bytes memory ask ≡ false → after_partial memory ask ≡ memory
 untaken memory ask is = rw (is, after_partial) refl
 
-told_window : (memory : Partial) (bytes : List ℕ) (ask : Request) → Told (seen memory) bytes
+told_window : (memory : Partial) (bytes : List ℕ) (ask : Request) → Told (visible memory) bytes
     → Told (window_of memory ask) (true_window bytes ask)
 told_window memory bytes ask told =
-    told-take (2 ^ ask.size) (drop ask.address (seen memory)) (drop ask.address bytes)
-    (told-drop ask.address (seen memory) bytes told)
+    told-take (2 ^ ask.size) (drop ask.address (visible memory)) (drop ask.address bytes)
+    (told-drop ask.address (visible memory) bytes told)
 
 told-after : (memory : Partial) (bytes : List ℕ) (ask : Request) (takes : Bool) → takes_bytes memory ask ≡ takes
-    → AreWithin memory.ranges (length bytes) → IsLawfulAsk ask → Told (seen memory) bytes
-    → Told (seen (after_partial memory ask)) (true_after memory bytes ask)
+    → AreWithin memory.ranges (length bytes) → IsLawfulAsk ask → Told (visible memory) bytes
+    → Told (visible (after_partial memory ask)) (true_after memory bytes ask)
 told-after memory bytes ask true is within lawful told =
     let legal = takes_legal memory ask is in
     let new = new_cells memory.kind ask.op (window_of memory ask) ask.bytes in
@@ -241,26 +241,26 @@ told-after memory bytes ask true is within lawful told =
       arith,
       inside,
       long,
-      told-length (seen memory) bytes told,
+      told-length (visible memory) bytes told,
       length-unknown_where (is_volatile memory) memory.cells,
     ) in
     let all : Told (unknown_where (is_volatile memory) (replaced memory.cells ask.address new))
     (with_window bytes ask.address new') =
     subst (λ (cells : List (Option ℕ)). Told cells (with_window bytes ask.address new'))
     (sym (unknown-replaced (is_volatile memory) memory.cells new ask.address fits))
-    (told-unknown (is_volatile memory) (replaced (seen memory) ask.address new) (with_window bytes ask.address new')
-    (told-replaced (seen memory) bytes ask.address new new' told told')) in
-    subst (λ (m : Partial). Told (seen m) (true_after memory bytes ask)) (sym (taken memory ask is))
+    (told-unknown (is_volatile memory) (replaced (visible memory) ask.address new) (with_window bytes ask.address new')
+    (told-replaced (visible memory) bytes ask.address new new' told told')) in
+    subst (λ (m : Partial). Told (visible m) (true_after memory bytes ask)) (sym (taken memory ask is))
     (subst (λ (bs : List ℕ). Told (unknown_where (is_volatile memory) (replaced memory.cells ask.address new)) bs)
     (sym (true_taken memory bytes ask legal)) all)
 told-after memory bytes ask false is within lawful told =
-    subst (λ (m : Partial). Told (seen m) (true_after memory bytes ask)) (sym (untaken memory ask is))
-    (subst (λ (bs : List ℕ). Told (seen memory) bs) (sym (true_same memory bytes ask is)) told)
+    subst (λ (m : Partial). Told (visible m) (true_after memory bytes ask)) (sym (untaken memory ask is))
+    (subst (λ (bs : List ℕ). Told (visible memory) bs) (sym (true_same memory bytes ask is)) told)
 
 pub partial_is_sound : (memory : Partial) (bytes : List ℕ) (ask : Request) → AreWithin memory.ranges (length bytes)
-    → IsLawfulAsk ask → IsBelow (seen memory) (known bytes) → IsSound memory bytes ask
+    → IsLawfulAsk ask → IsBelow (visible memory) (known bytes) → IsSound memory bytes ask
 partial_is_sound memory bytes ask within lawful below =
-    let told : Told (seen memory) bytes = told_from_below (seen memory) bytes below in
+    let told : Told (visible memory) bytes = told_from_below (visible memory) bytes below in
     record {
       reply_fits = record {
         op_is = refl;
@@ -271,14 +271,14 @@ partial_is_sound memory bytes ask within lawful below =
             (told-chosen (permits memory ask) (window_of memory ask) (true_window bytes ask)
             (replicate (2 ^ ask.size) 0) (told_window memory bytes ask told));
       };
-      stays_below = below_from_told (seen (after_partial memory ask)) (true_after memory bytes ask)
+      stays_below = below_from_told (visible (after_partial memory ask)) (true_after memory bytes ask)
           (told-after memory bytes ask (takes_bytes memory ask) refl within lawful told);
     }
 
 -- ---- bytes that change by themselves
 
 pub volatile_bytes_are_free : (memory : Partial) (bytes later : List ℕ) → AreSameButVolatile memory bytes later
-    → IsBelow (seen memory) (known bytes) → IsBelow (seen memory) (known later)
+    → IsBelow (visible memory) (known bytes) → IsBelow (visible memory) (known later)
 volatile_bytes_are_free memory bytes later same below = record {
   counted = length-map later (λ byte. Some byte) ∙ same.counted ∙ sym (length-map bytes (λ byte. Some byte)) ∙ below.counted;
   kept = λ place byte is. same.same place (known_where (is_volatile memory) memory.cells place byte is).0

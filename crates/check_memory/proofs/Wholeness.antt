@@ -19,7 +19,7 @@ use Rattle.tl_ops.proofs.Kept.{length-new_window}
 use Rattle.tl_ops.proofs.LaneLists.{length-with_window}
 use Rattle.check_memory.specs.Known.{known, all_known, replaced}
 use Rattle.check_memory.specs.Cells.{put_cell, clear_cell, put_cells, combined, combined_logic, new_cells}
-use Rattle.check_memory.specs.Partial.{Partial, permits, takes_bytes, holds, is_volatile, seen, window_of, after_partial, AreWithin}
+use Rattle.check_memory.specs.Partial.{Partial, permits, takes_bytes, holds, is_volatile, visible, window_of, after_partial, AreWithin}
 use Rattle.check_memory.specs.Pattern.{Pattern, pattern, shown_cells, seen_as}
 use Rattle.check_memory.specs.Whole.{whole, true_window, true_after, true_reply}
 use Rattle.check_memory.specs.Laws.{IsLawfulAsk, IsWhole}
@@ -83,14 +83,14 @@ known-new kind (Intent _) old given long = refl
 -- ---- where it stands
 
 -- where no byte changes by itself, all is seen
-pub seen-all : (memory : Partial) → memory.volatile ≡ [] → seen memory ≡ memory.cells
-seen-all memory none =
+pub visible-all : (memory : Partial) → memory.volatile ≡ [] → visible memory ≡ memory.cells
+visible-all memory none =
     unknown_none (is_volatile memory) memory.cells (λ place below. ap (λ ranges. holds ranges place 1) none)
 
 known-window : (memory : Partial) (bytes : List ℕ) (ask : Request) → memory.volatile ≡ []
     → window_of (whole memory bytes) ask ≡ known (true_window bytes ask)
 known-window memory bytes ask none =
-    ap (λ cells. take (2 ^ ask.size) (drop ask.address cells)) (seen-all (whole memory bytes) none)
+    ap (λ cells. take (2 ^ ask.size) (drop ask.address cells)) (visible-all (whole memory bytes) none)
     ∙ ap (take (2 ^ ask.size)) (drop-map (λ (b : ℕ). Some b) ask.address bytes)
     ∙ take-map (λ (b : ℕ). Some b) (2 ^ ask.size) (drop ask.address bytes)
 

@@ -5,7 +5,7 @@ use Rattle.tl_ops.specs.Store.{Store, legal, reply, after}
 use Rattle.tl_ops.specs.Support.{row_of_kind}
 use Rattle.check_memory.specs.Known.{IsBelow, known}
 use Rattle.check_memory.specs.Cells.{is_atomic, is_swap}
-use Rattle.check_memory.specs.Partial.{Partial, permits, is_volatile, seen, after_partial, AreWithin}
+use Rattle.check_memory.specs.Partial.{Partial, permits, is_volatile, visible, after_partial, AreWithin}
 use Rattle.check_memory.specs.Pattern.{Pattern, pattern, FitsPattern, seen_as}
 use Rattle.check_memory.specs.declared.slave.Slave.{Slave}
 use Rattle.check_memory.specs.Slave.{expected_of, MayReply}
@@ -31,12 +31,12 @@ WholeStaysWhole =
 -- as known
 pub record IsSound (memory : Partial) (bytes : List ℕ) (ask : Request) : Type 0 where
   pub reply_fits : FitsPattern (pattern memory ask) (seen_as (true_reply memory bytes ask))
-  pub stays_below : IsBelow (seen (after_partial memory ask)) (known (true_after memory bytes ask))
+  pub stays_below : IsBelow (visible (after_partial memory ask)) (known (true_after memory bytes ask))
 
 abbrev pub PartialIsSound : Type 0
 PartialIsSound =
     (memory : Partial) (bytes : List ℕ) (ask : Request) → AreWithin memory.ranges (length bytes) → IsLawfulAsk ask
-    → IsBelow (seen memory) (known bytes) → IsSound memory bytes ask
+    → IsBelow (visible memory) (known bytes) → IsSound memory bytes ask
 
 -- the true bytes later are those of before, but for such as change by themselves
 pub record AreSameButVolatile (memory : Partial) (bytes later : List ℕ) : Type 0 where
@@ -48,7 +48,7 @@ pub record AreSameButVolatile (memory : Partial) (bytes later : List ℕ) : Type
 abbrev pub VolatileBytesAreFree : Type 0
 VolatileBytesAreFree =
     (memory : Partial) (bytes later : List ℕ) → AreSameButVolatile memory bytes later
-    → IsBelow (seen memory) (known bytes) → IsBelow (seen memory) (known later)
+    → IsBelow (visible memory) (known bytes) → IsBelow (visible memory) (known later)
 
 -- a legal request has a byte in its window that changes by itself
 pub record HasVolatile (memory : Partial) (ask : Request) (place : ℕ) : Type 0 where
@@ -67,7 +67,7 @@ abbrev pub AtomicOverVolatile : Type 0
 AtomicOverVolatile =
     (memory : Partial) (ask : Request) (place other : ℕ) → HasVolatile memory ask place
     → AreWithin memory.ranges (length memory.cells) → is_atomic ask.op ≡ true → is_swap ask.op ≡ false
-    → other < 2 ^ ask.size → slice_index_or (seen (after_partial memory ask)) (ask.address + other) None ≡ None
+    → other < 2 ^ ask.size → slice_index_or (visible (after_partial memory ask)) (ask.address + other) None ≡ None
 
 -- a memory in one range, whose sizes are its kind's row, and of which no byte changes by itself, is the store of tl_ops
 -- between the bytes before it and beyond

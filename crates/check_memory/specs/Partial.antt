@@ -42,12 +42,12 @@ abbrev pub is_volatile : Partial → ℕ → Bool
 is_volatile memory address = holds memory.volatile address 1
 
 -- the cells as they are seen: those of bytes that change by themselves are unknown
-abbrev pub seen : Partial → List (Option ℕ)
-seen memory = unknown_where (is_volatile memory) memory.cells
+abbrev pub visible : Partial → List (Option ℕ)
+visible memory = unknown_where (is_volatile memory) memory.cells
 
 -- what is seen of a request's window
 abbrev pub window_of : Partial → Request → List (Option ℕ)
-window_of memory ask = take (2 ^ ask.size) (drop ask.address (seen memory))
+window_of memory ask = take (2 ^ ask.size) (drop ask.address (visible memory))
 
 -- the memory after a request, which makes of its window what it sees there
 abbrev pub after_partial : Partial → Request → Partial
