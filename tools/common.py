@@ -26,8 +26,8 @@ KEYS = {"": ("slots", "port", "master"), "port": ("kind", "base", "length", "res
 SIGNALS = ("a_valid", "a_ready", "a_opcode", "a_param", "a_size", "a_source", "a_address", "a_mask", "a_data", "a_corrupt", "d_valid", "d_ready",
            "d_opcode", "d_param", "d_size", "d_source", "d_data", "d_denied", "d_corrupt")
 SYSTEM_KEYS = {"": ("bus", "unaligned", "decode", "port", "master", "clock", "reset", "reset_active", "bits", "slots", "extra"),
-               "port": ("name", "kind", "base", "length", "ranges", "reset", "image", "unknown", "sizes", "order", "bus", "signals", "wires",
-                        "bits", "extra"),
+               "port": ("name", "kind", "base", "length", "ranges", "reset", "image", "unknown", "sizes", "order", "bus", "volatile", "signals",
+                        "wires", "bits", "extra"),
                "master": ("name", "sources", "first", "stride", "bus", "reach", "signals", "wires", "bits", "ops", "extra"),
                "sizes": ("get", "putfull", "putpart", "arithmetic", "logical", "intent", "extra"),
                "wires": (*SIGNALS, "extra")}

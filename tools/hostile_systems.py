@@ -35,7 +35,8 @@ ENDS = {
 # Images that are there, and names that are none of a file that can be read to its end within a range.
 IMAGES = {"none.bin": None, "short.bin": 16, "page.bin": 4096, "long.bin": 70000}
 OTHERS = ("missing.bin", "folder", "dangling.bin", "", ".", "short.bin/", "/proc/self/mem", "/dev/null", "a" * 300, "\\u0000")
-WORDS = ["bus", "port", "master", "kind", "base", "length", "ranges", "image", "unknown", "sizes", "order", "sources", "first", "stride", "name", "=",
+WORDS = ["bus", "port", "master", "kind", "base", "length", "ranges", "image", "unknown", "sizes", "order", "volatile", "sources", "first", "stride",
+         "name", "=",
          "=", "[[port]]", "[[master]]", "[", "]", "{", "}", ",", "\n", "\n", "0", "1", "4", "64", "-1", "65536", "0x1000", "1.5", "true", "'ram'",
          "'device'", "'short.bin'", "'00ff'", "'accept'", "[0, 3]", "'''", '"""', "#", "\\", "\0", "é"]
 VALUES = ["0", "1", "2", "4", "16", "-1", "64", "0x1000", "0x1_0000", "65536", "9223372036854775807", "9223372036854775808", "1.5", "true", "false",
@@ -117,6 +118,7 @@ def port_of(rng, place, wild):
             (0.3, "order", ["'accept'", "'reply'", "'any'"] + ["'all'", "1"] * odd),
             (0.3, "bus", [1, 2, 4, 8, 16, 32, 64] + [0, 3, 128, -8, "'8'", 2 ** 62] * odd),
             (0.3, "sizes", [sizes_of(rng, odd)]),
+            (0.3, "volatile", ["[[0, 1]]", "[[0, 1], [0, 1]]"] + ["[]", "[[0, 0]]", "[[1, 65536]]", "[[-1, 1]]", "[0, 1]", "1", f"{[[0, 1]] * 65}"] * odd),
             (0.3, "name", [f"'s{place}'"] + ["'p0'", "''", "1", "'s0'"] * odd)):
         if rng.random() < chance:
             text.append(f"{key} = {rng.choice(values)}")

@@ -96,18 +96,25 @@ class Slave:
         self.is_unknown, self.served, self.kept = port.get("unknown", False), 0, []
         self.ranges = ranges_of(port)
         base = self.ranges[0][0]
+        self.volatile = [(base + offset, length) for offset, length in port.get("volatile", [])]
         self.cells = {base + place: byte for given in (image, bytes.fromhex(port.get("reset", ""))) for place, byte in enumerate(given)}
 
     def may_answer_unknown(self):
-        return self.kind == "device" or self.is_unknown
+        return self.kind == "device" or self.is_unknown or bool(self.volatile)
 
     def supports(self, name, size):
         table = SUPPORT[self.kind] if self.sizes is None else self.sizes
         least, greatest = table.get(GROUP_OF[name], (1, 0))
         return least <= size <= greatest
 
+    def byte(self, address):
+        """The byte at an address; what changes by itself is unknown, whatever was written there."""
+        if holds(self.volatile, address, 0):
+            return None
+        return self.cells.get(address, None if self.is_unknown else 0)
+
     def window(self, ask):
-        return [self.cells.get(at, None if self.is_unknown else 0) for at in range(ask.address, ask.address + (1 << ask.size))]
+        return [self.byte(at) for at in range(ask.address, ask.address + (1 << ask.size))]
 
     def served_next(self, ask):
         """What a request expects after all before it, and its place among them; of a device it expects nothing."""

@@ -51,7 +51,15 @@ def port_of_system(rng, number, images):
         port["order"] = rng.choice(ORDERS)
     if rng.random() < 0.3:
         port["name"] = f"slave_{number}"
+    if rng.random() < 0.3:
+        port["volatile"] = [volatile_of(rng, ranges[0][1]) for _ in range(rng.choice([1, 1, 2, 5]))]
     return port
+
+
+def volatile_of(rng, length):
+    """The offset and the length of bytes of a range that change by themselves, mostly a word or so near its beginning."""
+    offset = rng.choice([rng.randrange(min(length, 64)), rng.randrange(length), length - 1])
+    return [offset, min(length - offset, rng.choice([1, 1, 2, 4, 8, 300, length]))]
 
 
 def sources_of(rng, masters):

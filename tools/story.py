@@ -139,6 +139,8 @@ class System:
         """What says the byte of a port at reset."""
         table = self.tables["p"][port]
         place = address - ranges_of(table)[0][0]
+        if any(offset <= place < offset + length for offset, length in table.get("volatile", [])):
+            return "the key volatile: it changes by itself"
         if 0 <= place < len(table.get("reset", "")) // 2:
             return "the key reset"
         if 0 <= place < len(self.image(table)):
@@ -256,12 +258,12 @@ class Story:
         """For each address of a request what it held at reset, and after each earlier request that changed it: pairs of a request, None at
         reset, and a byte, None if it is unknown."""
         slave, window = self.system.slave(port), message.window()
-        found = {at: [(None, slave.cells.get(at, None if slave.is_unknown else 0))] for at in window}
+        found = {at: [(None, slave.byte(at))] for at in window}
         for other in self.writes[message.link[0]][:message.before]:
             if other.meets(window) and slave.permits(other.ask()):
                 slave.answer(other.ask())
                 for at in slave.writes(other.ask()) & set(window):
-                    found[at].append((other, slave.cells[at]))
+                    found[at].append((other, slave.byte(at)))
         return found
 
     def later(self, message, address, value):

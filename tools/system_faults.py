@@ -255,6 +255,57 @@ ORDERS_AND_BUSES = (PORT, {
     **{f"bus = {width}": "bus out of range" for width in (0, -8, 3, 128, 2**40)},
     **{f"bus = {width}": "missing master" for width in (1, 2, 4, 8, 16, 32, 64)},
 })
+# The bytes that change by themselves, in a first range of two bytes.
+VOLATILE = (PORT, {
+    "volatile = 1": "wrong type of volatile",
+    "volatile = true": "wrong type of volatile",
+    "volatile = '0 1'": "wrong type of volatile",
+    "volatile = { offset = 0, length = 1 }": "wrong type of volatile",
+    "volatile = [0, 1]": "wrong type of volatile",
+    "volatile = [{}]": "wrong type of volatile",
+    "volatile = [[]]": "wrong type of volatile",
+    "volatile = [[0]]": "wrong type of volatile",
+    "volatile = [[0, 1, 1]]": "wrong type of volatile",
+    "volatile = [[0, '1']]": "wrong type of volatile",
+    "volatile = [[0.0, 1]]": "wrong type of volatile",
+    "volatile = [[0, 1], 1]": "wrong type of volatile",
+    # a wrong type comes before all that is out of range
+    "volatile = [[-1, 1], [0]]": "wrong type of volatile",
+    f"volatile = {[[0, 1]] * 64 + [[0]]}": "wrong type of volatile",
+    "volatile = []": "volatile out of range",
+    "volatile = [[0, 0]]": "volatile out of range",
+    "volatile = [[0, -1]]": "volatile out of range",
+    "volatile = [[-1, 1]]": "volatile out of range",
+    "volatile = [[-1, 3]]": "volatile out of range",
+    "volatile = [[0, 3]]": "volatile out of range",
+    "volatile = [[1, 2]]": "volatile out of range",
+    "volatile = [[2, 1]]": "volatile out of range",
+    "volatile = [[2, 0]]": "volatile out of range",
+    "volatile = [[9223372036854775807, 1]]": "volatile out of range",
+    "volatile = [[1, 9223372036854775807]]": "volatile out of range",
+    "volatile = [[9223372036854775807, 9223372036854775807]]": "volatile out of range",
+    "volatile = [[0, 1], [0, 3]]": "volatile out of range",
+    f"volatile = {[[0, 1]] * 65}": "volatile out of range",
+    f"volatile = {[[0, 1]] * 64}": "missing master",
+    "volatile = [[0, 2]]": "missing master",
+    "volatile = [[1, 1]]": "missing master",
+    # pairs may overlap
+    "volatile = [[1, 1], [0, 2], [0, 1]]": "missing master",
+    # after the bus, and before the next port
+    "volatile = 1\nbus = 3": "bus out of range",
+    "volatile = 1\norder = 1": "wrong type of order",
+    "volatile = 1\n[[port]]": "wrong type of volatile",
+    "volatile = [[0, 2]]\n[[port]]": "missing kind",
+    # of several ranges the first counts, and a device is read as a memory is
+    "volatile = [[1, 1]]\n[[port]]\nkind = 'ram'\nranges = [[8, 2], [16, 8]]\nvolatile = [[2, 1]]": "volatile out of range",
+    "volatile = [[1, 1]]\n[[port]]\nkind = 'ram'\nranges = [[8, 8], [16, 2]]\nvolatile = [[7, 1]]": "missing master",
+    "volatile = [[1, 1]]\n[[port]]\nkind = 'device'\nbase = 8\nlength = 8\nvolatile = [[8, 1]]": "volatile out of range",
+    "[[port]]\nkind = 'ram'\nbase = 9223372036854775807\nlength = 9223372036854775807\nvolatile = [[9223372036854775806, 1]]": "missing master",
+    "[[port]]\nkind = 'ram'\nbase = 9223372036854775807\nlength = 9223372036854775807\nvolatile = [[9223372036854775806, 2]]":
+        "volatile out of range",
+    # the key has no other name
+    "volatiles = [[0, 1]]": "unknown key volatiles (near: volatile)",
+})
 MASTERS = ("[[master]]\n", {
     "name = 1\nsources = 0": "wrong type of name",
     "name = 'm7'": "name out of range",
@@ -424,8 +475,8 @@ SHARED = ("", {
     ports_at(*([(at % 254, 1)] for at in range(255))): "ports 0 and 254 overlap",
     masters_at(*(65535 if at in (2, 11) else at for at in range(12))): "masters 2 and 11 share source 65535",
 })
-TABLES = (DOCUMENTS, UNKNOWN_KEYS, NAMES, PLAIN_PORTS, RANGES, DEVICE_RANGES, CONTENTS, ONE_RANGE, SIZES, ORDERS_AND_BUSES, MASTERS, REACH, TWO_MASTERS, PARTS,
-          SHARED, IMAGES)
+TABLES = (DOCUMENTS, UNKNOWN_KEYS, NAMES, PLAIN_PORTS, RANGES, DEVICE_RANGES, CONTENTS, ONE_RANGE, SIZES, ORDERS_AND_BUSES, VOLATILE, MASTERS, REACH, TWO_MASTERS,
+          PARTS, SHARED, IMAGES)
 
 
 def rows():

@@ -11,7 +11,7 @@ use Rattle.check_contests.specs.Moments.Course.{Idle, Waiting}
 use Rattle.check_contests.specs.Below.{IsKnownRightly}
 use Rattle.check_contests.proofs.Clash.{not_both, apart_at, apart_by_ours, apart_by_other}
 use Rattle.check_contests.proofs.Courses.{course-here, course-there, IsNew, asked_cases, waiting_cases}
-use Rattle.check_contests.proofs.Effect.{cells_after, stays, Matters, leaves_more}
+use Rattle.check_contests.proofs.Effect.{visible_in, cells_after, stays, Matters, leaves_more}
 
 -- a request is accepted, and a byte is not contested
 pub record IsFree (truth : Partial) (ours : List (Option ℕ)) (course : ℕ → Course) (wide : ℕ) (ask : Request) (a : ℕ) : Type 0 where
@@ -19,8 +19,8 @@ pub record IsFree (truth : Partial) (ours : List (Option ℕ)) (course : ℕ →
   pub lawful : IsLawfulAsk ask
   pub within : AreWithin truth.ranges (length ours)
   pub counted : length ours ≡ length truth.cells
-  pub bytes : truth.kind ≡ ClearRegs → AreBytes ours
-  pub known : (b byte : ℕ) → get_or ours b None ≡ Some byte → IsKnownRightly truth course b byte
+  pub bytes : truth.kind ≡ ClearRegs → AreBytes (visible_in truth ours)
+  pub known : (b byte : ℕ) → get_or (visible_in truth ours) b None ≡ Some byte → IsKnownRightly truth course b byte
   pub free : (other : ℕ) (ask' : Request) → asked_of (course other) ≡ Some ask' → leave_unknown truth ask ask' a ≡ false
 
 waits_asked : (course : ℕ → Course) (other : ℕ) (ask : Request) → course other ≡ Waiting ask
@@ -30,7 +30,7 @@ waits_asked course other ask is = ap asked_of is
 -- the request may write it
 written : (truth : Partial) (ours : List (Option ℕ)) (course : ℕ → Course) (wide : ℕ) (ask : Request) (a byte : ℕ)
     → IsFree truth ours course wide ask a → may_write truth ask a ≡ true
-    → get_or (cells_after truth ask ours) a None ≡ Some byte
+    → get_or (visible_in truth (cells_after truth ask ours)) a None ≡ Some byte
     → IsKnownRightly truth (course_with course wide (Waiting ask)) a byte
 written truth ours course wide ask a byte is may left = record {
   alone = λ w ask' here may' other ask'' there apart. ⊎_elim
@@ -42,7 +42,7 @@ written truth ours course wide ask a byte is may left = record {
       (asked_cases course wide ask other ask'' there);
   to_come = λ w ask' waits may'. ⊎_elim
       (λ (new : IsNew wide w ask ask').
-      let P : Request → Type 0 = λ x. get_or (cells_after truth x truth.cells) a None ≡ Some byte in
+      let P : Request → Type 0 = λ x. get_or (visible_in truth (cells_after truth x truth.cells)) a None ≡ Some byte in
       subst P new.1 ours_then_true)
       (λ old. not_both may' (no_other w ask' (waits_asked course w ask' old.1)))
       (waiting_cases course wide ask w ask' waits);
@@ -72,7 +72,7 @@ written truth ours course wide ask a byte is may left = record {
         let P : ℕ → Type 0 = λ n. may_write truth ask' n ≡ false in
         subst P (sym (matters.1 atomic)) (no_other other ask' there)
 
-    ours_then_true : get_or (cells_after truth ask truth.cells) a None ≡ Some byte
+    ours_then_true : get_or (visible_in truth (cells_after truth ask truth.cells)) a None ≡ Some byte
     ours_then_true = leaves_more truth ask ours truth.cells a byte is.within is.counted is.lawful may
         (λ place b matters known. (is.known place b known).there
         (λ other ask' waits. none_at (is_atomic ask.op) place refl matters other ask'
@@ -82,7 +82,7 @@ written truth ours course wide ask a byte is may left = record {
 -- the request may not write it
 unwritten : (truth : Partial) (ours : List (Option ℕ)) (course : ℕ → Course) (wide : ℕ) (ask : Request) (a byte : ℕ)
     → IsFree truth ours course wide ask a → may_write truth ask a ≡ false
-    → get_or ours a None ≡ Some byte
+    → get_or (visible_in truth ours) a None ≡ Some byte
     → IsKnownRightly truth (course_with course wide (Waiting ask)) a byte
 unwritten truth ours course wide ask a byte is may left = record {
   alone = λ w ask' here may' other ask'' there apart. ⊎_elim
@@ -123,7 +123,7 @@ unwritten truth ours course wide ask a byte is may left = record {
 
 pub accepted_byte : (truth : Partial) (ours : List (Option ℕ)) (course : ℕ → Course) (wide : ℕ) (ask : Request)
     (a byte : ℕ) → IsFree truth ours course wide ask a
-    → get_or (cells_after truth ask ours) a None ≡ Some byte
+    → get_or (visible_in truth (cells_after truth ask ours)) a None ≡ Some byte
     → IsKnownRightly truth (course_with course wide (Waiting ask)) a byte
 accepted_byte truth ours course wide ask a byte is left = by_cases (may_write truth ask a) refl
   where

@@ -1,14 +1,15 @@
 -- What is kept says no more than the truth, once a request is accepted.
-use Rattle.std.proofs.Common.{◌≡◌, ◌∙◌, ◌⊎◌, inl, inr, ⊎_elim, ℕ, ◌+◌, Bool, true, false, List, length, map, Option, Some, None, refl, sym, ap, subst}
+use Rattle.std.proofs.Common.{◌≡◌, ◌∙◌, ◌⊎◌, inl, inr, ⊎_elim, ℕ, ◌+◌, Bool, true, false, List, length, map, get_or, Option, Some, None, refl, sym, ap, subst}
 use Rattle.std.specs.List.{list_any}
 use Rattle.std.specs.Prelude.{option_map}
 use Rattle.std.proofs.lemmas.Bool.{cases_eq}
 use Rattle.tl_types.specs.Request.{Request}
-use Rattle.check_memory.specs.Partial.{Partial, permits, after_partial, AreWithin}
+use Rattle.check_memory.specs.Partial.{Partial, permits, is_volatile, AreWithin}
 use Rattle.check_memory.specs.Pattern.{Pattern, pattern}
 use Rattle.check_memory.specs.declared.slave.Slave.{Slave}
 use Rattle.check_memory.specs.declared.slave.Slave.TheVariants.{Memory, Device}
-use Rattle.check_contests.specs.Writes.{may_write, leave_unknown}
+use Rattle.check_memory.proofs.Unknown.{known_where, length-unknown_where}
+use Rattle.check_contests.specs.Writes.{may_write, leave_unknown, unknown_where}
 use Rattle.check_contests.specs.Contests.{Accepted, one_may_write, is_contested, due_of, memory_accepting, entry_accepting, kept_accepting, kept_of}
 use Rattle.check_contests.specs.Moments.{Course, asked_of, course_with, IsCarried}
 use Rattle.check_contests.specs.Moments.Course.{Idle, Waiting}
@@ -16,9 +17,9 @@ use Rattle.check_contests.specs.Below.{AreAlone, IsMemoryBelow}
 use Rattle.check_contests.proofs.AcceptedBytes.{IsFree, accepted_byte}
 use Rattle.check_contests.proofs.Bytes.{small_after}
 use Rattle.check_contests.proofs.Courses.{course-here, course-there, IsNew, asked_cases, waiting_cases, entry_of, none_kept}
-use Rattle.check_contests.proofs.Effect.{with_cells, cells_after, length-cells_after}
+use Rattle.check_contests.proofs.Effect.{with_cells, visible_in, visible_at, cells_after, length-cells_after}
 use Rattle.check_contests.proofs.Expected.{beside_known}
-use Rattle.check_contests.proofs.Kept.{known_where, length-unknown_where, none_of, kept-map, kept-other, kept-new}
+use Rattle.check_contests.proofs.Kept.{none_of, kept-map, kept-other, kept-new}
 
 -- those kept are the requests that are there
 abbrev pub Asks : List Accepted → (ℕ → Course) → Type 0
@@ -128,15 +129,7 @@ asks_then slave kept course wide index ask none asks other = ⊎_elim
 pub after_same : (truth : Partial) (ours : List (Option ℕ)) (kept : List Accepted) (ask : Request)
     → memory_accepting (with_cells truth ours) kept ask
     ≡ with_cells truth (memory_accepting (with_cells truth ours) kept ask).cells
-after_same truth ours kept ask = by_cases (permits truth ask) refl
-  where
-    cells : List (Option ℕ)
-    cells = (memory_accepting (with_cells truth ours) kept ask).cells
-
-    by_cases : (p : Bool) → permits truth ask ≡ p
-        → record (after_partial (with_cells truth ours) ask) { cells = cells } ≡ with_cells truth cells
-    by_cases true is = rw (is, after_partial) refl
-    by_cases false is = rw (is, after_partial) refl
+after_same truth ours kept ask = refl
 
 -- the two memories before, and a request that is accepted
 pub record Accepts (ours : List (Option ℕ)) (truth : Partial) (kept : List Accepted) (course : ℕ → Course) (wide : ℕ) (ask : Request) : Type 0 where
@@ -250,12 +243,12 @@ below_then ours truth kept course wide index ask is = record {
   bytes = is.below.bytes;
   our_bytes = λ clears a byte known. small_after truth ask ours clears (within_ours ours truth kept course is.below)
       is.carried.lawful (is.below.our_bytes clears) (is.carried.bytes clears) a byte
-      (known_where rule left a byte known).1;
+      (known_then a byte known).1;
   carried = λ other ask' there. ⊎_elim
       (λ (new : IsNew wide other ask ask'). subst (λ (x : Request). IsCarried (Memory truth) x) new.1 is.carried)
       (λ old. is.below.carried other ask' old.1)
       (asked_cases course wide ask other ask' there);
-  known = λ a byte known. let parts = known_where rule left a byte known in
+  known = λ a byte known. let parts = known_then a byte known in
       accepted_byte truth ours course wide ask a byte (free_at ours truth kept course wide ask a is parts.0) parts.1;
   dues = dues_then ours truth kept course wide index ask is;
 }
@@ -265,3 +258,11 @@ below_then ours truth kept course wide index ask is = record {
 
     left : List (Option ℕ)
     left = cells_after truth ask ours
+
+    -- a byte that is seen then is not contested, and is seen of what the request leaves
+    known_then : (a byte : ℕ) → get_or (visible_in truth (unknown_where rule left)) a None ≡ Some byte
+        → (rule a ≡ false) × (get_or (visible_in truth left) a None ≡ Some byte)
+    known_then a byte known =
+        let seen' = known_where (is_volatile truth) (unknown_where rule left) a byte known in
+        let parts = known_where rule left a byte seen'.1 in
+        (parts.0, visible_at truth left a (Some byte) seen'.0 parts.1)

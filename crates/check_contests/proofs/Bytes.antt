@@ -16,10 +16,12 @@ use Rattle.tl_ops.specs.Window.{operand_of, combine_arith, combine_byte, combine
 use Rattle.check_memory.specs.Known.{known, all_known}
 use Rattle.check_memory.specs.Cells.{clear_cell, put_cells, combined, combined_logic, new_cells}
 use Rattle.check_memory.specs.Laws.{IsLawfulAsk}
-use Rattle.check_memory.specs.Partial.{Partial, permits, AreWithin}
+use Rattle.check_memory.specs.Partial.{Partial, takes_bytes, is_volatile, AreWithin}
+use Rattle.check_memory.proofs.Legal.{takes_legal}
+use Rattle.check_memory.proofs.Unknown.{known_where, length-unknown_where}
 use Rattle.check_contests.specs.Moments.{AreBytes}
 use Rattle.check_contests.proofs.Cells.{none_known}
-use Rattle.check_contests.proofs.Effect.{cells_after, new_of, window, window_long, get_or-window, there_if_known, Stands, stands, after_in, after_out, after_denied, where_is}
+use Rattle.check_contests.proofs.Effect.{visible_in, visible_at, cells_after, new_of, window, window_long, get_or-window, there_if_known, Stands, stands, after_in, after_out, after_untaken, where_is}
 
 -- each is below 256
 abbrev pub AreSmall : List ℕ → Type 0
@@ -133,19 +135,30 @@ small_window ask cells room small k byte is =
     small (ask.address + k) byte (sym (get_or-window ask cells k below) ∙ is)
 
 pub small_after : (memory : Partial) (ask : Request) (cells : List (Option ℕ)) → memory.kind ≡ ClearRegs
-    → AreWithin memory.ranges (length cells) → IsLawfulAsk ask → AreBytes cells → AreBytes ask.bytes
-    → AreBytes (cells_after memory ask cells)
-small_after memory ask cells clears within lawful small small' a byte is = by_cases (permits memory ask) refl
+    → AreWithin memory.ranges (length cells) → IsLawfulAsk ask → AreBytes (visible_in memory cells) → AreBytes ask.bytes
+    → AreBytes (visible_in memory (cells_after memory ask cells))
+small_after memory ask cells clears within lawful small small' a byte is = by_cases (takes_bytes memory ask) refl
   where
-    new : Stands memory ask cells → AreBytes (new_of memory ask cells)
-    new s = rw clears (small_new ask.op (window ask cells) ask.bytes (small_window ask cells s.room small) small')
+    known : (is_volatile memory a ≡ false) × (get_or (cells_after memory ask cells) a None ≡ Some byte)
+    known = known_where (is_volatile memory) (cells_after memory ask cells) a byte is
 
-    by_cases : (p : Bool) → permits memory ask ≡ p → byte < 256
-    by_cases true legal =
-        let s = stands memory ask cells within lawful legal in
+    before : get_or cells a None ≡ Some byte → byte < 256
+    before there = small a byte (visible_at memory cells a (Some byte) known.0 there)
+
+    new : Stands memory ask cells → AreBytes (new_of memory ask cells)
+    new s =
+        let room : ask.address + 2 ^ ask.size ≤ length (visible_in memory cells) =
+        omega (arith, s.room, length-unknown_where (is_volatile memory) cells) in
+        rw clears (small_new ask.op (window ask (visible_in memory cells)) ask.bytes
+        (small_window ask (visible_in memory cells) room small) small')
+
+    by_cases : (takes : Bool) → takes_bytes memory ask ≡ takes → byte < 256
+    by_cases true taken =
+        let s = stands memory ask cells within lawful (takes_legal memory ask taken) in
         ⊎_elim
-        (λ beside. small a byte (sym (after_out memory ask cells a s legal beside) ∙ is))
-        (λ place. new s place.0 byte (sym (after_in memory ask cells place.0 s legal place.1)
-        ∙ sym (ap (λ n. get_or (cells_after memory ask cells) n None) place.2) ∙ is))
+        (λ beside. before (sym (after_out memory ask cells a s taken beside) ∙ known.1))
+        (λ place. new s place.0 byte (sym (after_in memory ask cells place.0 s taken place.1)
+        ∙ sym (ap (λ n. get_or (cells_after memory ask cells) n None) place.2) ∙ known.1))
         (where_is ask a)
-    by_cases false denied = small a byte (sym (ap (λ cs. get_or cs a None) (after_denied memory ask cells denied)) ∙ is)
+    by_cases false untaken =
+        before (sym (ap (λ cs. get_or cs a None) (after_untaken memory ask cells untaken)) ∙ known.1)

@@ -1,12 +1,13 @@
--- Cells of which some are made unknown, one after the other and all at once.
-use Rattle.std.proofs.Common.{◌≡◌, ◌∙◌, ℕ, zero, suc, ◌+◌, ◌<◌, Bool, true, false, ◌&&◌, ◌||◌, if◌then◌else◌, List, [], ◌∷◌, ◌++◌, length, take, get_or, Option, Some, None, refl, sym, ap, subst, arith}
-use Rattle.std.specs.Prelude.{◌↔◌, slice_get}
+-- What is due, once bytes of it are made unknown.
+use Rattle.std.proofs.Common.{◌≡◌, ◌∙◌, ℕ, ◌+◌, ◌<◌, Bool, true, false, ◌&&◌, List, length, Option, refl, sym, ap, subst, arith}
+use Rattle.std.specs.Prelude.{◌↔◌}
 use Rattle.std.proofs.lemmas.Bool.{and_left, and_right, false_from_ne_true}
 use Rattle.tl_types.specs.Operation.{carries_bytes}
 use Rattle.tl_types.specs.Request.{Request}
 use Rattle.tl_types.specs.declared.operation.AskOp.{AskOp}
 use Rattle.tl_types.specs.declared.operation.AskOp.TheVariants.{PutFull, PutPartial, Arithmetic, Logical, Get, Intent}
 use Rattle.check_memory.specs.Partial.{Partial, permits}
+use Rattle.check_memory.proofs.Unknown.{unknown-same}
 use Rattle.check_memory.specs.Pattern.{Pattern}
 use Rattle.check_contests.specs.Writes.{in_window, writes, may_write, unknown_where}
 use Rattle.check_contests.specs.Contests.{due_beside}
@@ -14,48 +15,6 @@ use Rattle.check_contests.proofs.Clash.{not_both}
 use Rattle.check_contests.proofs.Expected.{beside_legal, beside_denied}
 use Rattle.check_contests.proofs.Near.{IsNear, not_written}
 use Rattle.check_contests.proofs.Uncontested.{due_stays}
-
--- one more
-unknown-suc : (test : ℕ → Bool) (cells : List (Option ℕ)) (k : ℕ) (new : Option ℕ) → k < length cells
-    → new ≡ (if test k then None else get_or cells k None)
-    → unknown_where test (take (suc k) cells) ≡ unknown_where test (take k cells) ++ new ∷ []
-unknown-suc test [] k new below is = absurd (omega (arith, below))
-unknown-suc test (cell ∷ cells) zero new below is = ap (λ (c : Option ℕ). c ∷ []) (sym is)
-unknown-suc test (cell ∷ cells) (suc k) new below is =
-    ap (λ (rest : List (Option ℕ)). (if test 0 then None else cell) ∷ rest)
-    (unknown-suc (λ place. test (suc place)) cells k new (omega (arith, below)) is)
-
-pub unknown-more : (test : ℕ → Bool) (cells : List (Option ℕ)) (k : ℕ) (new : Option ℕ) → k < length cells
-    → new ≡ (if test k then None else get_or cells k None)
-    → unknown_where test (take (k + 1) cells) ≡ unknown_where test (take k cells) ++ new ∷ []
-unknown-more test cells k new below is =
-    let next : k + 1 ≡ suc k = omega arith in
-    ap (λ n. unknown_where test (take n cells)) next ∙ unknown-suc test cells k new below is
-
--- tests that say the same
-pub unknown-same : (test test' : ℕ → Bool) (cells : List (Option ℕ)) → ((k : ℕ) → test k ≡ test' k)
-    → unknown_where test cells ≡ unknown_where test' cells
-unknown-same test test' [] same = refl
-unknown-same test test' (cell ∷ cells) same =
-    ap (λ (b : Bool). (if b then None else cell) ∷ unknown_where (λ k. test (suc k)) cells) (same 0)
-    ∙ ap (λ (rest : List (Option ℕ)). (if test' 0 then None else cell) ∷ rest)
-    (unknown-same (λ k. test (suc k)) (λ k. test' (suc k)) cells (λ k. same (suc k)))
-
-one_or_other : (b c : Bool) (cell : Option ℕ)
-    → (if c then None else (if b then None else cell)) ≡ (if b || c then None else cell)
-one_or_other true true cell = refl
-one_or_other true false cell = refl
-one_or_other false c cell = refl
-
--- one test after the other
-pub unknown-twice : (test test' : ℕ → Bool) (cells : List (Option ℕ))
-    → unknown_where test' (unknown_where test cells) ≡ unknown_where (λ k. test k || test' k) cells
-unknown-twice test test' [] = refl
-unknown-twice test test' (cell ∷ cells) =
-    ap (λ (c : Option ℕ). c ∷ unknown_where (λ k. test' (suc k)) (unknown_where (λ k. test (suc k)) cells))
-    (one_or_other (test 0) (test' 0) cell)
-    ∙ ap (λ (rest : List (Option ℕ)). (if test 0 || test' 0 then None else cell) ∷ rest)
-    (unknown-twice (λ k. test (suc k)) (λ k. test' (suc k)) cells)
 
 -- ---- what is due
 
@@ -114,16 +73,3 @@ hidden_by memory ask other due legal legal' =
   where
     and_true : (b x : Bool) → b ≡ true → (b && x) ≡ x
     and_true b x is = rw is refl
-
--- ---- one byte
-
-pub chosen_none : (b : Bool) (cell byte : Option ℕ) → b ≡ true → byte ≡ None → byte ≡ (if b then None else cell)
-chosen_none b cell byte is none = rw is none
-
-pub chosen_cell : (b : Bool) (cell byte : Option ℕ) → b ≡ false → byte ≡ cell → byte ≡ (if b then None else cell)
-chosen_cell b cell byte is same = rw is same
-
-pub got : (cells : List (Option ℕ)) (k : ℕ) (cell : Option ℕ) → slice_get cells k ≡ Some cell → get_or cells k None ≡ cell
-got [] k cell is = cc
-got (c ∷ cells) zero cell is = cc
-got (c ∷ cells) (suc k) cell is = got cells k cell is

@@ -1,5 +1,5 @@
 -- What a request makes of each byte of a memory, by its address.
-use Rattle.std.proofs.Common.{◌≡◌, ◌∙◌, ◌⊎◌, inl, inr, ⊎_elim, ℕ, zero, suc, [], ◌∷◌, ◌+◌, ◌-◌, ◌^◌, ◌<◌, ◌≤◌, Bool, true, false, ◌&&◌, nat_le, nat_lt, List, length, take, drop, get_or, Option, Some, None, refl, sym, ap, subst, arith}
+use Rattle.std.proofs.Common.{◌≡◌, ◌∙◌, ◌⊎◌, inl, inr, ⊎_elim, ℕ, zero, suc, [], ◌∷◌, ◌+◌, ◌-◌, ◌^◌, ◌<◌, ◌≤◌, Bool, true, false, ◌&&◌, nat_le, nat_lt, if◌then◌else◌, List, length, take, drop, get_or, Option, Some, None, refl, sym, ap, subst, arith}
 use Rattle.std.specs.Prelude.{is_some}
 use Rattle.std.proofs.lemmas.Bool.{and_parts, and_from, cases_lt, leb-true, ltb-true, le-leb, lt-ltb}
 use Rattle.std.proofs.lemmas.List.{length-take-le, length-drop, get_or-take, get_or-drop}
@@ -10,19 +10,31 @@ use Rattle.tl_types.specs.declared.operation.AskOp.TheVariants.{PutFull, PutPart
 use Rattle.tl_ops.specs.declared.kind.Kind.{Kind}
 use Rattle.tl_ops.specs.declared.kind.Kind.TheVariants.{ClearRegs}
 use Rattle.check_memory.specs.Known.{replaced}
-use Rattle.check_memory.specs.Cells.{put_at, put_cells, new_cells, is_atomic}
-use Rattle.check_memory.specs.Partial.{Partial, permits, after_partial, AreWithin}
+use Rattle.check_memory.specs.Cells.{put_at, put_cells, new_cells, is_atomic, unknown_where}
+use Rattle.check_memory.specs.Partial.{Partial, permits, takes_bytes, is_volatile, after_partial, AreWithin}
 use Rattle.check_memory.specs.Laws.{IsLawfulAsk}
-use Rattle.check_memory.proofs.PageCells.{length-replaced}
+use Rattle.check_memory.proofs.Legal.{takes_legal}
 use Rattle.check_memory.proofs.PagePlaces.{length-new_cells}
 use Rattle.check_memory.proofs.Soundness.{within_if_held, held_if_permitted}
-use Rattle.check_memory.proofs.Space.{get_or-replaced_in, get_or-replaced_out}
+use Rattle.check_memory.proofs.Replaced.{length-replaced, get_or-replaced_in, get_or-replaced_out}
+use Rattle.check_memory.proofs.Unknown.{known_where, get_or-unknown, length-unknown_where, hidden_twice}
 use Rattle.check_contests.specs.Writes.{in_window, gives, writes, may_write}
 use Rattle.check_contests.proofs.Cells.{get_or-put_cells, put-none, put-more, atomic-more}
 
 -- a memory with other bytes
 abbrev pub with_cells : Partial → List (Option ℕ) → Partial
 with_cells memory cells = record memory { cells = cells }
+
+-- what is seen of other bytes
+abbrev pub visible_in : Partial → List (Option ℕ) → List (Option ℕ)
+visible_in memory cells = unknown_where (is_volatile memory) cells
+
+-- a byte that does not change by itself is seen
+pub visible_at : (memory : Partial) (cells : List (Option ℕ)) (a : ℕ) (cell : Option ℕ) → is_volatile memory a ≡ false
+    → get_or cells a None ≡ cell → get_or (visible_in memory cells) a None ≡ cell
+visible_at memory cells a cell still is =
+    get_or-unknown (is_volatile memory) cells a
+    ∙ ap (λ (b : Bool). if b then None else get_or cells a None) still ∙ is
 
 -- the bytes of a memory after a request
 abbrev pub cells_after : Partial → Request → List (Option ℕ) → List (Option ℕ)
@@ -68,58 +80,59 @@ new_long kind (Intent _) size old given counted wide = wide
 -- ---- the bytes after it
 
 abbrev pub new_of : Partial → Request → List (Option ℕ) → List (Option ℕ)
-new_of memory ask cells = new_cells memory.kind ask.op (window ask cells) ask.bytes
+new_of memory ask cells = new_cells memory.kind ask.op (window ask (visible_in memory cells)) ask.bytes
 
-after_legal : (memory : Partial) (ask : Request) (cells : List (Option ℕ)) → permits memory ask ≡ true
+after_taken : (memory : Partial) (ask : Request) (cells : List (Option ℕ)) → takes_bytes memory ask ≡ true
     → cells_after memory ask cells ≡ replaced cells ask.address (new_of memory ask cells)
-after_legal memory ask cells is = rw (is, cells_after) refl
+after_taken memory ask cells is = rw (is, cells_after) refl
 
-pub after_denied : (memory : Partial) (ask : Request) (cells : List (Option ℕ)) → permits memory ask ≡ false
+pub after_untaken : (memory : Partial) (ask : Request) (cells : List (Option ℕ)) → takes_bytes memory ask ≡ false
     → cells_after memory ask cells ≡ cells
-after_denied memory ask cells is = rw (is, cells_after) refl
+after_untaken memory ask cells is = rw (is, cells_after) refl
 
 -- what a legal request needs to be looked at byte by byte
 pub record Stands (memory : Partial) (ask : Request) (cells : List (Option ℕ)) : Type 0 where
   pub room : ask.address + 2 ^ ask.size ≤ length cells
-  pub wide : length (window ask cells) ≡ 2 ^ ask.size
+  pub wide : length (window ask (visible_in memory cells)) ≡ 2 ^ ask.size
   pub long : length (new_of memory ask cells) ≡ 2 ^ ask.size
 
 pub stands : (memory : Partial) (ask : Request) (cells : List (Option ℕ)) → AreWithin memory.ranges (length cells)
     → IsLawfulAsk ask → permits memory ask ≡ true → Stands memory ask cells
 stands memory ask cells within lawful is =
     let room : ask.address + 2 ^ ask.size ≤ length cells = inside memory ask cells within is in
-    let wide : length (window ask cells) ≡ 2 ^ ask.size = window_long ask cells room in
+    let wide : length (window ask (visible_in memory cells)) ≡ 2 ^ ask.size =
+    window_long ask (visible_in memory cells) (omega (arith, room, length-unknown_where (is_volatile memory) cells)) in
     record {
       room = room;
       wide = wide;
-      long = new_long memory.kind ask.op ask.size (window ask cells) ask.bytes lawful.counted wide;
+      long = new_long memory.kind ask.op ask.size (window ask (visible_in memory cells)) ask.bytes lawful.counted wide;
     }
 
 pub length-cells_after : (memory : Partial) (ask : Request) (cells : List (Option ℕ))
     → AreWithin memory.ranges (length cells) → IsLawfulAsk ask → length (cells_after memory ask cells) ≡ length cells
-length-cells_after memory ask cells within lawful = by_cases (permits memory ask) refl
+length-cells_after memory ask cells within lawful = by_cases (takes_bytes memory ask) refl
   where
-    by_cases : (p : Bool) → permits memory ask ≡ p → length (cells_after memory ask cells) ≡ length cells
+    by_cases : (takes : Bool) → takes_bytes memory ask ≡ takes → length (cells_after memory ask cells) ≡ length cells
     by_cases true is =
-        let s = stands memory ask cells within lawful is in
-        ap length (after_legal memory ask cells is)
+        let s = stands memory ask cells within lawful (takes_legal memory ask is) in
+        ap length (after_taken memory ask cells is)
         ∙ length-replaced cells (new_of memory ask cells) ask.address (omega (arith, s.room, s.long))
-    by_cases false is = ap length (after_denied memory ask cells is)
+    by_cases false is = ap length (after_untaken memory ask cells is)
 
 pub after_in : (memory : Partial) (ask : Request) (cells : List (Option ℕ)) (k : ℕ)
-    → Stands memory ask cells → permits memory ask ≡ true → k < 2 ^ ask.size
+    → Stands memory ask cells → takes_bytes memory ask ≡ true → k < 2 ^ ask.size
     → get_or (cells_after memory ask cells) (ask.address + k) None ≡ get_or (new_of memory ask cells) k None
 after_in memory ask cells k s is below =
-    ap (λ cs. get_or cs (ask.address + k) None) (after_legal memory ask cells is)
+    ap (λ cs. get_or cs (ask.address + k) None) (after_taken memory ask cells is)
     ∙ get_or-replaced_in cells (new_of memory ask cells) ask.address k (omega (arith, s.room, s.long))
     (omega (arith, s.long, below))
 
 pub after_out : (memory : Partial) (ask : Request) (cells : List (Option ℕ)) (a : ℕ)
-    → Stands memory ask cells → permits memory ask ≡ true → (a < ask.address) ⊎ (ask.address + 2 ^ ask.size ≤ a)
+    → Stands memory ask cells → takes_bytes memory ask ≡ true → (a < ask.address) ⊎ (ask.address + 2 ^ ask.size ≤ a)
     → get_or (cells_after memory ask cells) a None ≡ get_or cells a None
 after_out memory ask cells a s is beside =
     let P : ℕ → Type 0 = λ n. (a < ask.address) ⊎ (ask.address + n ≤ a) in
-    ap (λ cs. get_or cs a None) (after_legal memory ask cells is)
+    ap (λ cs. get_or cs a None) (after_taken memory ask cells is)
     ∙ get_or-replaced_out cells (new_of memory ask cells) ask.address a (omega (arith, s.room, s.long))
     (subst P (sym s.long) beside)
 
@@ -180,33 +193,59 @@ where_is ask a = ⊎_elim
     (cases_lt a (ask.address + 2 ^ ask.size)))
     (cases_lt a ask.address)
 
--- a byte that a request may not write stays
+-- a byte that a request may not write is seen as it was
 pub stays : (memory : Partial) (ask : Request) (cells : List (Option ℕ)) (a : ℕ)
-    → AreWithin memory.ranges (length cells) → IsLawfulAsk ask → IsByteAt memory.kind cells a
+    → AreWithin memory.ranges (length cells) → IsLawfulAsk ask → IsByteAt memory.kind (visible_in memory cells) a
     → may_write memory ask a ≡ false
-    → get_or (cells_after memory ask cells) a None ≡ get_or cells a None
-stays memory ask cells a within lawful small none = by_cases (permits memory ask) refl
+    → get_or (visible_in memory (cells_after memory ask cells)) a None ≡ get_or (visible_in memory cells) a None
+stays memory ask cells a within lawful small none = by_cases (takes_bytes memory ask) refl
   where
-    here : Stands memory ask cells → permits memory ask ≡ true → writes ask.op ask a ≡ false
+    volatile : Bool
+    volatile = is_volatile memory a
+
+    hidden : Option ℕ → Option ℕ
+    hidden cell = if volatile then None else cell
+
+    seen_then : get_or (visible_in memory (cells_after memory ask cells)) a None
+        ≡ hidden (get_or (cells_after memory ask cells) a None)
+    seen_then = get_or-unknown (is_volatile memory) (cells_after memory ask cells) a
+
+    seen_now : get_or (visible_in memory cells) a None ≡ hidden (get_or cells a None)
+    seen_now = get_or-unknown (is_volatile memory) cells a
+
+    -- a cell that is as it was
+    same : get_or (cells_after memory ask cells) a None ≡ get_or cells a None
+        → get_or (visible_in memory (cells_after memory ask cells)) a None ≡ get_or (visible_in memory cells) a None
+    same is = seen_then ∙ ap hidden is ∙ sym seen_now
+
+    -- one that is what was seen of it
+    as_seen : get_or (cells_after memory ask cells) a None ≡ get_or (visible_in memory cells) a None
+        → get_or (visible_in memory (cells_after memory ask cells)) a None ≡ get_or (visible_in memory cells) a None
+    as_seen is = seen_then ∙ ap hidden (is ∙ seen_now) ∙ sym (hidden_twice volatile (get_or cells a None)) ∙ sym seen_now
+
+    here : Stands memory ask cells → takes_bytes memory ask ≡ true → writes ask.op ask a ≡ false
         → (k : ℕ) × (k < 2 ^ ask.size) × (a ≡ ask.address + k)
-        → get_or (cells_after memory ask cells) a None ≡ get_or cells a None
+        → get_or (cells_after memory ask cells) a None ≡ get_or (visible_in memory cells) a None
     here s is none' place =
-        let same : get_or (window ask cells) place.0 None ≡ get_or cells a None =
-        get_or-window ask cells place.0 place.1 ∙ ap (λ n. get_or cells n None) (sym place.2) in
+        let old = visible_in memory cells in
+        let window_at : get_or (window ask old) place.0 None ≡ get_or old a None =
+        get_or-window ask old place.0 place.1 ∙ ap (λ n. get_or old n None) (sym place.2) in
         let P : ℕ → Type 0 = λ n. writes ask.op ask n ≡ false in
         ap (λ n. get_or (cells_after memory ask cells) n None) place.2
         ∙ after_in memory ask cells place.0 s is place.1
-        ∙ new_stays memory.kind ask.op ask (window ask cells) place.0 place.1 lawful.counted s.wide
-        (λ clears byte known. small clears byte (sym same ∙ known)) (subst P place.2 none')
-        ∙ same
+        ∙ new_stays memory.kind ask.op ask (window ask old) place.0 place.1 lawful.counted s.wide
+        (λ clears byte known. small clears byte (sym window_at ∙ known)) (subst P place.2 none')
+        ∙ window_at
 
-    by_cases : (p : Bool) → permits memory ask ≡ p
-        → get_or (cells_after memory ask cells) a None ≡ get_or cells a None
+    by_cases : (takes : Bool) → takes_bytes memory ask ≡ takes
+        → get_or (visible_in memory (cells_after memory ask cells)) a None ≡ get_or (visible_in memory cells) a None
     by_cases true is =
-        let s = stands memory ask cells within lawful is in
-        let none' : writes ask.op ask a ≡ false = rw is at none in
-        ⊎_elim (λ beside. after_out memory ask cells a s is beside) (λ place. here s is none' place) (where_is ask a)
-    by_cases false is = ap (λ cs. get_or cs a None) (after_denied memory ask cells is)
+        let legal = takes_legal memory ask is in
+        let s = stands memory ask cells within lawful legal in
+        let none' : writes ask.op ask a ≡ false = rw legal at none in
+        ⊎_elim (λ beside. same (after_out memory ask cells a s is beside)) (λ place. as_seen (here s is none' place))
+        (where_is ask a)
+    by_cases false is = same (ap (λ cs. get_or cs a None) (after_untaken memory ask cells is))
 
 -- ---- a byte that it may write
 
@@ -270,16 +309,33 @@ new_more kind (Intent _) ask less more k byte below counted wide wide' apart kep
 abbrev pub Matters : Partial → Request → ℕ → ℕ → Type 0
 Matters memory ask a place = (may_write memory ask place ≡ true) × (is_atomic ask.op ≡ false → place ≡ a)
 
--- a byte that a request leaves known, it leaves known and the same where more is known of those on which it depends
+-- a request that writes carries bytes
+written_carries : (op : AskOp) (ask : Request) (a : ℕ) → writes op ask a ≡ true → carries_bytes op ≡ true
+written_carries PutFull ask a is = refl
+written_carries PutPartial ask a is = refl
+written_carries (Arithmetic op) ask a is = refl
+written_carries (Logical op) ask a is = refl
+written_carries Get ask a is = cc
+written_carries (Intent _) ask a is = cc
+
+-- a byte that is seen as known after a request is so, and the same, where more is known of those on which it depends
 pub leaves_more : (memory : Partial) (ask : Request) (less more : List (Option ℕ)) (a byte : ℕ)
     → AreWithin memory.ranges (length less) → length less ≡ length more → IsLawfulAsk ask
     → may_write memory ask a ≡ true
-    → ((place b : ℕ) → Matters memory ask a place → get_or less place None ≡ Some b → get_or more place None ≡ Some b)
-    → get_or (cells_after memory ask less) a None ≡ Some byte → get_or (cells_after memory ask more) a None ≡ Some byte
+    → ((place b : ℕ) → Matters memory ask a place → get_or (visible_in memory less) place None ≡ Some b
+    → get_or (visible_in memory more) place None ≡ Some b)
+    → get_or (visible_in memory (cells_after memory ask less)) a None ≡ Some byte
+    → get_or (visible_in memory (cells_after memory ask more)) a None ≡ Some byte
 leaves_more memory ask less more a byte within same lawful may kept is = by_cases (is_atomic ask.op) refl
   where
+    parts : (permits memory ask ≡ true) × (writes ask.op ask a ≡ true)
+    parts = and_parts (permits memory ask) (writes ask.op ask a) may
+
     legal : permits memory ask ≡ true
-    legal = (and_parts (permits memory ask) (writes ask.op ask a) may).0
+    legal = parts.0
+
+    takes : takes_bytes memory ask ≡ true
+    takes = and_from (permits memory ask) (carries_bytes ask.op) legal (written_carries ask.op ask a parts.1)
 
     s : Stands memory ask less
     s = stands memory ask less within lawful legal
@@ -288,35 +344,46 @@ leaves_more memory ask less more a byte within same lawful may kept is = by_case
     s' = let P : ℕ → Type 0 = λ n. AreWithin memory.ranges n in stands memory ask more (subst P same within) lawful legal
 
     place : (k : ℕ) × (k < 2 ^ ask.size) × (a ≡ ask.address + k)
-    place = place_in ask a (written_in ask.op ask a (and_parts (permits memory ask) (writes ask.op ask a) may).1)
+    place = place_in ask a (written_in ask.op ask a parts.1)
+
+    old : List (Option ℕ)
+    old = visible_in memory less
+
+    old' : List (Option ℕ)
+    old' = visible_in memory more
+
+    known : (is_volatile memory a ≡ false) × (get_or (cells_after memory ask less) a None ≡ Some byte)
+    known = known_where (is_volatile memory) (cells_after memory ask less) a byte is
 
     is' : get_or (new_of memory ask less) place.0 None ≡ Some byte
-    is' = sym (after_in memory ask less place.0 s legal place.1)
-        ∙ sym (ap (λ n. get_or (cells_after memory ask less) n None) place.2) ∙ is
+    is' = sym (after_in memory ask less place.0 s takes place.1)
+        ∙ sym (ap (λ n. get_or (cells_after memory ask less) n None) place.2) ∙ known.1
 
     back : get_or (new_of memory ask more) place.0 None ≡ Some byte
-        → get_or (cells_after memory ask more) a None ≡ Some byte
-    back left = ap (λ n. get_or (cells_after memory ask more) n None) place.2
-        ∙ after_in memory ask more place.0 s' legal place.1 ∙ left
+        → get_or (visible_in memory (cells_after memory ask more)) a None ≡ Some byte
+    back left = visible_at memory (cells_after memory ask more) a (Some byte) known.0
+        (ap (λ n. get_or (cells_after memory ask more) n None) place.2
+        ∙ after_in memory ask more place.0 s' takes place.1 ∙ left)
 
     through : (k b : ℕ) → k < 2 ^ ask.size → Matters memory ask a (ask.address + k)
-        → get_or (window ask less) k None ≡ Some b → get_or (window ask more) k None ≡ Some b
-    through k b below matters known = get_or-window ask more k below
-        ∙ kept (ask.address + k) b matters (sym (get_or-window ask less k below) ∙ known)
+        → get_or (window ask old) k None ≡ Some b → get_or (window ask old') k None ≡ Some b
+    through k b below matters there = get_or-window ask old' k below
+        ∙ kept (ask.address + k) b matters (sym (get_or-window ask old k below) ∙ there)
 
     not_both : is_atomic ask.op ≡ true → is_atomic ask.op ≡ false → {A : Type 0} → A
     not_both one other = let e : true ≡ false = sym one ∙ other in cc
 
-    by_cases : (atomic : Bool) → is_atomic ask.op ≡ atomic → get_or (cells_after memory ask more) a None ≡ Some byte
-    by_cases true atomic = back (atomic-more memory.kind ask.op (window ask less) (window ask more) ask.bytes place.0 byte
+    by_cases : (atomic : Bool) → is_atomic ask.op ≡ atomic
+        → get_or (visible_in memory (cells_after memory ask more)) a None ≡ Some byte
+    by_cases true atomic = back (atomic-more memory.kind ask.op (window ask old) (window ask old') ask.bytes place.0 byte
         atomic (s.wide ∙ sym s'.wide)
-        (λ k b known.
-        let below : k < 2 ^ ask.size = omega (arith, there_if_known (window ask less) k b known, s.wide) in
+        (λ k b there.
+        let below : k < 2 ^ ask.size = omega (arith, there_if_known (window ask old) k b there, s.wide) in
         through k b below (
           and_from _ _ legal (atomic_writes ask.op ask (ask.address + k) atomic (in_here ask k below)),
           λ put. not_both atomic put,
-        ) known) is')
-    by_cases false atomic = back (new_more memory.kind ask.op ask (window ask less) (window ask more) place.0 byte place.1
+        ) there) is')
+    by_cases false atomic = back (new_more memory.kind ask.op ask (window ask old) (window ask old') place.0 byte place.1
         lawful.counted s.wide s'.wide atomic
-        (λ b known. through place.0 b place.1
-        (let P : ℕ → Type 0 = λ n. may_write memory ask n ≡ true in subst P place.2 may, λ _. sym place.2) known) is')
+        (λ b there. through place.0 b place.1
+        (let P : ℕ → Type 0 = λ n. may_write memory ask n ≡ true in subst P place.2 may, λ _. sym place.2) there) is')

@@ -7,10 +7,10 @@ use Rattle.tl_types.specs.declared.operation.ReplyOp.TheVariants.{AccessAck, Acc
 use Rattle.check_memory.specs.Known.{IsBelow, known}
 use Rattle.check_memory.specs.Partial.{Partial, permits}
 use Rattle.check_memory.specs.Pattern.{Pattern, FitsPattern, pattern, shown_cells}
+use Rattle.check_memory.proofs.Unknown.{known_where, length-unknown_where}
 use Rattle.check_contests.specs.Writes.{unknown_where}
 use Rattle.check_contests.specs.Contests.{due_beside}
-use Rattle.check_contests.proofs.Effect.{with_cells, window, get_or-window, there_if_known, Stands}
-use Rattle.check_contests.proofs.Kept.{known_where, length-unknown_where}
+use Rattle.check_contests.proofs.Effect.{with_cells, visible_in, window, get_or-window, there_if_known, Stands}
 
 -- ---- fitting
 
@@ -89,7 +89,7 @@ beside_known memory ask test due place byte is known =
 -- ---- what is expected of a memory
 
 abbrev shown : Partial → Request → List (Option ℕ) → List (Option ℕ)
-shown memory ask cells = shown_cells (reply_op_of ask.op) (window ask cells)
+shown memory ask cells = shown_cells (reply_op_of ask.op) (window ask (visible_in memory cells))
 
 pub pattern_denied : (memory : Partial) (ask : Request) (less more : List (Option ℕ)) → permits memory ask ≡ false
     → pattern (with_cells memory less) ask ≡ pattern (with_cells memory more) ask
@@ -113,18 +113,21 @@ shown_more AccessAck less more place byte kept is = cc
 shown_more AccessAckData less more place byte kept is = kept is
 shown_more HintAck less more place byte kept is = cc
 
--- a byte that is expected where less is known, and is the same in what is known more
+-- a byte that is expected where less is known, and is seen as the same in what is known more
 pub pattern_more : (memory : Partial) (ask : Request) (less more : List (Option ℕ)) (place byte : ℕ)
     → permits memory ask ≡ true → Stands memory ask less
-    → (get_or less (ask.address + place) None ≡ Some byte → get_or more (ask.address + place) None ≡ Some byte)
+    → (get_or (visible_in memory less) (ask.address + place) None ≡ Some byte
+    → get_or (visible_in memory more) (ask.address + place) None ≡ Some byte)
     → get_or (pattern (with_cells memory less) ask).bytes place None ≡ Some byte
     → get_or (pattern (with_cells memory more) ask).bytes place None ≡ Some byte
 pattern_more memory ask less more place byte is s kept known =
+    let old = visible_in memory less in
+    let old' = visible_in memory more in
     ap (λ (p : Pattern). get_or p.bytes place None) (pattern_legal memory ask more is)
-    ∙ shown_more (reply_op_of ask.op) (window ask less) (window ask more) place byte
+    ∙ shown_more (reply_op_of ask.op) (window ask old) (window ask old') place byte
     (λ here.
-    let below : place < 2 ^ ask.size = omega (arith, there_if_known (window ask less) place byte here, s.wide) in
-    get_or-window ask more place below ∙ kept (sym (get_or-window ask less place below) ∙ here))
+    let below : place < 2 ^ ask.size = omega (arith, there_if_known (window ask old) place byte here, s.wide) in
+    get_or-window ask old' place below ∙ kept (sym (get_or-window ask old place below) ∙ here))
     (ap (λ (p : Pattern). get_or p.bytes place None) (sym (pattern_legal memory ask less is)) ∙ known)
 
 pub pattern_long : (memory : Partial) (ask : Request) (less more : List (Option ℕ)) → permits memory ask ≡ true
@@ -132,5 +135,6 @@ pub pattern_long : (memory : Partial) (ask : Request) (less more : List (Option 
     → length (pattern (with_cells memory less) ask).bytes ≡ length (pattern (with_cells memory more) ask).bytes
 pattern_long memory ask less more is s s' =
     ap (λ (p : Pattern). length p.bytes) (pattern_legal memory ask less is)
-    ∙ shown_long (reply_op_of ask.op) (window ask less) (window ask more) (s.wide ∙ sym s'.wide)
+    ∙ shown_long (reply_op_of ask.op) (window ask (visible_in memory less)) (window ask (visible_in memory more))
+    (s.wide ∙ sym s'.wide)
     ∙ sym (ap (λ (p : Pattern). length p.bytes) (pattern_legal memory ask more is))

@@ -6,11 +6,12 @@ use Rattle.tl_types.specs.Operation.{carries_bytes}
 use Rattle.tl_types.specs.Request.{Request}
 use Rattle.check_memory.specs.Cells.{forgotten_cell, forgotten}
 use Rattle.check_memory.specs.Partial.{Partial, permits, block_of, takes_bytes, after_partial, after_forgetting}
+use Rattle.check_memory.proofs.Unknown.{unknown_none}
 use Rattle.check_contests.specs.Writes.{writes, may_write, leave_unknown, unknown_where}
 use Rattle.check_contests.specs.Contests.{Accepted, is_contested, memory_accepting}
 use Rattle.check_contests.proofs.Blocks.{unmet_leaves}
 use Rattle.check_contests.proofs.Dues.{carries_none}
-use Rattle.check_contests.proofs.Uncontested.{unknown_none, any_none, leaves_is, denied_leaves}
+use Rattle.check_contests.proofs.Uncontested.{any_none, leaves_is, denied_leaves}
 
 -- ---- cells under flags
 
@@ -90,9 +91,16 @@ pub forgetting_is : (memory : Partial) (kept : List Accepted) (ask : Request) (f
     → Unflagged (is_contested memory kept ask) flags (block_of ask.address)
     → after_forgetting memory ask flags ≡ memory_accepting memory kept ask
 forgetting_is memory kept ask flags takes here there =
-    rw (takes, after_forgetting) (ap (λ (cells : List (Option ℕ)). record (after_partial memory ask) { cells = cells })
+    forgets takes
+    ∙ ap (λ (cells : List (Option ℕ)). record (after_partial memory ask) { cells = cells })
     (forgotten-unknown (is_contested memory kept ask) flags (block_of ask.address) (after_partial memory ask).cells
-    here there))
+    here there)
+  where
+    forgets : takes_bytes memory ask ≡ true → after_forgetting memory ask flags
+        ≡ record (after_partial memory ask) {
+          cells = forgotten flags (block_of ask.address) (after_partial memory ask).cells;
+        }
+    forgets is = rw (is, after_forgetting) refl
 
 -- one that carries no bytes, or is denied, contests nothing
 pub carrying_leaves : (memory : Partial) (ask other : Request) (a : ℕ) → carries_bytes ask.op ≡ false

@@ -1,30 +1,10 @@
--- Those kept, by their wide sources, and cells of which some are made unknown.
-use Rattle.std.proofs.Common.{◌≡◌, ◌∙◌, ℕ, zero, suc, Bool, true, false, if◌then◌else◌, ◌==◌, List, [], ◌∷◌, ◌++◌, length, map, get_or, Option, Some, None, refl, sym, ap}
+-- Those kept, by their wide sources.
+use Rattle.std.proofs.Common.{◌≡◌, ◌∙◌, ℕ, Bool, true, false, if◌then◌else◌, ◌==◌, List, [], ◌∷◌, ◌++◌, map, Option, Some, None, refl, sym, ap}
 use Rattle.std.specs.Prelude.{option_map}
 use Rattle.std.specs.List.{list_any}
 use Rattle.std.proofs.lemmas.Bool.{eq-eqb, ne_eqb, eqb-true, eqb-false, or_parts}
-use Rattle.check_contests.specs.Writes.{unknown_where}
 use Rattle.check_contests.specs.Contests.{Accepted, kept_of, kept_answering}
 use Rattle.check_contests.specs.Below.{AreApart}
-
--- ---- cells made unknown
-
-known_if : (test : Bool) (cell : Option ℕ) (byte : ℕ) → (if test then None else cell) ≡ Some byte
-    → (test ≡ false) × (cell ≡ Some byte)
-known_if true cell byte is = cc
-known_if false cell byte is = (refl, is)
-
--- what is known of them is not named by the test, and was known
-pub known_where : (test : ℕ → Bool) (cells : List (Option ℕ)) (k byte : ℕ)
-    → get_or (unknown_where test cells) k None ≡ Some byte → (test k ≡ false) × (get_or cells k None ≡ Some byte)
-known_where test [] k byte is = cc
-known_where test (cell ∷ cells) zero byte is = known_if (test 0) cell byte is
-known_where test (cell ∷ cells) (suc k) byte is = known_where (λ place. test (suc place)) cells k byte is
-
-pub length-unknown_where : (test : ℕ → Bool) (cells : List (Option ℕ))
-    → length (unknown_where test cells) ≡ length cells
-length-unknown_where test [] = refl
-length-unknown_where test (cell ∷ cells) = ap suc (length-unknown_where (λ place. test (suc place)) cells)
 
 -- ---- those kept
 

@@ -1,6 +1,6 @@
 -- Flags of a block, as requests are looked at one after the other.
 use Rattle.std.proofs.Common.{◌≡◌, ◌∙◌, ◌⊎◌, inl, inr, ⊎_elim, ℕ, ◌+◌, ◌-◌, ◌^◌, ◌<◌, ◌≤◌, Bool, true, false, ◌&&◌, ◌||◌, ◌↔◌, List, length, get_or, set, refl, sym, ap, subst, arith}
-use Rattle.std.proofs.lemmas.Bool.{and_parts, cases_lt, cases_eq, true_from_ne_false, and_left}
+use Rattle.std.proofs.lemmas.Bool.{and_parts, cases_lt, true_from_ne_false, and_left}
 use Rattle.std.proofs.lemmas.List.{get_or-set_same, get_or-set_other}
 use Rattle.tl_types.specs.Request.{Request}
 use Rattle.check_contests.specs.Writes.{writes}

@@ -1,15 +1,15 @@
 -- Those kept by their places, and what is due as they are looked at one after the other.
 use Rattle.std.proofs.Common.{◌≡◌, ◌∙◌, ℕ, zero, suc, ◌+◌, ◌<◌, ◌≤◌, Bool, true, false, ◌||◌, if◌then◌else◌, ◌==◌, List, [], ◌∷◌, ◌++◌, length, map, take, drop, set, get_or, slice_get, Option, Some, None, refl, sym, ap, arith}
 use Rattle.std.specs.List.{remove}
-use Rattle.std.proofs.lemmas.Bool.{eq-eqb, ne_eqb, eqb-true, eqb-false}
+use Rattle.std.proofs.lemmas.Bool.{eq-eqb, ne_eqb, eqb-false}
 use Rattle.std.proofs.lemmas.List.{take_all}
 use Rattle.std.proofs.lemmas.List.Folds.{list_any_more}
 use Rattle.tl_types.specs.Request.{Request}
 use Rattle.check_memory.specs.Partial.{Partial, permits}
 use Rattle.check_memory.specs.Pattern.{Pattern}
+use Rattle.check_memory.proofs.Unknown.{unknown-same, unknown-twice}
 use Rattle.check_contests.specs.Writes.{may_write, unknown_where}
 use Rattle.check_contests.specs.Contests.{Accepted, one_may_write, due_beside, kept_of, kept_answering}
-use Rattle.check_contests.proofs.Dues.{unknown-same, unknown-twice}
 use Rattle.check_contests.proofs.Expected.{beside_legal, beside_denied}
 use Rattle.check_contests.proofs.Uncontested.{due_stays}
 

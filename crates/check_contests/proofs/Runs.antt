@@ -1,10 +1,11 @@
 -- What is kept says no more than the truth at reset, and so over whole runs.
-use Rattle.std.proofs.Common.{◌≡◌, ℕ, List, [], ◌∷◌, Some, None, refl, sym}
+use Rattle.std.proofs.Common.{◌≡◌, ◌∙◌, ℕ, List, [], ◌∷◌, Some, None, refl, sym}
 use Rattle.tl_types.specs.Request.{Request}
-use Rattle.check_memory.specs.Partial.{Partial}
+use Rattle.check_memory.specs.Partial.{Partial, is_volatile}
 use Rattle.check_memory.specs.Pattern.{Pattern}
 use Rattle.check_memory.specs.declared.slave.Slave.{Slave}
 use Rattle.check_memory.specs.declared.slave.Slave.TheVariants.{Memory, Device}
+use Rattle.check_memory.proofs.Unknown.{length-unknown_where}
 use Rattle.check_contests.specs.Contests.{Accepted}
 use Rattle.check_contests.specs.Moments.{SlaveMoment, Course, Truth, untouched, truth_taking, truth_after, IsWaiting, IsServedCourse, MayAllCome}
 use Rattle.check_contests.specs.Moments.SlaveMoment.{Accepts, TakesEffect, Answers}
@@ -29,7 +30,8 @@ none_kept entry e = cc
 memory_at_reset : (ours truth : Partial) → IsMemoryAtReset ours truth → IsMemoryBelow ours truth [] (λ _. Idle)
 memory_at_reset ours truth is = record {
   same = is.same;
-  counted = sym is.below.counted;
+  counted = sym (length-unknown_where (is_volatile ours) ours.cells) ∙ sym is.below.counted
+      ∙ length-unknown_where (is_volatile truth) truth.cells;
   within = is.within;
   bytes = is.bytes;
   our_bytes = λ clears a byte known. is.bytes clears a byte (is.below.kept a byte known);

@@ -5,7 +5,7 @@ use Rattle.std.proofs.lemmas.Bool.{cases_eq}
 use Rattle.tl_types.specs.Request.{Request}
 use Rattle.tl_ops.specs.declared.kind.Kind.TheVariants.{ClearRegs}
 use Rattle.check_memory.specs.Cells.{is_atomic}
-use Rattle.check_memory.specs.Partial.{Partial, permits, after_partial, AreWithin}
+use Rattle.check_memory.specs.Partial.{Partial, permits, visible, after_partial, AreWithin}
 use Rattle.check_memory.specs.Pattern.{Pattern, FitsPattern, pattern}
 use Rattle.check_memory.specs.Slave.{expected_of}
 use Rattle.check_memory.specs.declared.slave.Slave.{Slave}
@@ -17,7 +17,7 @@ use Rattle.check_contests.specs.Moments.Course.{Idle, Waiting, Served}
 use Rattle.check_contests.specs.Below.{DueFits, IsKnownRightly, IsMemoryBelow, IsBelowTruth}
 use Rattle.check_contests.proofs.Bytes.{small_after}
 use Rattle.check_contests.proofs.Courses.{course-here, course-there}
-use Rattle.check_contests.proofs.Effect.{with_cells, cells_after, length-cells_after, stands, stays, Matters, leaves_more}
+use Rattle.check_contests.proofs.Effect.{with_cells, visible_in, cells_after, length-cells_after, stands, stays, Matters, leaves_more}
 use Rattle.check_contests.proofs.Expected.{pattern_denied, pattern_more, pattern_long}
 
 -- the two memories, and a request that waits
@@ -48,14 +48,14 @@ waited course wide ask reply other ask' is = ⊎_elim
     served_waits : Served ask reply ≡ Waiting ask' → ⊥
     served_waits e = cc
 
-small_true : (truth : Partial) → (truth.kind ≡ ClearRegs → AreBytes truth.cells) → (a : ℕ)
-    → truth.kind ≡ ClearRegs → (byte : ℕ) → get_or truth.cells a None ≡ Some byte → byte < 256
+small_true : (truth : Partial) → (truth.kind ≡ ClearRegs → AreBytes (visible truth)) → (a : ℕ)
+    → truth.kind ≡ ClearRegs → (byte : ℕ) → get_or (visible truth) a None ≡ Some byte → byte < 256
 small_true truth bytes a clears byte known = bytes clears a byte known
 
 -- a byte that is known
 served_byte : (ours : List (Option ℕ)) (truth : Partial) (kept : List Accepted) (course : ℕ → Course) (wide : ℕ)
     (ask : Request) (reply : Pattern) (a byte : ℕ) → Serves ours truth kept course wide ask
-    → get_or ours a None ≡ Some byte
+    → get_or (visible_in truth ours) a None ≡ Some byte
     → IsKnownRightly (with_cells truth (cells_after truth ask truth.cells)) (course_with course wide (Served ask reply)) a byte
 served_byte ours truth kept course wide ask reply a byte is known = record {
   alone = λ w ask' here may other ask'' there apart.
@@ -83,7 +83,7 @@ served_byte ours truth kept course wide ask reply a byte is known = record {
     lawful = (is.below.carried wide ask (ap asked_of is.waits)).lawful
 
     unmoved : (place : ℕ) → may_write truth ask place ≡ false
-        → get_or (cells_after truth ask truth.cells) place None ≡ get_or truth.cells place None
+        → get_or (visible_in truth (cells_after truth ask truth.cells)) place None ≡ get_or (visible truth) place None
     unmoved place none = stays truth ask truth.cells place is.below.within lawful
         (small_true truth is.below.bytes place) none
 
@@ -101,7 +101,7 @@ served_byte ours truth kept course wide ask reply a byte is known = record {
     by_cases : ((w : ℕ) (ask' : Request) → course_with course wide (Served ask reply) w ≡ Waiting ask'
         → may_write truth ask' a ≡ false)
         → (may : Bool) → may_write truth ask a ≡ may
-        → get_or (cells_after truth ask truth.cells) a None ≡ Some byte
+        → get_or (visible_in truth (cells_after truth ask truth.cells)) a None ≡ Some byte
     by_cases none true may = right.to_come wide ask is.waits may
     by_cases none false may = unmoved a may ∙ right.there (λ w ask' waits. ⊎_elim
         (λ (same : w ≡ wide).
@@ -218,12 +218,7 @@ at slave course = record { slave = slave; course = course }
 
 after_is : (truth : Partial) (ask : Request)
     → after_partial truth ask ≡ with_cells truth (cells_after truth ask truth.cells)
-after_is truth ask = by_cases (permits truth ask) refl
-  where
-    by_cases : (p : Bool) → permits truth ask ≡ p
-        → after_partial truth ask ≡ with_cells truth (cells_after truth ask truth.cells)
-    by_cases true is = rw (is, after_partial, cells_after) refl
-    by_cases false is = rw (is, after_partial, cells_after) refl
+after_is truth ask = refl
 
 memory_keeps : (ours : List (Option ℕ)) (truth : Partial) (kept : List Accepted) (course : ℕ → Course) (wide : ℕ)
     (ask : Request) → IsBelowTruth (Memory (with_cells truth ours)) kept (at (Memory truth) course)

@@ -1,5 +1,5 @@
 -- Nothing is made unknown where no two requests have a byte in common that one of them may write.
-use Rattle.std.proofs.Common.{◌≡◌, ◌∙◌, ℕ, suc, ◌+◌, ◌^◌, ◌<◌, ◌≤◌, Bool, true, false, ◌&&◌, ◌||◌, List, [], ◌∷◌, ◌++◌, length, map, take, drop, Option, refl, ap, arith}
+use Rattle.std.proofs.Common.{◌≡◌, ◌∙◌, ℕ, ◌+◌, ◌^◌, ◌<◌, ◌≤◌, Bool, true, false, ◌&&◌, ◌||◌, List, [], ◌∷◌, ◌++◌, length, map, take, drop, Option, refl, ap, arith}
 use Rattle.std.specs.Prelude.{All}
 use Rattle.std.specs.List.{list_any, range_with_len}
 use Rattle.std.proofs.lemmas.Bool.{and_parts, and_left, or_from, false_from_ne_true}
@@ -9,27 +9,18 @@ use Rattle.tl_types.specs.Operation.{reply_op_of}
 use Rattle.tl_types.specs.Request.{Request}
 use Rattle.tl_types.specs.declared.operation.ReplyOp.{ReplyOp}
 use Rattle.tl_types.specs.declared.operation.ReplyOp.TheVariants.{AccessAck, AccessAckData, HintAck}
-use Rattle.check_memory.specs.Partial.{Partial, permits, after_partial}
+use Rattle.check_memory.specs.Partial.{Partial, permits, visible, after_partial}
 use Rattle.check_memory.specs.Pattern.{Pattern, pattern, shown_cells}
 use Rattle.check_memory.specs.Slave.{expected_of}
 use Rattle.check_memory.specs.declared.slave.Slave.{Slave}
 use Rattle.check_memory.specs.declared.slave.Slave.TheVariants.{Memory, Device}
-use Rattle.check_contests.specs.Writes.{in_window, writes, may_write, combines, meets, leave_unknown, unknown_where}
+use Rattle.check_memory.proofs.Unknown.{unknown_none}
+use Rattle.check_contests.specs.Writes.{in_window, writes, may_write, combines, meets, leave_unknown}
 use Rattle.check_contests.specs.Contests.{Accepted, one_may_write, is_contested, due_beside, due_of, memory_accepting, entry_accepting}
 use Rattle.check_contests.specs.Laws.{IsAsServed, AreUncontested, IsBeside}
 use Rattle.check_contests.proofs.Clash.{not_both}
 use Rattle.check_contests.proofs.Effect.{in_here, written_in}
 use Rattle.check_contests.proofs.Expected.{beside_legal, beside_denied}
-
--- ---- cells of which none is made unknown
-
-pub unknown_none : (test : ℕ → Bool) (cells : List (Option ℕ)) → ((k : ℕ) → k < length cells → test k ≡ false)
-    → unknown_where test cells ≡ cells
-unknown_none test [] none = refl
-unknown_none test (cell ∷ cells) none =
-    let first : test 0 ≡ false = none 0 (omega arith) in
-    rw first (ap (λ cs. cell ∷ cs)
-    (unknown_none (λ k. test (suc k)) cells (λ k below. none (suc k) (omega (arith, below)))))
 
 pub any_none : {A : Type 0} (test : A → Bool) (items : List A) → ((item : A) → test item ≡ false)
     → list_any test items ≡ false
@@ -94,8 +85,8 @@ shown_short HintAck n cells short = omega arith
 expected_short : (memory : Partial) (ask : Request) → permits memory ask ≡ true
     → length (pattern memory ask).bytes ≤ 2 ^ ask.size
 expected_short memory ask is =
-    rw (is, pattern) (shown_short (reply_op_of ask.op) (2 ^ ask.size) (take (2 ^ ask.size) (drop ask.address memory.cells))
-    (omega (arith, length-take (2 ^ ask.size) (drop ask.address memory.cells))))
+    rw (is, pattern) (shown_short (reply_op_of ask.op) (2 ^ ask.size) (take (2 ^ ask.size) (drop ask.address (visible memory)))
+    (omega (arith, length-take (2 ^ ask.size) (drop ask.address (visible memory)))))
 
 due_is : (memory : Partial) (kept : List Accepted) (ask : Request)
     → All (λ (entry : Accepted). IsBeside memory ask entry) kept

@@ -4,7 +4,7 @@ use Rattle.std.specs.Prelude.{◌≡◌, ℕ, ◌+◌, ◌≢◌, true, false, L
 use Rattle.tl_types.specs.Request.{Request}
 use Rattle.tl_ops.specs.declared.kind.Kind.TheVariants.{ClearRegs}
 use Rattle.check_memory.specs.Cells.{is_atomic}
-use Rattle.check_memory.specs.Partial.{Partial, permits, after_partial, AreWithin}
+use Rattle.check_memory.specs.Partial.{Partial, permits, visible, after_partial, AreWithin}
 use Rattle.check_memory.specs.Pattern.{Pattern, FitsPattern}
 use Rattle.check_memory.specs.Slave.{expected_of}
 use Rattle.check_memory.specs.declared.slave.Slave.{Slave}
@@ -41,12 +41,12 @@ pub record IsKnownRightly (truth : Partial) (course : ℕ → Course) (address b
   pub alone : (wide : ℕ) (ask : Request) → asked_of (course wide) ≡ Some ask → may_write truth ask address ≡ true
       → NoOtherMayWrite truth course wide address
   pub to_come : (wide : ℕ) (ask : Request) → course wide ≡ Waiting ask → may_write truth ask address ≡ true
-      → slice_index_or (after_partial truth ask).cells address None ≡ Some byte
+      → slice_index_or (visible (after_partial truth ask)) address None ≡ Some byte
   pub combined : (wide : ℕ) (ask : Request) → course wide ≡ Waiting ask → may_write truth ask address ≡ true
       → is_atomic ask.op ≡ true → (place : ℕ) → may_write truth ask place ≡ true
       → NoOtherMayWrite truth course wide place
   pub there : ((wide : ℕ) (ask : Request) → course wide ≡ Waiting ask → may_write truth ask address ≡ false)
-      → slice_index_or truth.cells address None ≡ Some byte
+      → slice_index_or (visible truth) address None ≡ Some byte
 
 -- of the bytes that are due to a request no other may write one that is known
 abbrev pub AreAlone : Partial → (ℕ → Course) → ℕ → Request → Pattern → Type 0
@@ -54,15 +54,15 @@ AreAlone truth course wide ask due =
     (place byte : ℕ) → slice_index_or due.bytes place None ≡ Some byte
     → NoOtherMayWrite truth course wide (ask.address + place)
 
--- the memory that is kept is the true one, but for its bytes; what is known of these is right
+-- the memory that is kept is the true one, but for its bytes; what is seen as known of these is right
 pub record IsMemoryBelow (ours truth : Partial) (kept : List Accepted) (course : ℕ → Course) : Type 0 where
   pub same : ours ≡ record truth { cells = ours.cells }
   pub counted : length ours.cells ≡ length truth.cells
   pub within : AreWithin truth.ranges (length truth.cells)
-  pub bytes : truth.kind ≡ ClearRegs → AreBytes truth.cells
-  pub our_bytes : truth.kind ≡ ClearRegs → AreBytes ours.cells
+  pub bytes : truth.kind ≡ ClearRegs → AreBytes (visible truth)
+  pub our_bytes : truth.kind ≡ ClearRegs → AreBytes (visible ours)
   pub carried : (wide : ℕ) (ask : Request) → asked_of (course wide) ≡ Some ask → IsCarried (Memory truth) ask
-  pub known : (address byte : ℕ) → slice_index_or ours.cells address None ≡ Some byte
+  pub known : (address byte : ℕ) → slice_index_or (visible ours) address None ≡ Some byte
       → IsKnownRightly truth course address byte
   pub dues : (wide : ℕ) (entry : Accepted) (ask : Request) → kept_of kept wide ≡ Some entry → course wide ≡ Waiting ask
       → permits truth ask ≡ true → AreAlone truth course wide ask entry.due

@@ -3,7 +3,7 @@ use Rattle.std.specs.Prelude.{◌≡◌, ℕ, ◌+◌, ◌%◌, ◌^◌, ◌≤�
 use Rattle.tl_types.specs.Request.{Request}
 use Rattle.tl_ops.specs.declared.kind.Kind.TheVariants.{ClearRegs}
 use Rattle.check_memory.specs.Known.{IsBelow}
-use Rattle.check_memory.specs.Partial.{Partial, permits, AreWithin}
+use Rattle.check_memory.specs.Partial.{Partial, permits, visible, AreWithin}
 use Rattle.check_memory.specs.Pattern.{Pattern, FitsPattern}
 use Rattle.check_memory.specs.Slave.{slave_after, expected_of}
 use Rattle.check_memory.specs.declared.slave.Slave.{Slave}
@@ -17,12 +17,12 @@ use Rattle.check_contests.specs.Below.{IsBelowTruth}
 
 -- ---- what is kept says no more than the truth
 
--- at reset the memory that is kept is the true one, but for bytes that are unknown
+-- at reset the memory that is kept is seen as the true one is, but for bytes that are unknown
 pub record IsMemoryAtReset (ours truth : Partial) : Type 0 where
   pub same : ours ≡ record truth { cells = ours.cells }
-  pub below : IsBelow ours.cells truth.cells
+  pub below : IsBelow (visible ours) (visible truth)
   pub within : AreWithin truth.ranges (length truth.cells)
-  pub bytes : truth.kind ≡ ClearRegs → AreBytes truth.cells
+  pub bytes : truth.kind ≡ ClearRegs → AreBytes (visible truth)
 
 abbrev pub IsBelowAtReset : Slave → Slave → Type 0
 IsBelowAtReset (Memory ours) (Memory truth) = IsMemoryAtReset ours truth

@@ -1,13 +1,14 @@
 -- Which bytes a request may write, and which bytes two requests leave unknown whose order nobody knows. What a request
 -- writes is the chapter "TL-UL and TL-UH operations" of the TileLink specification; what is unknown then is this
 -- project's own.
-use Rattle.std.specs.Prelude.{ℕ, suc, ◌+◌, ◌-◌, ◌^◌, ◌≤◌, Bool, false, ◌&&◌, ◌||◌, nat_le, nat_lt, if◌then◌else◌, List, [], ◌∷◌, Option, None, is_some, slice_index_or}
+use Rattle.std.specs.Prelude.{ℕ, ◌+◌, ◌-◌, ◌^◌, ◌≤◌, Bool, false, ◌&&◌, ◌||◌, nat_le, nat_lt, None, is_some, slice_index_or}
 use Rattle.std.specs.List.{list_any, range_with_len}
 use Rattle.tl_types.specs.Request.{Request}
 use Rattle.tl_types.specs.declared.limits.TheConstants.{MAX_BYTES}
 use Rattle.tl_types.specs.declared.operation.AskOp.{AskOp}
 use Rattle.tl_types.specs.declared.operation.AskOp.TheVariants.{PutFull, PutPartial, Arithmetic, Logical, Get, Intent}
 use Rattle.check_memory.specs.Cells.{is_atomic}
+pub use Rattle.check_memory.specs.Cells.{unknown_where}
 use Rattle.check_memory.specs.Partial.{Partial, permits}
 
 -- ---- one request
@@ -58,10 +59,3 @@ leave_unknown memory ask other address =
 pub record LiesIn (ask : Request) (block : ℕ) : Type 0 where
   pub from : block ≤ ask.address
   pub to : ask.address + 2 ^ ask.size ≤ block + MAX_BYTES
-
--- ---- what is unknown
-
--- cells, of which those are unknown whose places a test names
-abbrev pub unknown_where : (ℕ → Bool) → List (Option ℕ) → List (Option ℕ)
-unknown_where test [] = []
-unknown_where test (cell ∷ cells) = (if test 0 then None else cell) ∷ unknown_where (λ place. test (suc place)) cells

@@ -1,5 +1,5 @@
 -- The ranges of a port end in the address space.
-use Rattle.std.proofs.Common.{◌+◌, ◌^◌, ◌<◌, ◌≤◌, List, [], ◌∷◌, arith}
+use Rattle.std.proofs.Common.{◌+◌, ◌^◌, ◌≤◌, List, [], ◌∷◌, arith}
 use Rattle.tl_map.specs.declared.range.Range.{Range}
 use Rattle.check_memory.specs.Partial.{AreWithin}
 use Rattle.check_description.specs.Ranges.{AreRangesOfPort, first_base, first_length}

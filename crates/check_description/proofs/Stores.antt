@@ -105,6 +105,7 @@ keeps_its_store kind range port image plain fits =
       plain.sizes_are,
       plain.ranges_are,
       plain.known,
+      plain.still,
       cells_are range.base range.length (2 ^ 64) reset image fits.in_space fits.reset_fits fits.image_fits,
       whole,
     ) refl

@@ -56,12 +56,14 @@ known_port_is_whole kind port image of =
       bytes = replaced under base reset;
       is = rw (of.kind_is, of.known, cells_known (2 ^ 64) base image reset) refl;
       within = rw counted (all_within port.ranges of.lawful);
+      still = of.still;
     }
 
 pub error_port_is_whole : ErrorPortIsWhole
 error_port_is_whole order = record {
-  memory = ungiven_memory NoDevice (row_of_kind NoDevice) [] true;
+  memory = ungiven_memory NoDevice (row_of_kind NoDevice) [] [] true;
   bytes = zeros (2 ^ 64);
   is = rw (blank_zeros (2 ^ 64)) refl;
   within = λ place d inside. absurd (omega (arith, inside));
+  still = refl;
 }

@@ -27,12 +27,14 @@ store_at_reset kind range port image = record {
   bytes = put_over port.contents.reset (put_over image (replicate range.length 0));
 }
 
--- the port is a memory of this kind and of this range, with the sizes of its kind, and no byte of it is unknown
+-- the port is a memory of this kind and of this range, with the sizes of its kind; no byte of it is unknown, and none
+-- changes by itself
 pub record IsPlainMemory (kind : Kind) (range : Range) (port : Port) : Type 0 where
   pub kind_is : port.kind ≡ Memory kind
   pub ranges_are : port.ranges ≡ range ∷ []
   pub sizes_are : port.sizes ≡ None
   pub known : port.contents.unknown ≡ false
+  pub still : port.volatile ≡ []
 
 -- the range ends in the address space, and what is put there fits in it
 pub record FitsIn (range : Range) (reset image : List ℕ) : Type 0 where
@@ -53,10 +55,12 @@ KeepsItsStore =
 
 -- ---- ports that answer no unknown byte
 
--- the port is a memory of this kind of which no byte is unknown, and what is put there fits in its first range
+-- the port is a memory of this kind of which no byte is unknown and none changes by itself, and what is put there fits in
+-- its first range
 pub record IsKnownMemory (kind : Kind) (port : Port) (image : List ℕ) : Type 0 where
   pub kind_is : port.kind ≡ Memory kind
   pub known : port.contents.unknown ≡ false
+  pub still : port.volatile ≡ []
   pub lawful : AreRangesOfPort port.ranges
   pub reset_fits : length port.contents.reset ≤ first_length port.ranges
   pub image_fits : length image ≤ first_length port.ranges

@@ -1,5 +1,5 @@
 -- The names of ports and masters, which are all different, and the first fault of a file that names none. This project's own.
-use Rattle.std.specs.Prelude.{◌≡◌, ◌<◌, ℕ, Bool, List, ◌++◌, take, slice_get, Option, None, Some, Ok, IsTrue, IsSomeAnd, string_bytes, MatchResult}
+use Rattle.std.specs.Prelude.{◌≡◌, ◌<◌, ℕ, List, ◌++◌, take, slice_get, Option, None, Some, Ok, IsTrue, IsSomeAnd, string_bytes, MatchResult}
 use Rattle.std.specs.List.{filter_map}
 use Rattle.toml.specs.Data.{Members}
 use Rattle.check_keys.specs.Known.{is_among}

@@ -1,5 +1,5 @@
 -- The ports of a system file. This project's own.
-use Rattle.std.specs.Prelude.{ℕ, List, [], map, Option, None, Some, option_map, string_bytes, Result, Ok}
+use Rattle.std.specs.Prelude.{ℕ, Bool, ◌||◌, not, ◌==◌, List, [], length, map, Option, None, Some, option_map, string_bytes, Result, Ok}
 use Rattle.toml.specs.Data.{Data, Members, get_member}
 use Rattle.tl_map.specs.declared.range.Range.{Range}
 use Rattle.tl_map.specs.declared.limits.TheConstants.{MAX_JUDGED_PORTS}
@@ -18,13 +18,14 @@ use Rattle.check_description.specs.Kind.{kind_at}
 use Rattle.check_description.specs.Order.{order_at}
 use Rattle.check_description.specs.Ranges.{first_length, ranges_at}
 use Rattle.check_description.specs.Sizes.{sizes_at}
+use Rattle.check_description.specs.Volatile.{volatile_at}
 use Rattle.check_description.specs.declared.kind.PortKind.{PortKind}
 use Rattle.check_description.specs.declared.port.Contents as code_contents
 use Rattle.check_description.specs.declared.port.Port as code_port
 
 -- a slave port: its name, what stands there, where its bytes are, what it holds before any request, the sizes that it
--- supports, when its requests take effect, and its data bus. No sizes are those of its kind; no order is the command
--- line's
+-- supports, when its requests take effect, its data bus, and the addresses of the bytes that change by themselves. No
+-- sizes are those of its kind; no order is the command line's
 pub record Port : Type 0 where
   pub name : Option (List ℕ)
   pub kind : PortKind
@@ -33,6 +34,11 @@ pub record Port : Type 0 where
   pub sizes : Option SizeTable
   pub order : Option Order
   pub bus : Bus
+  pub volatile : List Range
+
+-- lanes of its replies may be unknown: its bytes may be, or some change by themselves
+abbrev pub may_answer_unknown : Port → Bool
+may_answer_unknown port = port.contents.unknown || not (length port.volatile == 0)
 
 -- the port that a table describes, by its keys in the order in which they are looked at; without a bus of its own it has
 -- that of the system
@@ -45,6 +51,7 @@ port_of bus members = do
   sizes ← sizes_at members
   order ← order_at members
   own ← bus_in_table bus members
+  volatile ← volatile_at ranges members
   Ok (record {
     name = name;
     kind = kind;
@@ -53,6 +60,7 @@ port_of bus members = do
     sizes = sizes;
     order = order;
     bus = own;
+    volatile = volatile;
   })
 
 -- the tables in a value, which may not be there
@@ -90,4 +98,5 @@ port_view port = record {
   sizes = port.sizes;
   order = port.order;
   bus = port.bus;
+  volatile = port.volatile.items;
 }

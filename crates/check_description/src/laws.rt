@@ -2,10 +2,12 @@
 ghost use Rattle.std.specs.Prelude.{◌≡◌};
 ghost use Rattle.check_description.specs.Laws.{ErrorPortIsWhole, KeepsItsStore, KnownPortIsWhole};
 ghost use Rattle.check_description.specs.declared.read.TheConstants.{MAX_SYSTEM};
+ghost use Rattle.check_description.specs.declared.volatile.TheConstants.{MAX_VOLATILE};
 
-/// The limit of this crate in numbers: contracts name the constant, so a wrong one would change what they promise.
-pub fn limit_in_numbers()
-    ensures { MAX_SYSTEM ≡ 1048576 }
+/// The limits of this crate in numbers: contracts name the constants, so a wrong one would change what they promise.
+pub fn limits_in_numbers()
+    ensures system { MAX_SYSTEM ≡ 1048576 }
+    ensures volatile { MAX_VOLATILE ≡ 64 }
 {}
 
 /// A port of one range that is wholly known at reset keeps a store of `tl_ops`: the bytes of its image, those of its
@@ -14,7 +16,8 @@ pub fn a_plain_port_keeps_its_store()
     ensures { KeepsItsStore }
 {}
 
-/// A port that says of no byte that it is unknown knows all its bytes at reset, so no reply of it may have unknown lanes.
+/// A port that says of no byte that it is unknown, or changes by itself, knows all its bytes at reset, so no reply of it may
+/// have unknown lanes.
 pub fn a_known_port_is_whole()
     ensures { KnownPortIsWhole }
 {}

@@ -32,6 +32,7 @@ mod rules;
 mod sizes;
 mod slave;
 mod unknown;
+mod volatile;
 
 pub use description::{Described, Description, describe};
 pub use kind::PortKind;

@@ -27,6 +27,8 @@ pub struct Port {
     pub sizes: Option<Sizes>,
     pub order: Option<Order>,
     pub bus: Bus,
+    /// The addresses of the bytes that change by themselves.
+    pub volatile: Vec<Range>,
     ghost lawful: { AreRangesOfPort ranges.items },
     ghost given: { length contents.reset.items ≤ first_length ranges.items },
 }

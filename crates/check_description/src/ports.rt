@@ -12,6 +12,7 @@ use crate::order::order_at;
 use crate::port::Port;
 use crate::ranges::{first_length, ranges_at};
 use crate::sizes::sizes_at;
+use crate::volatile::volatile_at;
 use check_beats::Bus;
 use check_keys::{Key, SystemFault, array_of, bus_in_table, find_value, name_at, tables_of};
 use std::alloc::Global;
@@ -30,6 +31,7 @@ pub fn read_port(alloc: Global, bus: Bus, table: &Table) -> Result<Port, SystemF
     let sizes = sizes_at(table)?;
     let order = order_at(table)?;
     let bus = bus_in_table(table, bus)?;
+    let volatile = volatile_at(alloc, &ranges, table)?;
     Ok(Port {
         name,
         kind,
@@ -38,6 +40,7 @@ pub fn read_port(alloc: Global, bus: Bus, table: &Table) -> Result<Port, SystemF
         sizes,
         order,
         bus,
+        volatile,
     })
 }
 

@@ -5,7 +5,6 @@ ghost use Rattle.tl_text.specs.Reading.{each};
 ghost use Rattle.tl_map.specs.Map.{IsLawfulRange};
 ghost use Rattle.check_keys.specs.Reading.{Gives};
 ghost use Rattle.check_keys.specs.Value.{pair_in_value as pair_in};
-ghost use Rattle.check_keys.specs.declared.fault.Key.TheVariants.{Ranges};
 ghost use Rattle.check_description.specs.Ranges.{AreRangesOfPort, first_base as base_of_first, first_length as length_of_first, listed_ranges, plain_ranges, range_of_pair, ranges_at as ranges_of_table, ranges_in as ranges_of_value};
 
 use check_keys::{
@@ -37,12 +36,16 @@ pub fn first_base(ranges: &[Range]) -> u64
 }
 
 /// The pairs of integers that values are.
-fn read_each_pair(alloc: Global, values: &[Value]) -> Result<Vec<(i64, i64)>, SystemFault>
-    ensures { Gives (λ pairs. pairs.items) result (each (pair_in Ranges) (map view values.now)) }
+pub fn read_each_pair(
+    alloc: Global,
+    values: &[Value],
+    key: Key,
+) -> Result<Vec<(i64, i64)>, SystemFault>
+    ensures { Gives (λ pairs. pairs.items) result (each (pair_in key) (map view values.now)) }
 {
     let mut pairs = Vec::with_capacity(alloc, values.len())?;
     for value in values {
-        pairs.push(pair_in_value(value, Key::Ranges)?)?;
+        pairs.push(pair_in_value(value, key)?)?;
     }
     Ok(pairs)
 }
@@ -77,7 +80,7 @@ fn ranges_in(alloc: Global, beside: bool, value: &Value) -> Result<Vec<Range>, S
     ensures value { Gives (λ ranges. ranges.items) result (ranges_of_value beside (view value.now)) }
     ensures lawful { IfOk result (λ ranges. AreRangesOfPort ranges.items) }
 {
-    let pairs = read_each_pair(alloc, array_of(value, Key::Ranges)?)?;
+    let pairs = read_each_pair(alloc, array_of(value, Key::Ranges)?, Key::Ranges)?;
     if beside || pairs.is_empty() || pairs.len() > MAX_RANGES_OF_PORT {
         return Err(SystemFault::OutOfRange(Key::Ranges));
     }

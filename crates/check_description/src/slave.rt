@@ -1,7 +1,7 @@
 //! The slave that a port is before any request.
 ghost use Rattle.std.specs.Prelude.{◌≡◌, ◌≤◌, IfOk, length};
 ghost use Rattle.check_keys.specs.Reading.{Gives};
-ghost use Rattle.check_description.specs.Port.{port_view};
+ghost use Rattle.check_description.specs.Port.{may_answer_unknown as lanes_may_be_unknown, port_view};
 ghost use Rattle.check_description.specs.Ranges.{first_length as length_of_first};
 ghost use Rattle.check_description.specs.Slave.{blank_memory, error_slave as slave_of_error, kept_at_reset, memory_at_reset, sizes_of_port, slave_at_reset};
 
@@ -32,8 +32,10 @@ fn blank_of(alloc: Global, kind: Kind, port: &Port) -> Result<PartialMemory, All
     ensures { IfOk result (λ memory. memory ≡ blank_memory kind (port_view port.now)) }
 {
     let ranges = Vec::from_slice(alloc, &port.ranges)?;
+    let volatile = Vec::from_slice(alloc, &port.volatile)?;
     let sizes = sizes_of(kind, port);
-    Ok(PartialMemory::new(alloc, kind, sizes, ranges, !port.contents.unknown))
+    let known = !port.contents.unknown;
+    Ok(PartialMemory::new(alloc, kind, sizes, ranges, volatile, known))
 }
 
 /// The memory of a port before any request, with these bytes of its image.
@@ -64,6 +66,13 @@ fn kept_of(alloc: Global, port: &Port, image: &[u8]) -> Result<Slave, AllocError
     }
 }
 
+/// Whether lanes of a port's replies may be unknown.
+fn may_answer_unknown(port: &Port) -> bool
+    ensures { result ≡ lanes_may_be_unknown (port_view port.now) }
+{
+    port.contents.unknown || !port.volatile.is_empty()
+}
+
 /// The slave that the port of this number is before any request, or that its image is longer than its first range. The
 /// bytes of the image are handed in, none if it names no image, and the order for a port that says none.
 pub fn slave_of(
@@ -81,20 +90,15 @@ pub fn slave_of(
     }
     let kept = kept_of(alloc, port, image)?;
     let order = port.order.unwrap_or(order);
-    Ok(PortSlave::new(alloc, kept, order, port.contents.unknown))
+    Ok(PortSlave::new(alloc, kept, order, may_answer_unknown(port)))
 }
 
 /// The slave of the error port: a memory with no range, which denies every request.
 pub fn error_slave(alloc: Global, order: Order) -> PortSlave
     ensures { result ≡ slave_of_error order }
 {
-    let nowhere = Vec::new(alloc);
-    let memory = PartialMemory::new(
-        alloc,
-        Kind::NoDevice,
-        Sizes::of(Kind::NoDevice),
-        nowhere,
-        true,
-    );
+    let sizes = Sizes::of(Kind::NoDevice);
+    let (nowhere, nothing) = (Vec::new(alloc), Vec::new(alloc));
+    let memory = PartialMemory::new(alloc, Kind::NoDevice, sizes, nowhere, nothing, true);
     PortSlave::new(alloc, Slave::Memory(memory), order, false)
 }

@@ -72,7 +72,7 @@ whole_pattern response = record {
 
 pub stays_whole : (slave : PortSlave) (ask : Request) → IsLawfulAsk ask → IsWholeMemory slave.kept → StaysWhole slave ask
 stays_whole slave ask lawful whole =
-    let law = whole_stays_whole whole.memory whole.bytes ask whole.within lawful in
+    let law = whole_stays_whole whole.memory whole.bytes ask whole.still whole.within lawful in
     record {
       expects = subst IsWholePattern
           (sym (ap (λ (s : Slave). expected_of s ask) whole.is ∙ law.answers))
@@ -82,5 +82,6 @@ stays_whole slave ask lawful whole =
         bytes = true_after whole.memory whole.bytes ask;
         is = ap (λ (s : Slave). slave_after s ask) whole.is ∙ ap (λ (m : Partial). Memory m) law.leaves;
         within = subst (λ (n : ℕ). AreWithin whole.memory.ranges n) (sym law.counted) whole.within;
+        still = whole.still;
       };
     }

@@ -1,5 +1,5 @@
 -- The laws, said on their own.
-use Rattle.std.specs.Prelude.{◌≡◌, ℕ, Bool, true, List, Option, Some, length, IsTrue}
+use Rattle.std.specs.Prelude.{◌≡◌, ℕ, Bool, true, List, [], Option, Some, length, IsTrue}
 use Rattle.tl_types.specs.Request.{Request}
 use Rattle.check_beats.specs.State.{Under, ends_ask, ends_reply}
 use Rattle.check_beats.specs.declared.beat.AskHead.{AskHead}
@@ -44,12 +44,13 @@ abbrev pub AnsweringSlaveStays : Type 0
 AnsweringSlaveStays =
     (slave : PortSlave) (wide : ℕ) (ask : Option Request) → StaysAsItIs slave (answering slave wide ask)
 
--- it is a memory, and all its bytes are known
+-- it is a memory, all its bytes are known, and none changes by itself
 pub record IsWholeMemory (slave : Slave) : Type 0 where
   pub memory : Partial
   pub bytes : List ℕ
   pub is : slave ≡ Memory (whole memory bytes)
   pub within : AreWithin memory.ranges (length bytes)
+  pub still : memory.volatile ≡ []
 
 -- a reply of which all is known
 pub record IsWholePattern (reply : Pattern) : Type 0 where
@@ -57,12 +58,12 @@ pub record IsWholePattern (reply : Pattern) : Type 0 where
   pub denied : reply.denied ≡ Some flag
   pub bytes : all_known reply.bytes ≡ true
 
--- all is known of what is expected of it, and all its bytes are known afterwards
+-- all is known of what is expected of it, and it is such a memory afterwards
 pub record StaysWhole (slave : PortSlave) (ask : Request) : Type 0 where
   pub expects : IsWholePattern (expected_of slave.kept ask)
   pub leaves : IsWholeMemory (served_by slave ask).kept
 
--- a memory that is wholly known has no use for unknown lanes
+-- such a memory has no use for unknown lanes
 abbrev pub WholeSlaveStaysWhole : Type 0
 WholeSlaveStaysWhole =
     (slave : PortSlave) (ask : Request) → IsLawfulAsk ask → IsWholeMemory slave.kept → StaysWhole slave ask

@@ -13,7 +13,8 @@ pub fn a_slave_stays_as_it_is()
     ensures answering { AnsweringSlaveStays }
 {}
 
-/// Of a memory that is wholly known replies are expected that are wholly known, and it stays so.
+/// Of a memory that is wholly known, and of which no byte changes by itself, replies are expected that are wholly known,
+/// and it stays so.
 pub fn a_whole_slave_stays_whole()
     ensures { WholeSlaveStaysWhole }
 {}

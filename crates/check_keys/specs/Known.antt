@@ -27,8 +27,8 @@ known_keys Top =
     codes "reset" ∷ codes "reset_active" ∷ codes "bits" ∷ codes "slots" ∷ codes "extra" ∷ []
 known_keys Port =
     codes "name" ∷ codes "kind" ∷ codes "base" ∷ codes "length" ∷ codes "ranges" ∷ codes "reset" ∷
-    codes "image" ∷ codes "unknown" ∷ codes "sizes" ∷ codes "order" ∷ codes "bus" ∷ codes "signals" ∷
-    codes "wires" ∷ codes "bits" ∷ codes "extra" ∷ []
+    codes "image" ∷ codes "unknown" ∷ codes "sizes" ∷ codes "order" ∷ codes "bus" ∷ codes "volatile" ∷
+    codes "signals" ∷ codes "wires" ∷ codes "bits" ∷ codes "extra" ∷ []
 known_keys Master =
     codes "name" ∷ codes "sources" ∷ codes "first" ∷ codes "stride" ∷ codes "bus" ∷ codes "reach" ∷ codes "signals" ∷
     codes "wires" ∷ codes "bits" ∷ codes "ops" ∷ codes "extra" ∷ []

@@ -1,5 +1,5 @@
 -- How checks of a system file follow one another: the first that fails is the answer. This project's own.
-use Rattle.std.specs.Prelude.{◌≡◌, ◌≢◌, Bool, List, [], ◌∷◌, ◌++◌, Option, None, Some, Result, Ok, Err, MatchResult, if◌then◌else◌}
+use Rattle.std.specs.Prelude.{◌≡◌, ◌≢◌, Result, Ok, Err, MatchResult}
 use Rattle.tl_map.specs.declared.address_map.AddressMapFault.{AddressMapFault}
 use Rattle.tl_map.specs.declared.address_map.AddressMapFault.TheVariants.{Memory as MapMemory}
 use Rattle.tl_map.specs.declared.owners.SourceOwnerFault.{SourceOwnerFault}

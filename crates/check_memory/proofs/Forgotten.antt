@@ -6,8 +6,7 @@ use Rattle.std.proofs.lemmas.Bool.{cases_eq, cases_lt}
 use Rattle.tl_types.specs.Bytes.{bit_in, given_byte, given_in}
 use Rattle.tl_types.proofs.Given.{length-given_in}
 use Rattle.check_memory.specs.Cells.{forgotten_cell, forgotten}
-use Rattle.check_memory.proofs.PageCells.{length-replaced}
-use Rattle.check_memory.proofs.Space.{get_or-replaced_in, get_or-replaced_out, replaced_by_places}
+use Rattle.check_memory.proofs.Replaced.{length-replaced, get_or-replaced_in, get_or-replaced_out, replaced_by_places}
 
 -- cells under their flags
 abbrev pub marked : List Bool → List (Option ℕ) → List (Option ℕ)
@@ -19,7 +18,7 @@ length-marked [] cells room = refl
 length-marked (flag ∷ flags) [] room = absurd (omega (arith, room))
 length-marked (flag ∷ flags) (cell ∷ cells) room = ap suc (length-marked flags cells (omega (arith, room)))
 
-get_or-marked : (flags : List Bool) (cells : List (Option ℕ)) (k : ℕ) → length flags ≤ length cells → k < length flags
+pub get_or-marked : (flags : List Bool) (cells : List (Option ℕ)) (k : ℕ) → length flags ≤ length cells → k < length flags
     → get_or (marked flags cells) k None ≡ forgotten_cell (get_or flags k false) (get_or cells k None)
 get_or-marked [] cells k room below = absurd (omega (arith, below))
 get_or-marked (flag ∷ flags) [] k room below = absurd (omega (arith, room))

@@ -7,7 +7,6 @@ use Rattle.tl_types.specs.Operation.{carries_bytes, byte_count}
 use Rattle.tl_types.specs.Request.{Request}
 use Rattle.tl_types.specs.declared.operation.AskOp.{AskOp}
 use Rattle.tl_types.specs.declared.operation.AskOp.TheVariants.{PutFull, PutPartial, Arithmetic, Logical, Get, Intent}
-use Rattle.tl_ops.specs.declared.kind.Kind.{Kind}
 use Rattle.tl_ops.specs.Cell.{FitsWords}
 use Rattle.tl_ops.proofs.Kept.{FitsWords-from_aligned}
 use Rattle.tl_ops.specs.declared.sizes.SizeSpan.{SizeSpan}
@@ -15,8 +14,7 @@ use Rattle.tl_ops.specs.declared.sizes.SizeTable.{SizeTable}
 use Rattle.tl_ops.specs.Support.{spans, allows}
 use Rattle.check_memory.specs.Sizes.{IsMessageSpan, IsLawfulTable}
 use Rattle.check_memory.specs.Known.{replaced}
-use Rattle.check_memory.specs.Cells.{new_cells}
-use Rattle.check_memory.specs.Partial.{Partial, permits, takes_bytes, window_of, after_partial, after_forgetting}
+use Rattle.check_memory.specs.Partial.{Partial, permits, takes_bytes, after_partial, after_forgetting}
 
 -- what holds is said of an error too
 pub on_err : {T E P : Type 0} (r : Result T E) → P → OnErr r P
@@ -69,54 +67,7 @@ small_size table (Logical op) size lawful is = in_span table.logical size lawful
 small_size table Get size lawful is = in_span table.get size lawful.get is
 small_size table (Intent _) size lawful is = in_span table.intent size lawful.intent is
 
--- ---- a request with no bytes changes nothing
-
-no_power : (size : ℕ) → 2 ^ size ≡ 0 → ⊥
-no_power size is = let some : 0 < 2 ^ size = pow_pos size in absurd (omega (arith, some, is))
-
-same_window : (kind : Kind) (op : AskOp) (size : ℕ) (old given : List (Option ℕ)) → byte_count op size ≡ 0
-    → new_cells kind op old given ≡ old
-same_window kind PutFull size old given none = absurd (no_power size none)
-same_window kind PutPartial size old given none = absurd (no_power size none)
-same_window kind (Arithmetic op) size old given none = absurd (no_power size none)
-same_window kind (Logical op) size old given none = absurd (no_power size none)
-same_window kind Get size old given none = refl
-same_window kind (Intent _) size old given none = refl
-
-window_back : (n : ℕ) (rest : List (Option ℕ)) → take n rest ++ drop (length (take n rest)) rest ≡ rest
-window_back zero rest = refl
-window_back (suc n) [] = refl
-window_back (suc n) (cell ∷ rest) = ap (λ cells. cell ∷ cells) (window_back n rest)
-
-replaced-same : (cells : List (Option ℕ)) (start n : ℕ) → replaced cells start (take n (drop start cells)) ≡ cells
-replaced-same cells start n =
-    let window = take n (drop start cells) in
-    append_assoc (take start cells) window (drop (start + length window) cells)
-    ∙ ap (λ back. take start cells ++ (window ++ back)) (sym (drop-drop (length window) start cells))
-    ∙ ap (λ rest. take start cells ++ rest) (window_back n (drop start cells))
-    ∙ take-append-drop start cells
-
-pub unchanged : (memory : Partial) (ask : Request) → permits memory ask ≡ true → byte_count ask.op ask.size ≡ 0
-    → after_partial memory ask ≡ memory
-unchanged memory ask is none =
-    let left : List (Option ℕ) → Partial = λ cells. record memory { cells = cells } in
-    rw is (ap left (ap (replaced memory.cells ask.address)
-    (same_window memory.kind ask.op ask.size (window_of memory ask) ask.bytes none)
-    ∙ replaced-same memory.cells ask.address (2 ^ ask.size)))
-
--- ---- a request that forgets, and one that does not
-
-no_count : (op : AskOp) (size : ℕ) → carries_bytes op ≡ false → byte_count op size ≡ 0
-no_count op size is = rw is refl
-
--- a legal request whose bytes are counted carries some
-pub takes_some : (memory : Partial) (ask : Request) → permits memory ask ≡ true → (byte_count ask.op ask.size ≡ 0 → ⊥)
-    → takes_bytes memory ask ≡ true
-takes_some memory ask is some = rw is (carried (carries_bytes ask.op) refl)
-  where
-    carried : (carries : Bool) → carries_bytes ask.op ≡ carries → carries_bytes ask.op ≡ true
-    carried true is = is
-    carried false is = absurd (some (no_count ask.op ask.size is))
+-- ---- a request whose bytes are taken
 
 pub takes_legal : (memory : Partial) (ask : Request) → takes_bytes memory ask ≡ true → permits memory ask ≡ true
 takes_legal memory ask is = both (permits memory ask) (carries_bytes ask.op) is
@@ -133,14 +84,58 @@ takes_count memory ask is = rw (both (permits memory ask) (carries_bytes ask.op)
     both true b is = is
     both false b is = cc
 
-none_carried : (memory : Partial) (ask : Request) → permits memory ask ≡ true → takes_bytes memory ask ≡ false
+pub takes_carries : (memory : Partial) (ask : Request) → takes_bytes memory ask ≡ true → carries_bytes ask.op ≡ true
+takes_carries memory ask is = both (permits memory ask) (carries_bytes ask.op) is
+  where
+    both : (a b : Bool) → (a && b) ≡ true → b ≡ true
+    both true b is = is
+    both false b is = cc
+
+-- a legal request whose bytes are not taken carries none
+pub not_taken : (memory : Partial) (ask : Request) → permits memory ask ≡ true → takes_bytes memory ask ≡ false
     → carries_bytes ask.op ≡ false
-none_carried memory ask is none = rw is at none
+not_taken memory ask is none = rw is at none
+
+-- ---- a request with no bytes changes nothing
+
+window_back : {A : Type 0} (n : ℕ) (rest : List A) → take n rest ++ drop (length (take n rest)) rest ≡ rest
+window_back zero rest = refl
+window_back (suc n) [] = refl
+window_back (suc n) (item ∷ rest) = ap (λ items. item ∷ items) (window_back n rest)
+
+pub replaced-same : {A : Type 0} (items : List A) (start n : ℕ)
+    → replaced items start (take n (drop start items)) ≡ items
+replaced-same items start n =
+    let window = take n (drop start items) in
+    append_assoc (take start items) window (drop (start + length window) items)
+    ∙ ap (λ back. take start items ++ (window ++ back)) (sym (drop-drop (length window) start items))
+    ∙ ap (λ rest. take start items ++ rest) (window_back n (drop start items))
+    ∙ take-append-drop start items
+
+pub unchanged : (memory : Partial) (ask : Request) → permits memory ask ≡ true → byte_count ask.op ask.size ≡ 0
+    → after_partial memory ask ≡ memory
+unchanged memory ask is none = by_cases (takes_bytes memory ask) refl
+  where
+    by_cases : (takes : Bool) → takes_bytes memory ask ≡ takes → after_partial memory ask ≡ memory
+    by_cases true taken =
+        let some : 0 < 2 ^ ask.size = pow_pos ask.size in
+        absurd (omega (arith, some, sym (takes_count memory ask taken) ∙ none))
+    by_cases false untaken = rw (untaken, after_partial) refl
+
+-- ---- a request that forgets, and one that does not
+
+no_count : (op : AskOp) (size : ℕ) → carries_bytes op ≡ false → byte_count op size ≡ 0
+no_count op size is = rw is refl
+
+-- a legal request whose bytes are counted carries some
+pub takes_some : (memory : Partial) (ask : Request) → permits memory ask ≡ true → (byte_count ask.op ask.size ≡ 0 → ⊥)
+    → takes_bytes memory ask ≡ true
+takes_some memory ask is some = rw is (carried (carries_bytes ask.op) refl)
+  where
+    carried : (carries : Bool) → carries_bytes ask.op ≡ carries → carries_bytes ask.op ≡ true
+    carried true is = is
+    carried false is = absurd (some (no_count ask.op ask.size is))
 
 pub forgets_nothing : (memory : Partial) (ask : Request) (flags : List Bool) → takes_bytes memory ask ≡ false
     → memory ≡ after_forgetting memory ask flags
-forgets_nothing memory ask flags none = rw none (left (permits memory ask) refl)
-  where
-    left : (legal : Bool) → permits memory ask ≡ legal → memory ≡ after_partial memory ask
-    left true is = sym (unchanged memory ask is (no_count ask.op ask.size (none_carried memory ask is none)))
-    left false is = rw is refl
+forgets_nothing memory ask flags none = rw (none, after_forgetting, after_partial) refl

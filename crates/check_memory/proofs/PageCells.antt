@@ -2,7 +2,7 @@
 use Rattle.std.proofs.Common.{◌≡◌, ◌∙◌, ◌⊎◌, inl, inr, ⊎_elim, ℕ, zero, suc, ◌+◌, ◌*◌, ◌/◌, ◌%◌, ◌<◌, ◌≤◌, Bool, true, false, ◌||◌, slice_index, List, [], ◌∷◌, ◌++◌, length, take, drop, set, get_or, map, replicate, Option, Some, None, unwrap_or, refl, sym, ap, arith}
 use Rattle.std.specs.List.{zip}
 use Rattle.std.specs.Int.{bit_at}
-use Rattle.std.proofs.lemmas.List.{append_assoc, length-map, length-take-le, length-drop, length-append, get_or-take, get_or-drop, set_split, get_or-replicate}
+use Rattle.std.proofs.lemmas.List.{append_assoc, length-map, length-take-le, length-drop, get_or-take, get_or-drop, set_split, get_or-replicate}
 use Rattle.tl_types.specs.Bytes.{bit_in, given_byte, given_in, bytes_of_words}
 use Rattle.tl_types.proofs.Given.{given_in-same, given_in-all, length-given_in, bit_in-lt}
 use Rattle.tl_types.specs.declared.operation.AskOp.{AskOp}
@@ -218,18 +218,6 @@ atomic_shown op masks masks' lanes start given marked whole inside atomic are ou
     not_true : (b : Bool) → (b ≡ true → ⊥) → b ≡ false
     not_true true lost = absurd (lost refl)
     not_true false lost = refl
-
-pub length-replaced : (cells new : List (Option ℕ)) (start : ℕ) → start + length new ≤ length cells
-    → length (replaced cells start new) ≡ length cells
-length-replaced cells new start inside =
-    length-append (take start cells ++ new) (drop (start + length new) cells)
-    ∙ omega (
-      arith,
-      length-append (take start cells) new,
-      length-take-le start cells (omega (arith, inside)),
-      length-drop (start + length new) cells,
-      inside,
-    )
 
 -- where a window was whole, or the operation is a swap
 pub either : (b c : Bool) → (b || c) ≡ true → (b ≡ true) ⊎ (c ≡ true)

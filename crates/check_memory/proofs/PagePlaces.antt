@@ -15,7 +15,8 @@ use Rattle.check_memory.specs.Place.{tabulate, fill_of}
 use Rattle.check_memory.specs.Paged.{content, IsAt, AreDistinctPages, AreIndexed}
 use Rattle.check_memory.proofs.Told.{Told, told-length}
 use Rattle.check_memory.proofs.Soundness.{told-new}
-use Rattle.check_memory.proofs.Space.{window_seen, replaced_seen, get_or-replaced_in, get_or-replaced_out, content_here, content_there, content_absent, content_push, same_tabulate}
+use Rattle.check_memory.proofs.Replaced.{get_or-replaced_in, get_or-replaced_out}
+use Rattle.check_memory.proofs.Space.{window_seen, replaced_seen, content_here, content_there, content_absent, content_push, same_tabulate}
 
 -- the page at a place
 pub slot_here : (slots : List Slot) (at number : ℕ) → IsAt slots number at

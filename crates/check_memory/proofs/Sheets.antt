@@ -7,8 +7,7 @@ use Rattle.std.proofs.lemmas.Bool.{cases_eq, cases_lt}
 use Rattle.check_memory.specs.Known.{replaced}
 use Rattle.check_memory.specs.Place.{fill_of}
 use Rattle.check_memory.specs.Paged.{Slot, Paged, blank_slot, page_at, slots_of, AreFilled}
-use Rattle.check_memory.proofs.PageCells.{length-replaced}
-use Rattle.check_memory.proofs.Space.{get_or-replaced_in, get_or-replaced_out, replaced_by_places}
+use Rattle.check_memory.proofs.Replaced.{length-replaced, get_or-replaced_in, get_or-replaced_out, replaced_by_places}
 
 -- ---- a part of a list
 

@@ -1,6 +1,6 @@
 -- Whatever the unknown bytes are, the true reply fits the pattern and the true bytes afterwards are those that are
 -- known.
-use Rattle.std.proofs.Common.{◌≡◌, ◌∙◌, ◌⊎◌, ℕ, ◌+◌, ◌^◌, ◌≤◌, Bool, true, false, ◌&&◌, ◌||◌, if◌then◌else◌, ◌==◌, nat_le, List, [], ◌∷◌, length, drop, replicate, map, Option, Some, None, unwrap_or, bit_and, refl, sym, ap, inl, inr, ⊎_elim, rules, arith}
+use Rattle.std.proofs.Common.{◌≡◌, ◌∙◌, ◌⊎◌, ℕ, ◌+◌, ◌^◌, ◌≤◌, Bool, true, false, ◌&&◌, ◌||◌, if◌then◌else◌, ◌==◌, nat_le, List, [], ◌∷◌, length, drop, replicate, map, Option, Some, None, unwrap_or, bit_and, refl, sym, ap, subst, inl, inr, ⊎_elim, rules, arith}
 use Rattle.std.specs.List.{zip}
 use Rattle.std.proofs.lemmas.List.{length-map, length-take-le, length-drop}
 use Rattle.std.proofs.lemmas.List.Elements.{All-head, All-tail}
@@ -15,16 +15,18 @@ use Rattle.tl_types.specs.declared.operation.ReplyOp.{ReplyOp}
 use Rattle.tl_types.specs.declared.operation.ReplyOp.TheVariants.{AccessAck, AccessAckData, HintAck}
 use Rattle.tl_ops.specs.declared.kind.Kind.{Kind}
 use Rattle.tl_ops.specs.declared.kind.Kind.TheVariants.{Ram, Rom, Regs, ClearRegs, NoDevice}
-use Rattle.tl_ops.specs.Store.{shown}
+use Rattle.tl_ops.specs.Store.{shown, with_window}
 use Rattle.tl_ops.specs.Window.{new_window, put_window, merged, cleared, operand_of, combine_arith, combine_logic, not_byte}
 use Rattle.tl_ops.proofs.Kept.{length-new_window}
 use Rattle.tl_map.specs.declared.range.Range.{Range}
-use Rattle.check_memory.specs.Known.{IsBelow, known, all_known}
-use Rattle.check_memory.specs.Cells.{put_cell, clear_cell, put_cells, combined, combined_logic, new_cells}
-use Rattle.check_memory.specs.Partial.{Partial, holds, permits, window_of, after_partial, AreWithin}
+use Rattle.check_memory.specs.Known.{IsBelow, known, all_known, replaced}
+use Rattle.check_memory.specs.Cells.{put_cell, clear_cell, put_cells, combined, combined_logic, new_cells, unknown_where}
+use Rattle.check_memory.specs.Partial.{Partial, holds, permits, takes_bytes, is_volatile, visible, window_of, after_partial, AreWithin}
 use Rattle.check_memory.specs.Pattern.{shown_cells}
 use Rattle.check_memory.specs.Whole.{true_window, true_after}
-use Rattle.check_memory.specs.Laws.{IsLawfulAsk, IsSound}
+use Rattle.check_memory.specs.Laws.{IsLawfulAsk, IsSound, AreSameButVolatile}
+use Rattle.check_memory.proofs.Legal.{takes_legal, takes_carries, not_taken, replaced-same}
+use Rattle.check_memory.proofs.Unknown.{known_where, length-unknown_where, unknown-replaced, told-unknown}
 use Rattle.check_memory.proofs.Told.{IsTold, Told, told-length, told-take, told-drop, told-known, told-none, told-replaced, below_from_told, told_from_below}
 
 -- ---- puts
@@ -177,27 +179,88 @@ told-chosen : (p : Bool) (cells : List (Option ℕ)) (bytes zeros : List ℕ) �
 told-chosen true cells bytes zeros told = told
 told-chosen false cells bytes zeros told = told-known zeros
 
-below-after : (memory : Partial) (bytes : List ℕ) (ask : Request) (p : Bool) → permits memory ask ≡ p
-    → AreWithin memory.ranges (length bytes) → IsLawfulAsk ask → Told memory.cells bytes
-    → IsBelow (after_partial memory ask).cells (known (true_after memory bytes ask))
-below-after memory bytes ask true is within lawful told =
-    let told_window : Told (window_of memory ask) (true_window bytes ask) =
-    told-take (2 ^ ask.size) (drop ask.address memory.cells) (drop ask.address bytes)
-    (told-drop ask.address memory.cells bytes told) in
-    let told' : Told (new_cells memory.kind ask.op (window_of memory ask) ask.bytes)
-    (new_window memory.kind ask.op (true_window bytes ask) ask.bytes) =
-    told-new memory.kind ask.op (window_of memory ask) (true_window bytes ask) ask.bytes told_window
-    (given_long memory bytes ask within lawful is) in
-    rw is (below_from_told _ _ (told-replaced memory.cells bytes ask.address _ _ told told'))
-below-after memory bytes ask false is within lawful told = rw is (below_from_told memory.cells bytes told)
+-- a request whose bytes are not taken leaves the true bytes as they are
+kept_window : (kind : Kind) (op : AskOp) (old : List ℕ) (given : List (Option ℕ)) → carries_bytes op ≡ false
+    → new_window kind op old given ≡ old
+kept_window kind PutFull old given none = cc
+kept_window kind PutPartial old given none = cc
+kept_window kind (Arithmetic op) old given none = cc
+kept_window kind (Logical op) old given none = cc
+kept_window kind Get old given none = refl
+kept_window kind (Intent _) old given none = refl
+
+pub true_same : (memory : Partial) (bytes : List ℕ) (ask : Request) → takes_bytes memory ask ≡ false
+    → true_after memory bytes ask ≡ bytes
+true_same memory bytes ask none = by_cases (permits memory ask) refl
+  where
+    by_cases : (p : Bool) → permits memory ask ≡ p → true_after memory bytes ask ≡ bytes
+    by_cases true is = rw is (ap (with_window bytes ask.address)
+        (kept_window memory.kind ask.op (true_window bytes ask) ask.bytes (not_taken memory ask is none))
+        ∙ replaced-same bytes ask.address (2 ^ ask.size))
+    by_cases false is = rw is refl
+
+pub true_taken : (memory : Partial) (bytes : List ℕ) (ask : Request) → permits memory ask ≡ true
+    → true_after memory bytes ask
+    ≡ with_window bytes ask.address (new_window memory.kind ask.op (true_window bytes ask) ask.bytes)
+true_taken memory bytes ask is = rw is refl
+
+pub taken : (memory : Partial) (ask : Request) → takes_bytes memory ask ≡ true
+    → after_partial memory ask ≡ record memory {
+      cells = replaced memory.cells ask.address (new_cells memory.kind ask.op (window_of memory ask) ask.bytes);
+    }
+taken memory ask is = rw (is, after_partial) refl
+
+pub untaken : (memory : Partial) (ask : Request) → takes_bytes memory ask ≡ false → after_partial memory ask ≡ memory
+untaken memory ask is = rw (is, after_partial) refl
+
+told_window : (memory : Partial) (bytes : List ℕ) (ask : Request) → Told (visible memory) bytes
+    → Told (window_of memory ask) (true_window bytes ask)
+told_window memory bytes ask told =
+    told-take (2 ^ ask.size) (drop ask.address (visible memory)) (drop ask.address bytes)
+    (told-drop ask.address (visible memory) bytes told)
+
+told-after : (memory : Partial) (bytes : List ℕ) (ask : Request) (takes : Bool) → takes_bytes memory ask ≡ takes
+    → AreWithin memory.ranges (length bytes) → IsLawfulAsk ask → Told (visible memory) bytes
+    → Told (visible (after_partial memory ask)) (true_after memory bytes ask)
+told-after memory bytes ask true is within lawful told =
+    let legal = takes_legal memory ask is in
+    let new = new_cells memory.kind ask.op (window_of memory ask) ask.bytes in
+    let new' = new_window memory.kind ask.op (true_window bytes ask) ask.bytes in
+    let given = given_long memory bytes ask within lawful legal in
+    let told' : Told new new' =
+    told-new memory.kind ask.op (window_of memory ask) (true_window bytes ask) ask.bytes (told_window memory bytes ask told)
+    given in
+    let wide : length (true_window bytes ask) ≡ 2 ^ ask.size = window_long memory bytes ask within legal in
+    let long : length new ≡ 2 ^ ask.size =
+    sym (told-length new new' told')
+    ∙ length-new_window memory.kind ask.op (true_window bytes ask) ask.bytes (given (takes_carries memory ask is)) ∙ wide in
+    let inside : ask.address + 2 ^ ask.size ≤ length bytes =
+    within_if_held memory.ranges (length bytes) ask.address (2 ^ ask.size) within (held_if_permitted memory ask legal) in
+    let fits : ask.address + length new ≤ length memory.cells =
+    omega (
+      arith,
+      inside,
+      long,
+      told-length (visible memory) bytes told,
+      length-unknown_where (is_volatile memory) memory.cells,
+    ) in
+    let all : Told (unknown_where (is_volatile memory) (replaced memory.cells ask.address new))
+    (with_window bytes ask.address new') =
+    subst (λ (cells : List (Option ℕ)). Told cells (with_window bytes ask.address new'))
+    (sym (unknown-replaced (is_volatile memory) memory.cells new ask.address fits))
+    (told-unknown (is_volatile memory) (replaced (visible memory) ask.address new) (with_window bytes ask.address new')
+    (told-replaced (visible memory) bytes ask.address new new' told told')) in
+    subst (λ (m : Partial). Told (visible m) (true_after memory bytes ask)) (sym (taken memory ask is))
+    (subst (λ (bs : List ℕ). Told (unknown_where (is_volatile memory) (replaced memory.cells ask.address new)) bs)
+    (sym (true_taken memory bytes ask legal)) all)
+told-after memory bytes ask false is within lawful told =
+    subst (λ (m : Partial). Told (visible m) (true_after memory bytes ask)) (sym (untaken memory ask is))
+    (subst (λ (bs : List ℕ). Told (visible memory) bs) (sym (true_same memory bytes ask is)) told)
 
 pub partial_is_sound : (memory : Partial) (bytes : List ℕ) (ask : Request) → AreWithin memory.ranges (length bytes)
-    → IsLawfulAsk ask → IsBelow memory.cells (known bytes) → IsSound memory bytes ask
+    → IsLawfulAsk ask → IsBelow (visible memory) (known bytes) → IsSound memory bytes ask
 partial_is_sound memory bytes ask within lawful below =
-    let told : Told memory.cells bytes = told_from_below memory.cells bytes below in
-    let told_window : Told (window_of memory ask) (true_window bytes ask) =
-    told-take (2 ^ ask.size) (drop ask.address memory.cells) (drop ask.address bytes)
-    (told-drop ask.address memory.cells bytes told) in
+    let told : Told (visible memory) bytes = told_from_below (visible memory) bytes below in
     record {
       reply_fits = record {
         op_is = refl;
@@ -206,7 +269,18 @@ partial_is_sound memory bytes ask within lawful below =
         denied_is = λ flag is. is;
         bytes_fit = below-shown (reply_op_of ask.op) _ _
             (told-chosen (permits memory ask) (window_of memory ask) (true_window bytes ask)
-            (replicate (2 ^ ask.size) 0) told_window);
+            (replicate (2 ^ ask.size) 0) (told_window memory bytes ask told));
       };
-      stays_below = below-after memory bytes ask (permits memory ask) refl within lawful told;
+      stays_below = below_from_told (visible (after_partial memory ask)) (true_after memory bytes ask)
+          (told-after memory bytes ask (takes_bytes memory ask) refl within lawful told);
     }
+
+-- ---- bytes that change by themselves
+
+pub volatile_bytes_are_free : (memory : Partial) (bytes later : List ℕ) → AreSameButVolatile memory bytes later
+    → IsBelow (visible memory) (known bytes) → IsBelow (visible memory) (known later)
+volatile_bytes_are_free memory bytes later same below = record {
+  counted = length-map later (λ byte. Some byte) ∙ same.counted ∙ sym (length-map bytes (λ byte. Some byte)) ∙ below.counted;
+  kept = λ place byte is. same.same place (known_where (is_volatile memory) memory.cells place byte is).0
+      ∙ below.kept place byte is;
+}

@@ -19,11 +19,13 @@ use Rattle.tl_ops.proofs.Kept.{length-new_window}
 use Rattle.tl_ops.proofs.LaneLists.{length-with_window}
 use Rattle.check_memory.specs.Known.{known, all_known, replaced}
 use Rattle.check_memory.specs.Cells.{put_cell, clear_cell, put_cells, combined, combined_logic, new_cells}
-use Rattle.check_memory.specs.Partial.{Partial, permits, after_partial, AreWithin}
+use Rattle.check_memory.specs.Partial.{Partial, permits, takes_bytes, holds, is_volatile, visible, window_of, after_partial, AreWithin}
 use Rattle.check_memory.specs.Pattern.{Pattern, pattern, shown_cells, seen_as}
 use Rattle.check_memory.specs.Whole.{whole, true_window, true_after, true_reply}
 use Rattle.check_memory.specs.Laws.{IsLawfulAsk, IsWhole}
-use Rattle.check_memory.proofs.Soundness.{swapped, within_if_held, held_if_permitted, window_long, given_long}
+use Rattle.check_memory.proofs.Legal.{takes_legal}
+use Rattle.check_memory.proofs.Soundness.{swapped, within_if_held, held_if_permitted, window_long, given_long, true_same, true_taken, taken, untaken}
+use Rattle.check_memory.proofs.Unknown.{unknown_none}
 
 -- ---- what a window becomes
 
@@ -80,10 +82,16 @@ known-new kind (Intent _) old given long = refl
 
 -- ---- where it stands
 
-known-window : (bytes : List ℕ) (ask : Request)
-    → take (2 ^ ask.size) (drop ask.address (known bytes)) ≡ known (true_window bytes ask)
-known-window bytes ask =
-    ap (take (2 ^ ask.size)) (drop-map (λ (b : ℕ). Some b) ask.address bytes)
+-- where no byte changes by itself, all is seen
+pub visible-all : (memory : Partial) → memory.volatile ≡ [] → visible memory ≡ memory.cells
+visible-all memory none =
+    unknown_none (is_volatile memory) memory.cells (λ place below. ap (λ ranges. holds ranges place 1) none)
+
+known-window : (memory : Partial) (bytes : List ℕ) (ask : Request) → memory.volatile ≡ []
+    → window_of (whole memory bytes) ask ≡ known (true_window bytes ask)
+known-window memory bytes ask none =
+    ap (λ cells. take (2 ^ ask.size) (drop ask.address cells)) (visible-all (whole memory bytes) none)
+    ∙ ap (take (2 ^ ask.size)) (drop-map (λ (b : ℕ). Some b) ask.address bytes)
     ∙ take-map (λ (b : ℕ). Some b) (2 ^ ask.size) (drop ask.address bytes)
 
 known-replaced : (bytes : List ℕ) (start : ℕ) (new : List ℕ)
@@ -108,13 +116,13 @@ known-chosen : (p : Bool) (cells : List (Option ℕ)) (bytes zeros : List ℕ) �
 known-chosen true cells bytes zeros same = same
 known-chosen false cells bytes zeros same = refl
 
-whole_answers : (memory : Partial) (bytes : List ℕ) (ask : Request)
+whole_answers : (memory : Partial) (bytes : List ℕ) (ask : Request) → memory.volatile ≡ []
     → pattern (whole memory bytes) ask ≡ seen_as (true_reply memory bytes ask)
-whole_answers memory bytes ask =
+whole_answers memory bytes ask none =
     let zeros = replicate {A = ℕ} (2 ^ ask.size) 0 in
     let op = reply_op_of ask.op in
-    let chosen = known-chosen (permits memory ask) (take (2 ^ ask.size) (drop ask.address (known bytes)))
-    (true_window bytes ask) zeros (known-window bytes ask) in
+    let chosen = known-chosen (permits memory ask) (window_of (whole memory bytes) ask)
+    (true_window bytes ask) zeros (known-window memory bytes ask none) in
     let with_bytes : List (Option ℕ) → Pattern =
     λ cells. record {
       op = op;
@@ -126,19 +134,22 @@ whole_answers memory bytes ask =
     ap with_bytes (ap (shown_cells op) chosen
     ∙ known-shown op (if permits memory ask then true_window bytes ask else zeros))
 
-whole_leaves : (memory : Partial) (bytes : List ℕ) (ask : Request) (p : Bool) → permits memory ask ≡ p
-    → AreWithin memory.ranges (length bytes) → IsLawfulAsk ask
+whole_leaves : (memory : Partial) (bytes : List ℕ) (ask : Request) (takes : Bool) → takes_bytes memory ask ≡ takes
+    → memory.volatile ≡ [] → AreWithin memory.ranges (length bytes) → IsLawfulAsk ask
     → after_partial (whole memory bytes) ask ≡ whole memory (true_after memory bytes ask)
-whole_leaves memory bytes ask true is within lawful =
+whole_leaves memory bytes ask true is none within lawful =
+    let legal = takes_legal memory ask is in
     let new = new_window memory.kind ask.op (true_window bytes ask) ask.bytes in
-    let made : new_cells memory.kind ask.op (take (2 ^ ask.size) (drop ask.address (known bytes))) ask.bytes
-    ≡ known new =
-    ap (λ cells. new_cells memory.kind ask.op cells ask.bytes) (known-window bytes ask)
+    let made : new_cells memory.kind ask.op (window_of (whole memory bytes) ask) ask.bytes ≡ known new =
+    ap (λ cells. new_cells memory.kind ask.op cells ask.bytes) (known-window memory bytes ask none)
     ∙ known-new memory.kind ask.op (true_window bytes ask) ask.bytes
-    (given_long memory bytes ask within lawful is) in
+    (given_long memory bytes ask within lawful legal) in
     let left : List (Option ℕ) → Partial = λ cells. record memory { cells = cells } in
-    rw is (ap left (ap (replaced (known bytes) ask.address) made ∙ known-replaced bytes ask.address new))
-whole_leaves memory bytes ask false is within lawful = rw is refl
+    taken (whole memory bytes) ask is
+    ∙ ap left (ap (replaced (known bytes) ask.address) made ∙ known-replaced bytes ask.address new)
+    ∙ ap (whole memory) (sym (true_taken memory bytes ask legal))
+whole_leaves memory bytes ask false is none within lawful =
+    untaken (whole memory bytes) ask is ∙ ap (whole memory) (sym (true_same memory bytes ask is))
 
 -- a window after a request is as long as before
 new_long : (memory : Partial) (bytes : List ℕ) (ask : Request) (op : AskOp)
@@ -168,10 +179,10 @@ whole_counted memory bytes ask true is within lawful =
     (omega (arith, inside, wide, long)))
 whole_counted memory bytes ask false is within lawful = rw is refl
 
-pub whole_stays_whole : (memory : Partial) (bytes : List ℕ) (ask : Request) → AreWithin memory.ranges (length bytes)
-    → IsLawfulAsk ask → IsWhole memory bytes ask
-whole_stays_whole memory bytes ask within lawful = record {
-  answers = whole_answers memory bytes ask;
-  leaves = whole_leaves memory bytes ask (permits memory ask) refl within lawful;
+pub whole_stays_whole : (memory : Partial) (bytes : List ℕ) (ask : Request) → memory.volatile ≡ []
+    → AreWithin memory.ranges (length bytes) → IsLawfulAsk ask → IsWhole memory bytes ask
+whole_stays_whole memory bytes ask none within lawful = record {
+  answers = whole_answers memory bytes ask none;
+  leaves = whole_leaves memory bytes ask (takes_bytes memory ask) refl none within lawful;
   counted = whole_counted memory bytes ask (permits memory ask) refl within lawful;
 }

@@ -1,10 +1,11 @@
 -- The laws, said on their own.
-use Rattle.std.specs.Prelude.{◌≡◌, ◌↔◌, ℕ, ◌++◌, ◌∷◌, [], List, length, Option}
+use Rattle.std.specs.Prelude.{◌≡◌, ◌↔◌, ℕ, ◌+◌, ◌<◌, ◌^◌, true, false, ◌++◌, ◌∷◌, [], List, length, slice_index_or, Option, None}
 use Rattle.tl_types.specs.Request.{Request, IsLawfulRequest}
 use Rattle.tl_ops.specs.Store.{Store, legal, reply, after}
 use Rattle.tl_ops.specs.Support.{row_of_kind}
 use Rattle.check_memory.specs.Known.{IsBelow, known}
-use Rattle.check_memory.specs.Partial.{Partial, permits, after_partial, AreWithin}
+use Rattle.check_memory.specs.Cells.{is_atomic, is_swap}
+use Rattle.check_memory.specs.Partial.{Partial, permits, is_volatile, visible, after_partial, AreWithin}
 use Rattle.check_memory.specs.Pattern.{Pattern, pattern, FitsPattern, seen_as}
 use Rattle.check_memory.specs.declared.slave.Slave.{Slave}
 use Rattle.check_memory.specs.Slave.{expected_of, MayReply}
@@ -14,7 +15,8 @@ use Rattle.check_memory.specs.Whole.{whole, true_after, true_reply}
 abbrev pub IsLawfulAsk : Request → Type 0
 IsLawfulAsk ask = IsLawfulRequest ask.op ask.size ask.bytes
 
--- a memory that is wholly known answers and changes as the definitions of tl_ops say, and stays wholly known
+-- a memory that is wholly known, and of which no byte changes by itself, answers and changes as the definitions of tl_ops
+-- say, and stays wholly known
 pub record IsWhole (memory : Partial) (bytes : List ℕ) (ask : Request) : Type 0 where
   pub answers : pattern (whole memory bytes) ask ≡ seen_as (true_reply memory bytes ask)
   pub leaves : after_partial (whole memory bytes) ask ≡ whole memory (true_after memory bytes ask)
@@ -22,21 +24,53 @@ pub record IsWhole (memory : Partial) (bytes : List ℕ) (ask : Request) : Type 
 
 abbrev pub WholeStaysWhole : Type 0
 WholeStaysWhole =
-    (memory : Partial) (bytes : List ℕ) (ask : Request) → AreWithin memory.ranges (length bytes) → IsLawfulAsk ask
-    → IsWhole memory bytes ask
+    (memory : Partial) (bytes : List ℕ) (ask : Request) → memory.volatile ≡ []
+    → AreWithin memory.ranges (length bytes) → IsLawfulAsk ask → IsWhole memory bytes ask
 
--- whatever the unknown bytes are, the true reply fits the pattern, and the true bytes afterwards are those that are
--- known
+-- whatever the unknown bytes are, the true reply fits the pattern, and the true bytes afterwards are those that are seen
+-- as known
 pub record IsSound (memory : Partial) (bytes : List ℕ) (ask : Request) : Type 0 where
   pub reply_fits : FitsPattern (pattern memory ask) (seen_as (true_reply memory bytes ask))
-  pub stays_below : IsBelow (after_partial memory ask).cells (known (true_after memory bytes ask))
+  pub stays_below : IsBelow (visible (after_partial memory ask)) (known (true_after memory bytes ask))
 
 abbrev pub PartialIsSound : Type 0
 PartialIsSound =
     (memory : Partial) (bytes : List ℕ) (ask : Request) → AreWithin memory.ranges (length bytes) → IsLawfulAsk ask
-    → IsBelow memory.cells (known bytes) → IsSound memory bytes ask
+    → IsBelow (visible memory) (known bytes) → IsSound memory bytes ask
 
--- a memory in one range, whose sizes are its kind's row, is the store of tl_ops between the bytes before it and beyond
+-- the true bytes later are those of before, but for such as change by themselves
+pub record AreSameButVolatile (memory : Partial) (bytes later : List ℕ) : Type 0 where
+  pub counted : length later ≡ length bytes
+  pub same : (address : ℕ) → is_volatile memory address ≡ false
+      → slice_index_or (known later) address None ≡ slice_index_or (known bytes) address None
+
+-- bytes that change by themselves may become any others between two requests: what is seen is still true
+abbrev pub VolatileBytesAreFree : Type 0
+VolatileBytesAreFree =
+    (memory : Partial) (bytes later : List ℕ) → AreSameButVolatile memory bytes later
+    → IsBelow (visible memory) (known bytes) → IsBelow (visible memory) (known later)
+
+-- a legal request has a byte in its window that changes by itself
+pub record HasVolatile (memory : Partial) (ask : Request) (place : ℕ) : Type 0 where
+  pub legal : permits memory ask ≡ true
+  pub in_window : place < 2 ^ ask.size
+  pub volatile : is_volatile memory (ask.address + place) ≡ true
+
+-- no reply is expected to tell such a byte
+abbrev pub VolatileIsNeverTold : Type 0
+VolatileIsNeverTold =
+    (memory : Partial) (ask : Request) (place : ℕ) → HasVolatile memory ask place
+    → slice_index_or (pattern memory ask).bytes place None ≡ None
+
+-- an atomic over such a byte leaves its whole window unknown, but for a swap
+abbrev pub AtomicOverVolatile : Type 0
+AtomicOverVolatile =
+    (memory : Partial) (ask : Request) (place other : ℕ) → HasVolatile memory ask place
+    → AreWithin memory.ranges (length memory.cells) → is_atomic ask.op ≡ true → is_swap ask.op ≡ false
+    → other < 2 ^ ask.size → slice_index_or (visible (after_partial memory ask)) (ask.address + other) None ≡ None
+
+-- a memory in one range, whose sizes are its kind's row, and of which no byte changes by itself, is the store of tl_ops
+-- between the bytes before it and beyond
 pub record IsStore (store : Store) (before beyond : List ℕ) (memory : Partial) (ask : Request) : Type 0 where
   pub legal_is : permits memory ask ≡ legal store ask
   pub reply_is : true_reply memory (before ++ (store.bytes ++ beyond)) ask ≡ reply store ask
@@ -48,6 +82,7 @@ one_range store cells = record {
   kind = store.kind;
   sizes = row_of_kind store.kind;
   ranges = record { base = store.base; length = length store.bytes } ∷ [];
+  volatile = [];
   cells = cells;
 }
 

@@ -1,5 +1,5 @@
--- A port's memory as contracts see it: what it supports, where it answers, and one byte for each address, known or
--- unknown. What is legal there, and what a request leaves.
+-- A port's memory as contracts see it: what it supports, where it answers, which of its bytes change by themselves, and
+-- one byte for each address, known or unknown. What is legal there, what is seen, and what a request leaves.
 use Rattle.std.specs.Prelude.{ℕ, ◌+◌, ◌-◌, ◌%◌, ◌^◌, ◌≤◌, Bool, false, ◌&&◌, ◌||◌, if◌then◌else◌, ◌==◌, nat_le, List, [], ◌∷◌, take, drop, Option, All}
 use Rattle.tl_types.specs.Operation.{carries_bytes}
 use Rattle.tl_types.specs.Request.{Request}
@@ -9,13 +9,15 @@ use Rattle.tl_ops.specs.declared.sizes.SizeTable.{SizeTable}
 use Rattle.tl_map.specs.declared.range.Range.{Range}
 use Rattle.tl_ops.specs.Support.{allows}
 use Rattle.check_memory.specs.Known.{known, replaced}
-use Rattle.check_memory.specs.Cells.{new_cells, forgotten}
+use Rattle.check_memory.specs.Cells.{new_cells, unknown_where, forgotten}
 
--- a port's memory: cell a is the byte at address a. Cells outside of the ranges are never answered and never changed
+-- a port's memory: cell a is the byte at address a. Cells outside of the ranges are never answered and never changed. The
+-- bytes of the volatile ranges change by themselves: what stands in their cells is never looked at
 pub record Partial : Type 0 where
   pub kind : Kind
   pub sizes : SizeTable
   pub ranges : List Range
+  pub volatile : List Range
   pub cells : List (Option ℕ)
 
 -- whether one of the ranges holds so many bytes from an address on
@@ -31,27 +33,34 @@ permits memory ask =
     && (ask.address % 2 ^ ask.size == 0)
     && holds memory.ranges ask.address (2 ^ ask.size)
 
--- the cells of a request's window
-abbrev pub window_of : Partial → Request → List (Option ℕ)
-window_of memory ask = take (2 ^ ask.size) (drop ask.address memory.cells)
+-- whether a memory takes the bytes of a request: the request is legal and carries some
+abbrev pub takes_bytes : Partial → Request → Bool
+takes_bytes memory ask = permits memory ask && carries_bytes ask.op
 
--- the memory after a request
+-- whether the byte at an address changes by itself
+abbrev pub is_volatile : Partial → ℕ → Bool
+is_volatile memory address = holds memory.volatile address 1
+
+-- the cells as they are seen: those of bytes that change by themselves are unknown
+abbrev pub visible : Partial → List (Option ℕ)
+visible memory = unknown_where (is_volatile memory) memory.cells
+
+-- what is seen of a request's window
+abbrev pub window_of : Partial → Request → List (Option ℕ)
+window_of memory ask = take (2 ^ ask.size) (drop ask.address (visible memory))
+
+-- the memory after a request, which makes of its window what it sees there
 abbrev pub after_partial : Partial → Request → Partial
-after_partial memory ask =
-    if permits memory ask then
-    record memory {
-      cells = replaced memory.cells ask.address
-          (new_cells memory.kind ask.op (window_of memory ask) ask.bytes);
-    }
-    else memory
+after_partial memory ask = record memory {
+  cells =
+      if takes_bytes memory ask then
+      replaced memory.cells ask.address (new_cells memory.kind ask.op (window_of memory ask) ask.bytes)
+      else memory.cells;
+}
 
 -- the first address of the block that holds an address: blocks are as long as the largest message
 abbrev pub block_of : ℕ → ℕ
 block_of address = address - address % MAX_BYTES
-
--- whether a memory takes the bytes of a request: the request is legal and carries some
-abbrev pub takes_bytes : Partial → Request → Bool
-takes_bytes memory ask = permits memory ask && carries_bytes ask.op
 
 -- the memory after a request, of whose block each byte that is flagged is then unknown; where the memory takes no bytes,
 -- it forgets none

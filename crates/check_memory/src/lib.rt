@@ -1,7 +1,7 @@
 //! What stands at a port, as the judge keeps it: a memory whose bytes are known or unknown, or a device.
 //!
 //! Contracts see a [`PartialMemory`] as a `Partial` (`specs/Partial.antt`): its kind, the sizes that it supports, its
-//! ranges, and one byte for each address, known or unknown. [`PartialMemory::serve_into`] leaves the memory
+//! ranges, which bytes change by themselves, and one byte for each address, known or unknown. [`PartialMemory::serve_into`] leaves the memory
 //! `after_partial` a request and the `pattern` of its answer; [`Pattern::fits`] (`check_cells`) says whether a
 //! captured reply fits it. [`PartialMemory::serve_and_forget`] does the same and then makes bytes near the request
 //! unknown. A [`Slave`] is a memory or a device, which keeps nothing. A table of sizes is within the rules, or makes
@@ -21,6 +21,7 @@ mod sheet;
 mod sizes;
 mod slave;
 mod slots;
+mod volatile;
 mod wide;
 
 pub use check_cells::{Cells, Pattern};

@@ -8,9 +8,10 @@ ghost use Rattle.check_memory.specs.Pattern.{pattern, shown_cells};
 ghost use Rattle.check_memory.specs.Place.{fill_of, tabulate};
 
 use crate::pages::Pages;
-use crate::range::range_holds;
+use crate::range::holds;
 use crate::sheet::PAGE_BYTES;
 use crate::sizes::Sizes;
+use crate::volatile::{hide, serve_in_page};
 use check_cells::{Cells, Pattern};
 use std::alloc::{AllocError, Global};
 use std::marker::Model;
@@ -18,12 +19,14 @@ use tl_map::Range;
 use tl_ops::{Kind, SizeTable};
 use tl_types::{Ask, MAX_BYTES};
 
-/// A port's memory: which of its bytes are known, and what they are.
+/// A port's memory: which of its bytes are known, and what they are. What its pages hold of bytes that change by themselves
+/// is never looked at.
 #[derive(Drop)]
 pub struct PartialMemory {
     kind: Kind,
     sizes: SizeTable,
     ranges: Vec<Range>,
+    volatile: Vec<Range>,
     pages: Pages,
 }
 
@@ -39,6 +42,7 @@ impl Model for PartialMemory {
       kind = m.kind;
       sizes = m.sizes;
       ranges = m.ranges.items;
+      volatile = m.volatile.items;
       cells = paged_cells m.pages;
     } };
 
@@ -46,12 +50,14 @@ impl Model for PartialMemory {
 }
 
 impl PartialMemory {
-    /// A memory that nothing has written: its bytes are zero, or unknown.
+    /// A memory that nothing has written: its bytes are zero, or unknown. Those of the volatile ranges change by
+    /// themselves.
     pub fn new(
         alloc: Global,
         kind: Kind,
         sizes: Sizes,
         ranges: Vec<Range>,
+        volatile: Vec<Range>,
         known: bool,
     ) -> PartialMemory
         requires { AreWithin ranges.items (2 ^ 64) }
@@ -59,6 +65,7 @@ impl PartialMemory {
           kind = kind;
           sizes = sizes;
           ranges = ranges.items;
+          volatile = volatile.items;
           cells = tabulate (λ _. fill_of known) (2 ^ 64);
         } }
     {
@@ -66,6 +73,7 @@ impl PartialMemory {
             kind,
             sizes: sizes.table(),
             ranges,
+            volatile,
             pages: Pages::new(alloc, known),
         }
     }
@@ -133,7 +141,8 @@ impl PartialMemory {
             .pages
             .page_for(alloc, ask.address() / PAGE_BYTES as u64)?;
         answer.head(ask, Some(false));
-        self.pages.serve(at, self.kind, ask, &mut answer.cells);
+        let cells = &mut answer.cells;
+        serve_in_page(&mut self.pages, at, self.kind, &self.volatile, ask, cells);
         Ok(())
     }
 
@@ -160,7 +169,8 @@ impl PartialMemory {
             .pages
             .page_for(alloc, ask.address() / PAGE_BYTES as u64)?;
         answer.head(ask, Some(false));
-        self.pages.serve(at, self.kind, ask, &mut answer.cells);
+        let cells = &mut answer.cells;
+        serve_in_page(&mut self.pages, at, self.kind, &self.volatile, ask, cells);
         let block = ask.address() - ask.address() % MAX_BYTES as u64;
         self.pages.forget(at, block, flags);
         Ok(())
@@ -186,6 +196,7 @@ impl PartialMemory {
         if ask.op().reply_op().carries_bytes() {
             self.pages
                 .read(ask.address(), ask.width(), &mut answer.cells);
+            hide(&self.volatile, ask.address(), &mut answer.cells);
         } else {
             answer.cells.clear();
         }
@@ -226,18 +237,6 @@ impl PartialMemory {
     pub fn pages(&self) -> usize {
         self.pages.len()
     }
-}
-
-/// Whether one of the ranges holds so many bytes from an address on.
-fn holds(ranges: &[Range], address: u64, width: u64) -> bool
-    ensures { result ≡ holds ranges.now address width }
-{
-    for range in ranges {
-        if range_holds(range, address, width) {
-            return true;
-        }
-    }
-    false
 }
 
 /// What the answer to an illegal request has to fit.

@@ -146,7 +146,8 @@ impl Pages {
     pub fn forget(&mut self, at: usize, address: u64, flags: &[bool])
         requires at { IsAt self.old.slots (address / PAGE_BYTES) at }
         requires inside { address % PAGE_BYTES + length flags.now ≤ PAGE_BYTES }
-        ensures { paged_cells self.new ≡ forgotten flags.now address (paged_cells self.old) }
+        ensures after { paged_cells self.new ≡ forgotten flags.now address (paged_cells self.old) }
+        ensures at { IsAt self.new.slots (address / PAGE_BYTES) at }
     {
         let start = (address % PAGE_BYTES as u64) as usize;
         self.slots.forget(at, start, flags);

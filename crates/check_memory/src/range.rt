@@ -1,6 +1,6 @@
 //! Where a port answers.
 ghost use Rattle.std.specs.Prelude.{◌≡◌, ◌↔◌, ◌≤◌, ◌+◌, ◌^◌, ◌&&◌, IsTrue, All, nat_le};
-ghost use Rattle.check_memory.specs.Partial.{AreWithin};
+ghost use Rattle.check_memory.specs.Partial.{AreWithin, holds};
 
 use tl_map::Range;
 
@@ -12,11 +12,23 @@ fn is_within(range: Range) -> bool
 }
 
 /// Whether it holds so many bytes from an address on.
-pub fn range_holds(range: &Range, address: u64, width: u64) -> bool
+fn range_holds(range: &Range, address: u64, width: u64) -> bool
     ensures { result ≡ (nat_le range.now.base address
         && nat_le (address + width) (range.now.base + range.now.length)) }
 {
     range.base <= address && width <= range.length && address - range.base <= range.length - width
+}
+
+/// Whether one of the ranges holds so many bytes from an address on.
+pub fn holds(ranges: &[Range], address: u64, width: u64) -> bool
+    ensures { result ≡ holds ranges.now address width }
+{
+    for range in ranges {
+        if range_holds(range, address, width) {
+            return true;
+        }
+    }
+    false
 }
 
 /// Whether all of these ranges end at or below the end of the address space.

@@ -10,9 +10,8 @@ use Rattle.tl_types.specs.Operation.{reply_op_of, reply_carries_bytes}
 use Rattle.tl_types.specs.Request.{Request}
 use Rattle.tl_types.specs.declared.operation.ReplyOp.{ReplyOp}
 use Rattle.tl_types.specs.declared.operation.ReplyOp.TheVariants.{AccessAck, AccessAckData, HintAck}
-use Rattle.check_memory.specs.Known.{known, replaced}
-use Rattle.check_memory.specs.Cells.{new_cells}
-use Rattle.check_memory.specs.Partial.{Partial, permits, window_of}
+use Rattle.check_memory.specs.Known.{known}
+use Rattle.check_memory.specs.Partial.{Partial, permits, visible, window_of, after_partial}
 use Rattle.check_memory.specs.Pattern.{shown_cells}
 use Rattle.check_memory.specs.Slave.{slave_after, expected_of}
 use Rattle.check_memory.specs.declared.slave.Slave.{Slave}
@@ -42,15 +41,8 @@ same_itself Device = tt
 
 pub same_after : (slave reset : Slave) (ask : Request) → IsSameButCells slave reset
     → IsSameButCells (slave_after slave ask) reset
-same_after (Memory memory) (Memory reset) ask same = go (permits memory ask)
-  where
-    new : List (Option ℕ)
-    new = replaced memory.cells ask.address (new_cells memory.kind ask.op (window_of memory ask) ask.bytes)
-
-    go : (legal : Bool) → (if legal then record memory { cells = new } else memory)
-        ≡ record reset { cells = (if legal then record memory { cells = new } else memory).cells }
-    go true = ap (λ (m : Partial). record m { cells = new }) same
-    go false = same
+same_after (Memory memory) (Memory reset) ask same =
+    ap (λ (m : Partial). record m { cells = (after_partial memory ask).cells }) same
 same_after (Memory memory) Device ask same = same
 same_after Device (Memory reset) ask same = same
 same_after Device Device ask same = tt
@@ -81,7 +73,7 @@ expected_short (Memory memory) ask =
   where
     go : (legal : Bool)
         → length (if legal then window_of memory ask else known (replicate (2 ^ ask.size) 0)) ≤ 2 ^ ask.size
-    go true = omega (arith, length-take (2 ^ ask.size) (drop ask.address memory.cells))
+    go true = omega (arith, length-take (2 ^ ask.size) (drop ask.address (visible memory)))
     go false = omega (
       arith,
       length-map (replicate (2 ^ ask.size) 0) (λ (byte : ℕ). Some byte),

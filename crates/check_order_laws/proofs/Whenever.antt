@@ -6,6 +6,8 @@ use Rattle.check_cells.specs.Pattern.{Pattern}
 use Rattle.check_contests.specs.Laws.{IsBelowAtReset}
 use Rattle.check_contests.specs.Moments.{untouched}
 use Rattle.check_contests.specs.Moments.Course.{Idle as CourseIdle}
+use Rattle.check_memory.proofs.Unknown.{known_where}
+use Rattle.check_memory.specs.Partial.{is_volatile}
 use Rattle.check_memory.specs.declared.slave.Slave.{Slave}
 use Rattle.check_memory.specs.declared.slave.Slave.TheVariants.{Memory, Device}
 use Rattle.check_flight.specs.declared.order.Order.TheVariants.{Accept, Reply}
@@ -39,7 +41,8 @@ below_itself (Memory memory) sound = record {
   same = refl;
   below = record { counted = refl; kept = λ place byte is. is };
   within = sound.within;
-  bytes = sound.bytes;
+  bytes = λ clears place byte is.
+      sound.bytes clears place byte (known_where (is_volatile memory) memory.cells place byte is).1;
 }
 below_itself Device sound = tt
 

@@ -30,6 +30,7 @@ use Rattle.check_description.specs.Order.{order_at}
 use Rattle.check_description.specs.Port.{Port, port_of}
 use Rattle.check_description.specs.Ranges.{plain_ranges, ranges_at}
 use Rattle.check_description.specs.Sizes.{sizes_at}
+use Rattle.check_description.specs.Volatile.{volatile_at}
 use Rattle.check_description.specs.declared.kind.PortKind.{PortKind}
 use Rattle.check_description.specs.declared.kind.PortKind.TheVariants.{Memory, Device}
 use Rattle.check_beats.specs.declared.bus.Bus.TheVariants.{Eight}
@@ -271,7 +272,7 @@ pub record ReadsPort (members : Members) (store : Store) : Type 0 where
 
 pub port_same : (members : Members) (store : Store) → IsPlainPort members → (IsEmpty (range_of store) → ⊥)
     → old_port_of members ≡ Ok store → ReadsPort members store
-unfolding old_port_of port_of name_at ranges_at plain_ranges contents_at image_name_at flag_at sizes_at order_at bus_in_table text_if_any number_if_any
+unfolding old_port_of port_of name_at ranges_at plain_ranges contents_at image_name_at flag_at sizes_at order_at bus_in_table volatile_at text_if_any number_if_any
 port_same members store plain some is =
     let read = read_keys (old_kind_at members) (old_number_at OldBase 0 last_base members)
     (old_number_at OldLength 0 MAX_LENGTH members) (λ count. old_reset_at count members) store is in
@@ -302,6 +303,7 @@ port_same members store plain some is =
         sizes = None;
         order = None;
         bus = Eight;
+        volatile = [];
       };
       reads = rw (
         plain.name,
@@ -315,6 +317,7 @@ port_same members store plain some is =
         plain.sizes,
         plain.order,
         plain.bus,
+        plain.volatile,
       ) refl;
       is = record {
         plain = record {
@@ -322,6 +325,7 @@ port_same members store plain some is =
           ranges_are = ap (λ n. record { base = store.base; length = n } ∷ []) (sym counted);
           sizes_are = refl;
           known = refl;
+          still = refl;
         };
         holds = ap (λ bytes. record { kind = store.kind; base = store.base; bytes = bytes }) holds;
         name = refl;

@@ -10,7 +10,7 @@ use Rattle.check_beats.specs.declared.bus.Bus.TheVariants.{Eight}
 use Rattle.check_beats.specs.declared.rules.LinkRules.{LinkRules}
 use Rattle.check_keys.specs.Key.{key_name}
 use Rattle.check_keys.specs.declared.fault.Key.{Key}
-use Rattle.check_keys.specs.declared.fault.Key.TheVariants.{Bus, Unaligned, Decode, Name, Ranges, Image, Unknown, Sizes, Order, First, Stride, Reach}
+use Rattle.check_keys.specs.declared.fault.Key.TheVariants.{Bus, Unaligned, Decode, Name, Ranges, Image, Unknown, Sizes, Order, Volatile, First, Stride, Reach}
 use Rattle.check_description.specs.Laws.{IsPlainMemory, store_at_reset}
 use Rattle.check_description.specs.Port.{Port, port_tables}
 use Rattle.check_description.specs.Description.{Description, Makes}
@@ -32,6 +32,7 @@ pub record IsPlainPort (members : Members) : Type 0 where
   pub sizes : IsAbsent Sizes members
   pub order : IsAbsent Order members
   pub bus : IsAbsent Bus members
+  pub volatile : IsAbsent Volatile members
 
 -- a master's table has no such key
 pub record IsPlainMaster (members : Members) : Type 0 where

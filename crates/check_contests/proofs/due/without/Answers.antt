@@ -1,8 +1,7 @@
 use Rattle.std.proofs.Common.{◌++◌, ◌∷◌, [], ◌≡◌, ◌∙◌, ℕ, ◌+◌, ◌<◌, Bool, if◌then◌else◌, length, take, get_or, None, sym, ap, arith}
 use Rattle.std.proofs.lemmas.List.{length-take-le}
 use Rattle.check_contests.specs.Writes.{writes}
-use Rattle.check_contests.proofs.Dues.{unknown-more, chosen_none, chosen_cell, got}
-use Rattle.check_contests.proofs.Kept.{length-unknown_where}
+use Rattle.check_memory.proofs.Unknown.{length-unknown_where, unknown-more, chosen_none, chosen_cell, got}
 use Rattle.check_contests.proofs.due.without.Goals as goal
 use Rattle.check_contests.proofs.due.without.Goals.{then-writes_after, else-writes_after}
 

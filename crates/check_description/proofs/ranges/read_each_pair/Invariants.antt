@@ -3,10 +3,9 @@ use Rattle.std.proofs.Common.{◌≡◌, drop, map}
 use Rattle.toml.specs.View.{view}
 use Rattle.tl_text.specs.Reading.{each, with_front}
 use Rattle.check_keys.specs.Value.{pair_in_value}
-use Rattle.check_keys.specs.declared.fault.Key.TheVariants.{Ranges}
 use Rattle.check_description.proofs.ranges.read_each_pair.Given as goal
 
 abbrev pub invariant-loop-value : goal.invariant-loop-value
 invariant-loop-value l =
-    with_front l.pairs.items (each (pair_in_value Ranges) (map view (drop l.value-index l.values)))
-    ≡ each (pair_in_value Ranges) (map view l.values)
+    with_front l.pairs.items (each (pair_in_value l.key) (map view (drop l.value-index l.values)))
+    ≡ each (pair_in_value l.key) (map view l.values)

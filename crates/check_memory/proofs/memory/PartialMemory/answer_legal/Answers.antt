@@ -1,7 +1,14 @@
-use Rattle.std.proofs.Common.{◌≡◌, ◌∙◌, ◌≤◌, ap}
+use Rattle.std.proofs.Common.{◌≡◌, ◌∙◌, ◌+◌, ◌^◌, ◌≤◌, List, true, length, drop, sym, subst, ap, arith, rules}
+use Rattle.std.proofs.lemmas.List.{length-take}
+use Rattle.tl_types.specs.Operation.{reply_op_of, reply_carries_bytes}
+use Rattle.tl_map.specs.declared.range.Range.{Range}
 use Rattle.tl_ops.specs.Support.{allows}
-use Rattle.check_memory.specs.Partial.{Partial}
+use Rattle.check_memory.specs.Cells.{unknown_where}
+use Rattle.check_memory.specs.Partial.{Partial, holds, window_of, AreWithin}
+use Rattle.check_memory.specs.Pattern.{Pattern}
+use Rattle.check_memory.specs.Paged.{paged_cells}
 use Rattle.check_memory.proofs.Legal.{allowed, small_size, aligned, fits_words, in_page}
+use Rattle.check_memory.proofs.SeenWindows.{answered, in_space, seen_of}
 use Rattle.check_memory.proofs.memory.PartialMemory.answer_legal.Goals as goal
 
 pub read-requires-clause-fits : goal.read-requires-clause-fits
@@ -23,3 +30,32 @@ read-requires-clause-inside c =
     ∙ allowed c.args.self.now ask c.requires) in
     rw (c.address.ensures, c.width.ensures.value)
     (in_page ask.address ask.size small (aligned c.args.self.now ask c.requires))
+
+pub hide-requires : goal.hide-requires
+hide-requires c =
+    let ask = c.args.ask.now in
+    let within : AreWithin c.args.self.now.ranges (2 ^ 64) =
+    subst (λ (ranges : List Range). AreWithin ranges (2 ^ 64)) (ap (λ (m : Partial). m.ranges) c.self.view_is)
+    c.self.invariant.0 in
+    omega (
+      arith,
+      in_space c.args.self.now ask within c.requires,
+      c.address-then-carries_bytes.ensures,
+      c.width.ensures.value,
+      ap length c.read.ensures,
+      length-take c.width.result (drop c.address.result (paged_cells c.self.inside.pages)),
+    )
+
+pub returns-then-carries_bytes : goal.returns-then-carries_bytes
+returns-then-carries_bytes c =
+    let memory = c.args.self.now in
+    let ask = c.args.ask.now in
+    let carries : reply_carries_bytes (reply_op_of ask.op) ≡ true = search rules in
+    let seen : c.hide.new.cells ≡ window_of memory ask =
+    seen_of memory ask c.deref.result.now (paged_cells c.self.inside.pages) c.read.new.cells c.hide.new.cells
+    c.address.result c.width.result (c.deref.ensures.value ∙ ap (λ (m : Partial). m.volatile) c.self.view_is)
+    (ap (λ (m : Partial). m.cells) c.self.view_is) c.address.ensures c.width.ensures.value c.read.ensures
+    (c.hide.ensures ∙ ap (λ a. unknown_where (λ place. holds c.deref.result.now (a + place) 1) c.read.new.cells)
+    (c.address-then-carries_bytes.ensures ∙ sym c.address.ensures)) in
+    ap (λ (p : Pattern). record p { bytes = c.hide.new.cells }) (c.answer.view_is ∙ c.head.ensures)
+    ∙ answered memory ask c.hide.new.cells c.requires carries seen

@@ -1,4 +1,4 @@
-use Rattle.std.proofs.Common.{◌≡◌, ◌∙◌, ◌+◌, ◌/◌, ◌%◌, ◌≤◌, ◌^◌, length, drop, get_or, refl, sym, ap, subst, arith, nat_eq}
+use Rattle.std.proofs.Common.{◌≡◌, ◌∙◌, ◌+◌, ◌/◌, ◌%◌, ◌≤◌, ◌^◌, length, drop, set, get_or, refl, sym, ap, subst, arith, nat_eq}
 use Rattle.std.specs.HashMap.{get}
 use Rattle.std.proofs.lemmas.List.{length-drop}
 use Rattle.check_memory.specs.Known.{replaced}
@@ -6,7 +6,7 @@ use Rattle.check_memory.specs.Cells.{forgotten}
 use Rattle.check_memory.specs.Place.{tabulate}
 use Rattle.check_memory.specs.Paged.{Slot, Paged, blank_slot, paged_cells, content, IsAt, AreIndexed}
 use Rattle.check_memory.proofs.Forgotten.{marked, length-marked, length-forgotten, marked-take}
-use Rattle.check_memory.proofs.PagePlaces.{slot_here, at_within, paged_at, page_shown, page_changed, indexed_kept}
+use Rattle.check_memory.proofs.PagePlaces.{slot_here, set_here, at_from_slot, at_within, paged_at, page_shown, page_changed, indexed_kept}
 use Rattle.check_memory.proofs.pages.Pages.forget.Goals as goal
 
 pub forget-requires-clause-at : goal.forget-requires-clause-at
@@ -31,8 +31,8 @@ invariant_of-self c =
     c.self.invariant here.0 refl
     (length-forgotten flags start slot.page (omega (arith, whole, c.requires.inside)) ∙ whole))
 
-pub returns : goal.returns
-returns c =
+pub returns-clause-after : goal.returns-clause-after
+returns-clause-after c =
     let slots = c.self.inside.slots.slots in
     let slot = get_or slots c.args.at blank_slot in
     let known = c.self.inside.slots.known in
@@ -60,3 +60,14 @@ returns c =
     (omega (arith, long, within)) refl
     ∙ ap (replaced (tabulate (content slots known) (2 ^ 64)) address) shown
     ∙ ap (λ p. forgotten flags address (paged_cells p)) c.self.view_is
+
+pub returns-clause-at : goal.returns-clause-at
+returns-clause-at c =
+    let slots = c.self.inside.slots.slots in
+    let slot = get_or slots c.args.at blank_slot in
+    let found : IsAt slots (c.args.address / 256) c.args.at = rw (← c.self.view_is) at c.requires.at in
+    let here = slot_here slots c.args.at (c.args.address / 256) found in
+    let new : Slot = record { number = slot.number; page = forgotten c.args.flags.now (c.args.address % 256) slot.page } in
+    let P : Paged → Type 0 = λ p. IsAt p.slots (c.args.address / 256) c.args.at in
+    subst P (sym c.forget.ensures) (at_from_slot (set slots c.args.at new) c.args.at (c.args.address / 256) new
+    (set_here slots c.args.at slot new here.0) here.1)

@@ -4,7 +4,7 @@ use Rattle.std.proofs.lemmas.List.{length-map}
 use Rattle.check_memory.specs.Known.{known, replaced}
 use Rattle.check_memory.specs.Paged.{Slot, Paged, blank_slot, paged_cells, IsAt, AreIndexed}
 use Rattle.check_memory.proofs.PagePlaces.{slot_here, at_within, paged_at, page_changed, indexed_kept}
-use Rattle.check_memory.proofs.PageCells.{length-replaced}
+use Rattle.check_memory.proofs.Replaced.{length-replaced}
 use Rattle.check_memory.proofs.pages.Pages.load.Goals as goal
 
 pub load-requires-clause-at : goal.load-requires-clause-at

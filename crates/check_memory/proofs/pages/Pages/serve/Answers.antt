@@ -8,7 +8,7 @@ use Rattle.check_memory.specs.Known.{replaced}
 use Rattle.check_memory.specs.Cells.{new_cells}
 use Rattle.check_memory.specs.Pattern.{shown_cells}
 use Rattle.check_memory.specs.Paged.{Slot, Paged, blank_slot, paged_cells, IsAt, AreDistinctPages, AreIndexed}
-use Rattle.check_memory.proofs.PageCells.{length-replaced}
+use Rattle.check_memory.proofs.Replaced.{length-replaced}
 use Rattle.check_memory.proofs.PagePlaces.{slot_here, set_here, at_from_slot, at_within, paged_at, page_shown, page_changed, indexed_kept, length-new_cells}
 use Rattle.check_memory.proofs.pages.Pages.serve.Goals as goal
 

@@ -5,7 +5,7 @@ use Rattle.tl_ops.specs.declared.kind.Kind.TheVariants.{ClearRegs}
 use Rattle.check_memory.specs.Cells.{clear_cell, put_cells}
 use Rattle.check_memory.proofs.PageCells.{get_or-put_cells}
 use Rattle.check_memory.proofs.PagePlaces.{length-new_cells}
-use Rattle.check_memory.proofs.Space.{replaced_by_places}
+use Rattle.check_memory.proofs.Replaced.{replaced_by_places}
 use Rattle.check_memory.proofs.sheet.Sheet.clear.Goals as goal
 
 pub returns-clause-after : goal.returns-clause-after

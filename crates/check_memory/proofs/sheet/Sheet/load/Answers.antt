@@ -1,7 +1,7 @@
 use Rattle.std.proofs.Common.{◌≡◌, ◌∙◌, length, Some, None, sym, arith}
 use Rattle.std.proofs.lemmas.List.{length-map, get_or-map}
 use Rattle.check_memory.specs.Known.{known}
-use Rattle.check_memory.proofs.Space.{replaced_by_places}
+use Rattle.check_memory.proofs.Replaced.{replaced_by_places}
 use Rattle.check_memory.proofs.sheet.Sheet.load.Goals as goal
 
 pub returns-clause-after : goal.returns-clause-after

@@ -17,7 +17,8 @@ pub fn ram(rt: &impl Abort, alloc: Global, order: Order) -> Result<PortSlave, Al
         length: 0x1000,
     })?;
     assert!(rt; are_within(&ranges));
-    let memory = PartialMemory::new(alloc, Kind::Ram, Sizes::of(Kind::Ram), ranges, false);
+    let (sizes, volatile) = (Sizes::of(Kind::Ram), Vec::new(alloc));
+    let memory = PartialMemory::new(alloc, Kind::Ram, sizes, ranges, volatile, false);
     Ok(PortSlave::new(alloc, Slave::Memory(memory), order, true))
 }
 

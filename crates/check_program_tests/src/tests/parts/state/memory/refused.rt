@@ -18,7 +18,8 @@ fn ram(rt: &impl Abort, alloc: Global) -> Result<PartialMemory, AllocError> {
         length: 0x1_0000,
     })?;
     assert!(rt; are_within(&ranges));
-    Ok(PartialMemory::new(alloc, Kind::Ram, Sizes::of(Kind::Ram), ranges, false))
+    let (sizes, volatile) = (Sizes::of(Kind::Ram), Vec::new(alloc));
+    Ok(PartialMemory::new(alloc, Kind::Ram, sizes, ranges, volatile, false))
 }
 
 /// These bytes stand at an address.
