@@ -9,8 +9,8 @@ from fault_words import NAME, REPLY, Files, OtherForm, Template, filled, templat
 VERDICT, BEAT_SPEC = "crates/check_lines/src/verdict.rt", "crates/check_lines/specs/Verdict.antt"
 NUMBERS, NUMBER_SPEC, HEADER = "crates/tl_c/src/fault.rt", "crates/tl_c/specs/Numbers.antt", "include/tlx.h"
 FUNCTIONS = ("script_number", "file_number", "image_number", "serve_number", "form_number", "beat_number")
-LINES = r"(?:unlawful: line \d|incomplete: \d|lawful: \d+ (?!rows`)|capture: line \d)"
-C_STRING = r'"(?P<text>(?:script|system|unlawful|incomplete|lawful): (?:[^"\\]|\\.)*)'
+LINES = r"(?:unlawful: line \d|incomplete: \d|empty: no|lawful: \d+ (?!rows`)|capture: line \d)"
+C_STRING = r'"(?P<text>(?:script|system|unlawful|incomplete|empty|lawful): (?:[^"\\]|\\.)*)'
 # Where lines of verdicts and of rows stand as examples.
 PAGES = ("README.md", "docs/CAPTURE.md", "docs/EMBEDDING.md", "docs/UNLAWFUL.md", "docs/REGRESSION.md", "docs/release.md", "docs/tlcheck.1",
          "python/tlx/faults.py")
@@ -102,7 +102,7 @@ class Places:
     @functools.cached_property
     def line_templates(self):
         """The lines of verdicts, and of records that are no rows."""
-        lawful, unlawful = self.literals("\npub fn push_lawful("), self.literals("\npub fn push_unlawful(")
+        lawful, empty, unlawful = (self.literals(f"\npub fn push_{kind}(") for kind in ("lawful", "empty", "unlawful"))
         began = self.literals("", "crates/check_lines/src/left.rt")
         fault = "|".join(one.pattern for one in self.whole_beats)
         numbers = r"\d+".join(re.escape(said.text) for said in lawful)
@@ -110,7 +110,8 @@ class Places:
         left = r"\d+".join(re.escape(said.text) for said in [began[-1], *began[:-1]])
         channels = "|".join(re.escape(said.text) for said in self.channels)
         return [Template(lawful[0], ("lawful",), numbers), Template(unlawful[0], ("unlawful",), rf"{place}{NAME}(?:{channels})(?:{fault})"),
-                Template(began[-1], ("incomplete",), rf"{left}\d+ [a-z]+ 0x[0-9a-f]+ \d"), *self.rows]
+                Template(began[-1], ("incomplete",), rf"{left}\d+ [a-z]+ 0x[0-9a-f]+ \d"),
+                Template(empty[0], ("empty",), re.escape(empty[0].text)), *self.rows]
 
     @functools.cached_property
     def channels(self):
@@ -194,7 +195,8 @@ class Places:
         fault = spec(r'fault_text (?P<key>[A-Z]\w+) = codes "(?P<text>[^"]+)"', every="fault_text [A-Z]")
         self.keyed(self.beats[:-1], form + fault)
         self.ordered(self.wrong, spec(r'codes "(?P<text>[^"]+)"', "\nwrong_text expected captured =", "\n\n", "codes"))
-        for function, head in (("\npub fn push_lawful(", "\nlawful_line counts ="), ("\npub fn push_unlawful(", "\nunlawful_line names row fault =")):
+        for function, head in (("\npub fn push_lawful(", "\nlawful_line counts ="), ("\npub fn push_empty(", "\nempty_line ="),
+                               ("\npub fn push_unlawful(", "\nunlawful_line names row fault =")):
             self.ordered(self.literals(function), spec(r'codes "(?P<text>[^"]+)"', head, "10 ∷ []", "codes"))
         self.ordered(self.literals("", "crates/check_lines/src/left.rt"), spec(r'codes "(?P<text>[^"]+)"', "\n-- where and when a request began\n",
                                                                                "10 ∷ []", "codes"))
@@ -208,7 +210,7 @@ class Places:
         model = "tools/judge_model.py"
         self.said(beats, words(model, r'raise Unlawful\(f?"(?!unlawful: )(?P<text>[^":]+)', every=r'raise Unlawful\((?!f"unlawful: )'), [("UnknownData",)])
         self.said(self.row_words, words(model, r'raise NoRow\("(?P<text>[^"]+)"\)', every=r"raise NoRow\("))
-        verdicts = [Template(one.said, one.key, f"{one.key[0]}") for one in self.line_templates[::2][:2]]
+        verdicts = [Template(one.said, one.key, f"{one.key[0]}") for one in self.line_templates[:4] if one.key != ("unlawful",)]
         letters = [one._replace(pattern=one.pattern + (r"\ [AD]" if one.key in (("Form.UnknownData",), ("UnknownData",)) else "")) for one in beats]
         self.said(letters + self.row_words + verdicts, words("tools/random_captures", r'"(?P<text>[^"]+)"', "\nKINDS = {\n", "}\n", '"[^"]+"'))
         causes = words("tools/causes.py", r'^    "(?P<text>[^"]+)": \[', "CAUSES = {\n", "\n}\n", r'": \[')
@@ -218,7 +220,8 @@ class Places:
         self.parts(self.wrong, "tools/explanation.py", "\nWRONG = re.compile(", "\n")
         line = self.literals("\npub fn push_unlawful(")
         self.parts([*line[:2], self.wrong[0]._replace(text=self.wrong[0].text.split(": ")[0])], "tools/random_orders", "\nWRONG = re.compile(", "\n")
-        ends = [*line, *self.wrong, *self.literals("\npub fn push_lawful("), *self.literals("", "crates/check_lines/src/left.rt")]
+        lawful, empty = (self.literals(f"\npub fn push_{kind}(") for kind in ("lawful", "empty"))
+        ends = [*line, *self.wrong, *lawful, *empty, *self.literals("", "crates/check_lines/src/left.rt")]
         self.parts(ends, "tools/hostile_systems.py", "\nENDS = {\n", "\n}\n")
 
     def of_captures(self):
@@ -238,7 +241,7 @@ class Places:
         for path in PAGES:
             self.said(self.line_templates, self.files.mentions(path, LINES), is_whole=False)
         man = self.files.words("docs/tlcheck.1", r"^(?P<text>.+)$", "\n.SH OUTPUT\n.nf\n", ".fi\n")
-        self.said(self.line_templates[:3], man)
+        self.said(self.line_templates[:4], man)
 
     def of_scripts(self):
         words, page = self.files.words, "docs/FORMATS.md"

@@ -29,6 +29,7 @@ TRACE = re.compile(rf"m\d+ s\d+ ({'|'.join(OPERATIONS)}) 0x[0-9a-f]+ [0-8]( ([0-
 ENDS = {
     0: re.compile(r"lawful: \d+ rows, \d+ requests, \d+ answered"),
     3: re.compile(rf"unlawful: line \d+, time \d+, {NAME} [AD]: ([a-z' ]+|wrong reply: expected {REPLY}, captured {REPLY})"
+                  r"|empty: no request"
                   r"|incomplete: [1-9]\d* requests without reply, the first: "
                   rf"line \d+, time \d+, m\d+ s\d+ ({'|'.join(OPERATIONS)}) 0x[0-9a-f]+ [0-8]"),
 }

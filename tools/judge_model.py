@@ -383,6 +383,8 @@ def judged(system, images, capture, links="both", order="accept", trace=False, c
             (master, source), row = left[0].owner, left[0].row
             return (f"incomplete: {len(left)} requests without reply, the first: line {row.line}, time {row.time}, m{master} s{source} "
                     f"{left[0].name} {row.address:#x} {row.size}", 3)
+        if complete and not judge.requests:
+            return "empty: no request", 3
         return f"lawful: {count} rows, {judge.requests} requests, {judge.answered} answered", 0
 
     last, status = verdict_of(judge, capture.replace("\r\n", "\n").split("\n"), last_line)

@@ -64,6 +64,8 @@ def verdict_of(judge, beats, is_array, is_complete):
         return (found.text if is_beat else f"of another beat: {found.text}"), found
     except tlx.Incomplete as left:
         return left.text, None
+    if is_complete and not judge.requests:
+        return "empty: no request", None
     return f"lawful: {len(beats)} rows, {judge.requests} requests, {judge.answered} answered", None
 
 

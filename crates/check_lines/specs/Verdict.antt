@@ -1,6 +1,6 @@
 -- The lines of verdicts: `lawful: ROWS rows, ASKED requests, ANSWERED answered`, `unlawful: line N, time T, LINK
--- CHANNEL: FAULT` and `incomplete: COUNT requests without reply, the first: line N, time T, mM sS NAME ADDRESS SIZE`.
--- This project's own.
+-- CHANNEL: FAULT`, `incomplete: COUNT requests without reply, the first: line N, time T, mM sS NAME ADDRESS SIZE` and
+-- `empty: no request`. This project's own.
 use Rattle.std.specs.Prelude.{ℕ, List, [], ◌∷◌, ◌++◌, codes, unwrap_or}
 use Rattle.std.specs.Fmt.{decimal}
 use Rattle.check_cells.specs.Pattern.{Pattern}
@@ -69,6 +69,10 @@ lawful_line counts =
     codes "lawful: " ++ decimal counts.rows ++ codes " rows, " ++ decimal counts.requests ++ codes " requests, "
     ++ decimal counts.answered ++ codes " answered"
     ++ 10 ∷ []
+
+-- a capture without a request
+unfoldable pub empty_line : List ℕ
+empty_line = codes "empty: no request" ++ 10 ∷ []
 
 -- the beat of a row has this fault
 unfoldable pub unlawful_line : NamesView → Row → Fault → List ℕ

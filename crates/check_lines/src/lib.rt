@@ -1,8 +1,8 @@
 //! The lines that a judge of captures prints: those of verdicts, and those of replies that it traces.
 //!
-//! [`push_lawful`], [`push_unlawful`] and [`push_incomplete`] append the line of a verdict (`specs/Verdict.antt`),
-//! [`push_answer`] the line of a reply that was seen at a link (`specs/Trace.antt`). A reply is spelled as traces of tlx spell
-//! one, with `xx` for each byte that is unknown (`specs/Reply.antt`). [`Names`] has the names of a system's masters and ports,
+//! [`push_lawful`], [`push_empty`], [`push_unlawful`] and [`push_incomplete`] append the line of a verdict
+//! (`specs/Verdict.antt`), [`push_answer`] the line of a reply that was seen at a link (`specs/Trace.antt`). A reply is spelled as
+//! traces of tlx spell one, with `xx` for each byte that is unknown (`specs/Reply.antt`). [`Names`] has the names of a system's masters and ports,
 //! by which lines name links.
 //!
 //! Each call appends exactly the text of its definition. If memory is refused, the text begins with what it was.
@@ -22,4 +22,4 @@ pub use left::push_incomplete;
 pub use names::Names;
 pub use reply::push_pattern;
 pub use trace::push_answer;
-pub use verdict::{VerdictCounts, push_lawful, push_unlawful};
+pub use verdict::{VerdictCounts, push_empty, push_lawful, push_unlawful};

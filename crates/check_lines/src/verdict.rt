@@ -2,7 +2,7 @@
 ghost use Rattle.std.specs.Prelude.{◌≡◌, ◌<◌, ◌≤◌, ◌+◌, ◌++◌, length, vec_capacity, OnErr, OnOk};
 ghost use Rattle.tl_text.specs.Text.{BeginsWith};
 ghost use Rattle.check_lines.specs.Reply.{pattern_text};
-ghost use Rattle.check_lines.specs.Verdict.{channel_text, fault_text, form_text, lawful_line, link_text, number_text, unlawful_line, wrong_text};
+ghost use Rattle.check_lines.specs.Verdict.{channel_text, empty_line, fault_text, form_text, lawful_line, link_text, number_text, unlawful_line, wrong_text};
 
 use crate::names::Names;
 use crate::reply::push_pattern;
@@ -152,6 +152,15 @@ pub fn push_lawful(text: &mut Vec<u8>, counts: &VerdictCounts) -> Result<(), All
     push_field(text, b" rows, ", counts.requests)?;
     push_field(text, b" requests, ", counts.answered)?;
     text.extend_from_slice(b" answered\n")
+}
+
+/// Appends the line of a capture without a request.
+#[tactic(auto, using(tl_text::proofs::TextLemmas::begins), unfolding(crate::specs::Verdict::empty_line))]
+pub fn push_empty(text: &mut Vec<u8>) -> Result<(), AllocError>
+    ensures ok { OnOk result (text.new.items ≡ text.old.items ++ empty_line) }
+    ensures err { OnErr result (BeginsWith text.old.items text.new.items) }
+{
+    text.extend_from_slice(b"empty: no request\n")
 }
 
 /// Appends the line of a capture that is not lawful, with its link by the name that it has.

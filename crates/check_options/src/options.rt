@@ -21,8 +21,8 @@ SYSTEM describes the ports and masters. CAPTURE has a row for each beat that cro
   10,m0,A,4,0,2,3,1000,0f,,,
   12,p0,D,1,,2,3,,,xxxxxxxx33221100,0,0
 
-Status: 0 lawful, 1 a fault of the system or the capture, 2 of the command line, 3 unlawful or incomplete, 4 memory
-refused, 5 a file could not be opened, read or written.";
+Status: 0 lawful, 1 a fault of the system or the capture, 2 of the command line, 3 unlawful, incomplete or empty,
+4 memory refused, 5 a file could not be opened, read or written.";
 
 /// What help says of each flag.
 const TRACE_HELP: &str = "Print a line for each request that was answered";

@@ -73,7 +73,7 @@ checked_unprepared asked given bytes result fault is why =
 module _ (asked : Asked) (given : GivenParts) (old told new : Option (List ℕ)) (system : Description) (verdict : Verdict)
     (has : HasVerdict asked given old told system verdict) where
   -- a verdict whose line was not written
-  untold : (fault : CheckFault) → IsLineFault told new (line_of (system_names system) verdict) fault
+  untold : (fault : CheckFault) → IsLineFault told new (line_of asked.complete (system_names system) verdict) fault
       → IsFaulty asked given old new fault
   untold (check.System fault) is = absurd is
   untold (check.Capture fault) is = absurd is
@@ -84,8 +84,8 @@ module _ (asked : Asked) (given : GivenParts) (old told new : Option (List ℕ))
       inr (inr (record { system = system; verdict = verdict; told = told; has = has; line = is }))
 
   -- a verdict, and what became of its line
-  pub told_checked : (line : List ℕ) (result : Result Bool CheckFault) → line ≡ line_of (system_names system) verdict
-      → IfOk result (λ lawful. lawful ≡ is_lawful verdict) → IfOk result (λ lawful. Appends told new line)
+  pub told_checked : (line : List ℕ) (result : Result Bool CheckFault) → line ≡ line_of asked.complete (system_names system) verdict
+      → IfOk result (λ lawful. lawful ≡ is_lawful asked.complete verdict) → IfOk result (λ lawful. Appends told new line)
       → IfErr result (IsLineFault told new line) → IsChecked asked given old new result
   told_checked line (Ok lawful) same answered written fault = record {
     ok = record {

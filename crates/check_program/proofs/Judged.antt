@@ -137,7 +137,7 @@ pub is_counted : (asked : Asked) (given : GivenParts) (system : Description) (ju
     (λ text. IsCovered plan buses (start_of text) tally verdict))
     → ((plan : Plan) (crossed : List SeenRow) → HasCovered plan crossed tally
     → AppendsCoverage covered plan crossed old new)
-    → IsCounted asked given old new (is_lawful verdict)
+    → IsCounted asked given old new (is_lawful asked.complete verdict)
 is_counted asked given system judge buses tally covered old new verdict of_it made is same covers appends = record {
   system = system;
   verdict = verdict;

@@ -1,5 +1,5 @@
 -- What a check judges, and what it writes for that. This project's own.
-use Rattle.std.specs.Prelude.{◌≡◌, ◌⊎◌, ℕ, Bool, true, false, List, [], Option, Result, Ok, Err, IfOk, IfErr, IfSome, ⊤}
+use Rattle.std.specs.Prelude.{◌≡◌, ◌⊎◌, ℕ, Bool, true, false, not, ◌&&◌, ◌==◌, if◌then◌else◌, List, [], Option, Result, Ok, Err, IfOk, IfErr, IfSome, ⊤}
 use Rattle.std.specs.Io.KnownBytes.{Appends, Keeps}
 use Rattle.tl_streams.specs.Streams.{AppendsPart}
 use Rattle.check_keys.specs.declared.fault.SystemFault.{SystemFault}
@@ -9,7 +9,8 @@ use Rattle.check_beats.specs.declared.bus.Bus.{Bus}
 use Rattle.check_review.specs.View.{Judges, is_asked, is_covered, is_traced}
 use Rattle.check_sides.specs.Plan.{Plan}
 use Rattle.check_lines.specs.Names.{NamesView}
-use Rattle.check_lines.specs.Verdict.{incomplete_line, lawful_line, unlawful_line}
+use Rattle.check_lines.specs.Verdict.{empty_line, incomplete_line, lawful_line, unlawful_line}
+use Rattle.check_lines.specs.declared.verdict.VerdictCounts.{VerdictCounts}
 use Rattle.check_records.specs.Text.{start_of}
 use Rattle.check_start.specs.Slaves.{slaves_at_reset}
 use Rattle.check_start.specs.declared.start.Terms.{Terms}
@@ -69,16 +70,21 @@ IsSystemFault asked given fault =
 
 -- ---- a verdict as it is told
 
--- with these names of links
-abbrev pub line_of : NamesView → Verdict → List ℕ
-line_of names (Lawful counts) = lawful_line counts
-line_of names (Unlawful found) = unlawful_line names found.row found.fault
-line_of names (Incomplete left) = incomplete_line left
+-- whether a lawful capture is told as empty: if it is asked whether requests are left, and there was none
+abbrev pub is_empty : Bool → VerdictCounts → Bool
+is_empty complete counts = complete && (counts.requests == 0)
 
-abbrev pub is_lawful : Verdict → Bool
-is_lawful (Lawful counts) = true
-is_lawful (Unlawful found) = false
-is_lawful (Incomplete left) = false
+-- with these names of links, and if this is asked
+abbrev pub line_of : Bool → NamesView → Verdict → List ℕ
+line_of complete names (Lawful counts) = if is_empty complete counts then empty_line else lawful_line counts
+line_of complete names (Unlawful found) = unlawful_line names found.row found.fault
+line_of complete names (Incomplete left) = incomplete_line left
+
+-- whether the line says that the capture is lawful
+abbrev pub is_lawful : Bool → Verdict → Bool
+is_lawful complete (Lawful counts) = not (is_empty complete counts)
+is_lawful complete (Unlawful found) = false
+is_lawful complete (Incomplete left) = false
 
 -- ---- what is promised
 
@@ -96,8 +102,8 @@ pub record IsJudged (asked : Asked) (given : GivenParts) (old new : Option (List
   pub verdict : Verdict
   pub told : Option (List ℕ)
   pub has : HasVerdict asked given old told system verdict
-  pub answered : lawful ≡ is_lawful verdict
-  pub written : Appends told new (line_of (system_names system) verdict)
+  pub answered : lawful ≡ is_lawful asked.complete verdict
+  pub written : Appends told new (line_of asked.complete (system_names system) verdict)
 
 -- there is a system, and this is answered of the capture; what is told before that was written
 pub record IsStopped (asked : Asked) (given : GivenParts) (old new : Option (List ℕ)) (fault : CaptureFault) : Type 0 where
@@ -113,7 +119,7 @@ pub record IsUntold (asked : Asked) (given : GivenParts) (old new : Option (List
   pub verdict : Verdict
   pub told : Option (List ℕ)
   pub has : HasVerdict asked given old told system verdict
-  pub line : OfLine told (line_of (system_names system) verdict)
+  pub line : OfLine told (line_of asked.complete (system_names system) verdict)
 
 -- why there is no verdict, and what was written. A fault of the system is its first; one of the capture is one of its
 -- text. Before a verdict nothing is written but what is told; if a write failed, a front of that or of the verdict's line,
@@ -146,7 +152,7 @@ pub record IsCounted (asked : Asked) (given : GivenParts) (old new : List ℕ) (
   pub verdict : Verdict
   pub made : Makes given.parts system
   pub is : IsVerdictOf asked given system verdict
-  pub answered : lawful ≡ is_lawful verdict
+  pub answered : lawful ≡ is_lawful asked.complete verdict
   pub covered : OfTheText asked given system
       (λ plan text. TellsCovered asked.coverage plan (buses_of system) (start_of text) old new verdict)
 
@@ -164,6 +170,7 @@ pub record IsPrepared (asked : Asked) (parts : Parts) (images : List (List ℕ))
   pub trace : is_traced prepared.judge ≡ asked.trace
   pub complete : is_asked prepared.judge ≡ asked.complete
   pub coverage : is_covered prepared.judge ≡ asked.coverage
+  pub told : prepared.complete ≡ asked.complete
   pub names : prepared.names ≡ system_names system
   pub masters : prepared.master_buses.items ≡ master_buses system.masters
   pub ports : prepared.port_buses.items ≡ port_buses system.ports

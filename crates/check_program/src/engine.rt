@@ -7,16 +7,17 @@ ghost use Rattle.check_sides.specs.View.{Keeps};
 ghost use Rattle.check_unanswered.specs.View.{Holds};
 ghost use Rattle.check_coverage.specs.View.{Covers};
 ghost use Rattle.check_review.specs.View.{Judges, is_asked, is_covered, is_traced};
+ghost use Rattle.check_lines.specs.Verdict.{empty_line, lawful_line};
 ghost use Rattle.check_text.specs.Buses.{HasBuses};
 ghost use Rattle.check_program.specs.declared.asked.Asked.{Asked as AskedFor};
-ghost use Rattle.check_program.specs.Engine.{IsChecked, IsCounted, IsLineFault, IsPrepared, IsUnprepared, is_lawful, line_of, with_buses};
+ghost use Rattle.check_program.specs.Engine.{IsChecked, IsCounted, IsLineFault, IsPrepared, IsUnprepared, is_empty, is_lawful, line_of, with_buses};
 
 use crate::asked::Asked;
 use crate::fault::CheckFault;
 use check_beats::Bus;
 use check_coverage::Coverage;
 use check_description::{Parts, describe};
-use check_lines::{Names, push_incomplete, push_lawful, push_unlawful};
+use check_lines::{Names, VerdictCounts, push_empty, push_incomplete, push_lawful, push_unlawful};
 use check_review::Judge;
 use check_rows::Buses;
 use check_sides::Watch;
@@ -28,24 +29,55 @@ use std::io::{Read, Write};
 use tl_map::{MAX_JUDGED_MASTERS, MAX_JUDGED_PORTS};
 use tl_streams::{LimitedWriter, write_all};
 
-/// The line of a verdict, with these names of links.
-fn line_of(alloc: Global, names: &Names, verdict: &Verdict) -> Result<Vec<u8>, AllocError>
-    ensures { IfOk result (λ text. text.items ≡ line_of names.now verdict.now) }
+/// Whether a lawful capture is told as empty: if it is asked whether requests are left, and there was none.
+fn is_empty(complete: bool, counts: &VerdictCounts) -> bool
+    ensures { result ≡ is_empty complete counts.now }
+{
+    complete && counts.requests == 0
+}
+
+/// Appends the line of a lawful capture, or of an empty one.
+fn push_lawful_or_empty(
+    text: &mut Vec<u8>,
+    complete: bool,
+    counts: &VerdictCounts,
+) -> Result<(), AllocError>
+    ensures { OnOk result (text.new.items ≡ text.old.items
+        ++ (if is_empty complete counts.now then empty_line else lawful_line counts.now)) }
+{
+    if is_empty(complete, counts) {
+        push_empty(text)
+    } else {
+        push_lawful(text, counts)
+    }
+}
+
+/// The line of a verdict, with these names of links. The first argument is whether it is asked which requests are left.
+fn line_of(
+    alloc: Global,
+    complete: bool,
+    names: &Names,
+    verdict: &Verdict,
+) -> Result<Vec<u8>, AllocError>
+    ensures { IfOk result (λ text. text.items ≡ line_of complete names.now verdict.now) }
 {
     let mut text = Vec::new(alloc);
     match verdict {
-        Verdict::Lawful(counts) => push_lawful(&mut text, counts)?,
+        Verdict::Lawful(counts) => push_lawful_or_empty(&mut text, complete, counts)?,
         Verdict::Unlawful(found) => push_unlawful(&mut text, names, &found.row, &found.fault)?,
         Verdict::Incomplete(left) => push_incomplete(&mut text, left)?,
     }
     Ok(text)
 }
 
-/// Whether a verdict is that the capture is lawful.
-fn is_lawful(verdict: &Verdict) -> bool
-    ensures { result ≡ is_lawful verdict.now }
+/// Whether the line of a verdict says that the capture is lawful.
+fn is_lawful(complete: bool, verdict: &Verdict) -> bool
+    ensures { result ≡ is_lawful complete verdict.now }
 {
-    matches!(verdict, Verdict::Lawful(_))
+    match verdict {
+        Verdict::Lawful(counts) => !is_empty(complete, counts),
+        Verdict::Unlawful(_) | Verdict::Incomplete(_) => false,
+    }
 }
 
 /// The requests in flight of a judge that has seen no beat, if it is asked which are left at the end.
@@ -86,10 +118,12 @@ fn judge_of(alloc: Global, watch: Watch, asked: Asked) -> Result<Judge, AllocErr
     Ok(Judge::new(watch, asked.trace, pending, coverage))
 }
 
-/// What a capture is judged by: a judge that has seen no beat, and the names and the buses of the links of its system.
+/// What a capture is judged by: a judge that has seen no beat, whether it is asked which requests are left, and the names and
+/// the buses of the links of its system.
 #[derive(Drop)]
 struct Prepared {
     judge: Judge,
+    complete: bool,
     names: Names,
     master_buses: Vec<Bus>,
     port_buses: Vec<Bus>,
@@ -116,29 +150,31 @@ fn prepare(
     let judge = judge_of(alloc, begun.watch, asked)?;
     Ok(Prepared {
         judge,
+        complete: asked.complete,
         names: begun.names,
         master_buses: begun.master_buses,
         port_buses: begun.port_buses,
     })
 }
 
-/// Writes the line of a verdict. The answer is whether the capture is lawful.
+/// Writes the line of a verdict. The answer is whether it says that the capture is lawful.
 fn tell<W: Write>(
     alloc: Global,
+    complete: bool,
     names: &Names,
     verdict: &Verdict,
     writer: &mut LimitedWriter<'_, W>,
 ) -> Result<bool, CheckFault>
     ensures same_writer { writer.new.writer.ghost_name ≡ writer.old.writer.ghost_name }
-    ensures answered { IfOk result (λ lawful. lawful ≡ is_lawful verdict.now) }
+    ensures answered { IfOk result (λ lawful. lawful ≡ is_lawful complete verdict.now) }
     ensures written { IfOk result (λ _. Appends (W.contents writer.old.writer.now)
-        (W.contents writer.new.writer.now) (line_of names.now verdict.now)) }
+        (W.contents writer.new.writer.now) (line_of complete names.now verdict.now)) }
     ensures fault { IfErr result (IsLineFault (W.contents writer.old.writer.now)
-        (W.contents writer.new.writer.now) (line_of names.now verdict.now)) }
+        (W.contents writer.new.writer.now) (line_of complete names.now verdict.now)) }
 {
-    let line = line_of(alloc, names, verdict)?;
+    let line = line_of(alloc, complete, names, verdict)?;
     write_all(writer, &line)?;
-    Ok(is_lawful(verdict))
+    Ok(is_lawful(complete, verdict))
 }
 
 /// The verdict over a capture by what was prepared, with its line.
@@ -169,7 +205,7 @@ fn check_prepared<C: Read + Drop, W: Write>(
     };
     let verdict = judge_capture(alloc, capture, writer, &mut prepared.judge, &buses)?;
     prepared.judge.append_coverage(covered)?;
-    tell(alloc, &prepared.names, &verdict, writer)
+    tell(alloc, prepared.complete, &prepared.names, &verdict, writer)
 }
 
 /// Reads a capture to its end or first fault, and writes the line of the verdict: whether what crossed the watched links

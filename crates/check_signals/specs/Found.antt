@@ -25,7 +25,7 @@ use Rattle.check_samples.specs.declared.signal.Signal.{Signal}
 use Rattle.check_samples.specs.declared.tap.Tap.{Tap}
 use Rattle.check_signals.specs.Names.{SignalName, SignalNames}
 use Rattle.check_signals.specs.Nets.{named_in, one_of}
-use Rattle.check_signals.specs.Parts.{all_parts, parts_of, signals_view}
+use Rattle.check_signals.specs.Parts.{all_parts, signal_parts, signals_view}
 use Rattle.check_signals.specs.Source.{SearchFault, Kept, Changing, Constant, Source, WantedSignal, parts_bits, source_view}
 use Rattle.check_signals.specs.Wanted.{wanted_of}
 use Rattle.check_signals.specs.declared.keys.TheConstants.{SIGNALS}
@@ -51,7 +51,7 @@ abbrev pub signal_by : SignalOwner → ℕ → Signal → LinkSignal
 signal_by whose bus which = record { owner = whose; which = which; wanted = wanted_of which bus }
 
 abbrev pub parts_by : List Var → SignalOwner → ℕ → Signal × SignalName → Result (List Source) SearchFault
-parts_by vars whose bus named = parts_of vars (signal_by whose bus named.0) named.1
+parts_by vars whose bus named = signal_parts vars (signal_by whose bus named.0) named.1
 
 -- the same of some signals, and of all signals of a link, in the order of their names
 abbrev pub signals_named : List Var → SignalOwner → ℕ → List Signal → List SignalName → Result (List (List Source)) SearchFault

@@ -36,10 +36,10 @@ fitting signal parts =
     else Err (Width signal.owner (signal_name signal.which) (parts_bits parts) (count_of signal.wanted))
 
 -- the parts of a signal of this name
-abbrev pub parts_of : List Var → LinkSignal → SignalName → Result (List Source) SearchFault
-parts_of vars signal (Prefixed name) = whole_of vars signal name true
-parts_of vars signal (Wired name) = whole_of vars signal name false
-parts_of vars signal (Joined names) = each (part_of vars signal) names >>= (λ found. fitting signal (all_parts found))
+abbrev pub signal_parts : List Var → LinkSignal → SignalName → Result (List Source) SearchFault
+signal_parts vars signal (Prefixed name) = whole_of vars signal name true
+signal_parts vars signal (Wired name) = whole_of vars signal name false
+signal_parts vars signal (Joined names) = each (part_of vars signal) names >>= (λ found. fitting signal (all_parts found))
 
 -- ---- what calls answer
 

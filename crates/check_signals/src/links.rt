@@ -9,7 +9,7 @@ ghost use Rattle.check_signals.specs.Source.{Finds, kept_view, source_view};
 
 use crate::kept::{push_taps, tap_by};
 use crate::keys::{LinkNames, SIGNALS, SignalName};
-use crate::parts::{LinkSignal, Parts, parts_bits, parts_of};
+use crate::parts::{LinkSignal, Parts, parts_bits, signal_parts};
 use crate::signal_fault::{SignalFault, SignalOwner};
 use crate::source::{Kept, Source};
 use crate::wanted::wanted_of;
@@ -73,7 +73,7 @@ fn signals_named<'a>(
             which: *which,
             wanted: wanted_of(*which, bus),
         };
-        found.push(parts_of(alloc, vars, signal, name)?)?;
+        found.push(signal_parts(alloc, vars, signal, name)?)?;
         rest = more;
     }
     Ok(found)

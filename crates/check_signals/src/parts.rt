@@ -4,7 +4,7 @@ ghost use Rattle.tl_text.specs.Reading.{each};
 ghost use Rattle.check_vcd.specs.Header.{var_view};
 ghost use Rattle.check_samples.specs.Signal.{signal_name};
 ghost use Rattle.check_signals.specs.Names.{name_view};
-ghost use Rattle.check_signals.specs.Parts.{all_parts, fitting, part_of, parts_of, signals_view, whole_of};
+ghost use Rattle.check_signals.specs.Parts.{all_parts, fitting, part_of, signal_parts, signals_view, whole_of};
 ghost use Rattle.check_signals.specs.Source.{Finds, Width as WidthIn, fault_view, parts_bits, parts_view, source_view};
 ghost use Rattle.check_signals.specs.Wanted.{count_of};
 ghost use Rattle.check_signals.specs.declared.signal_fault.SignalFault.TheVariants.{Memory};
@@ -143,13 +143,13 @@ fn fitting<'a>(
 }
 
 /// The parts of a signal of this name, the highest bits first.
-pub(crate) fn parts_of<'a>(
+pub(crate) fn signal_parts<'a>(
     alloc: Global,
     vars: &'a [Var],
     signal: LinkSignal,
     name: &SignalName,
 ) -> Result<Parts<'a>, SignalFault>
-    ensures { Finds parts_view result (parts_of (map var_view vars.now) signal (name_view name.now)) }
+    ensures { Finds parts_view result (signal_parts (map var_view vars.now) signal (name_view name.now)) }
 {
     match name {
         SignalName::Prefixed(name) => whole_of(alloc, vars, signal, name, true),

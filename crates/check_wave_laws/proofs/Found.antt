@@ -18,7 +18,7 @@ use Rattle.check_samples.specs.declared.signal.Signal.TheVariants as signal
 use Rattle.check_signals.specs.Found.{LinkSources, NamedLink, NamesOf, signal_by, signals_named, parts_by, link_at, link_sources, links_from, system_asked, system_source, named_before, names_at, numbered, owner_of, sources_of, width_in}
 use Rattle.check_signals.specs.Names.{Joined, Prefixed, SignalName, Wired}
 use Rattle.check_signals.specs.Nets.{Bit, bit_among, bit_at, bit_within, bits_called, bits_wanted, codes_at, has_whole, indices_down, lone, meant, named_by, named_in, net_by, net_in, one_of, span_of, vector_in}
-use Rattle.check_signals.specs.Parts.{all_parts, fitting, part_of, parts_of}
+use Rattle.check_signals.specs.Parts.{all_parts, fitting, part_of, signal_parts}
 use Rattle.check_signals.specs.Source.{WantedSignal, Changing, Constant, SearchFault, Kept, Source, Twice, Width, alone, constant_of, digit_in, left_out, measured, missing, parts_bits, signal_in, too_wide, unfound, width_of, within}
 use Rattle.check_signals.specs.Wanted.{bits_fit, constant_bits, count_of, may_be_absent, may_be_unfound, wanted_of}
 use Rattle.check_signals.specs.Wires.{Wire, first_of, places_in, sought, wider, widest_from, widest_of, wire_at, wire_by, wire_of, wires, wires_called}
@@ -458,7 +458,7 @@ joined-fits vars signal names parts is =
         (bits_fit signal.wanted (parts_bits (all_parts found))) refl e
 
 parts-fit : (vars : List Var) (signal : LinkSignal) (name : SignalName) (parts : List Source) → 0 < count_of signal.wanted
-    → parts_of vars signal name ≡ Ok parts → PartsFit vars signal.wanted parts
+    → signal_parts vars signal name ≡ Ok parts → PartsFit vars signal.wanted parts
 parts-fit vars signal (Prefixed name) parts some is =
     named-fits vars (record { owner = signal.owner; name = name; is_prefixed = true; wanted = signal.wanted }) parts some is
 parts-fit vars signal (Wired name) parts some is =

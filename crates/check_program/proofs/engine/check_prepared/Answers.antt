@@ -1,8 +1,9 @@
 -- The verdict or the fault is that of the system, and what was written is what is told with it.
-use Rattle.std.proofs.Common.{◌∙◌, ap, inr}
+use Rattle.std.proofs.Common.{◌≡◌, ◌∙◌, Bool, IfOk, ap, inr, subst}
 use Rattle.std.proofs.KnownBytes.{Keeps-refl}
 use Rattle.check_program.proofs.Failing.{checked_by, of_stopped, told_checked}
 use Rattle.check_program.proofs.Judged.{buses_are, counted_if, has_verdict, is_counted, is_stopped, of_prepared}
+use Rattle.check_start.specs.Start.{system_names}
 use Rattle.check_program.specs.Engine.{is_lawful, line_of}
 use Rattle.check_program.specs.Fault.{of_capture}
 use Rattle.check_program.specs.declared.fault.CheckFault.TheVariants as check
@@ -37,8 +38,11 @@ returns-clause-checked g c = λ asked parts images is.
     let verdict = c.in_ok-verdict.verdict in
     let has = has_verdict _ _ is.system _ _ _ _ verdict of_it is.made c.in_ok-verdict.ensures.verdict
     c.in_ok-verdict.ensures.told in
-    told_checked _ _ _ _ _ is.system verdict has _ c.tell.result (ap (λ n. line_of n verdict) is.names)
-    c.tell.ensures.answered c.tell.ensures.written c.tell.ensures.fault
+    let P : Bool → Type 0 = λ b. IfOk c.tell.result (λ lawful. lawful ≡ is_lawful b verdict) in
+    told_checked _ _ _ _ _ is.system verdict has _ c.tell.result
+    (ap (λ n. line_of c.args.prepared.now.complete n verdict) is.names
+    ∙ ap (λ b. line_of b (system_names is.system) verdict) is.told)
+    (subst P is.told c.tell.ensures.answered) c.tell.ensures.written c.tell.ensures.fault
 
 pub returns-clause-covered : goal.returns-clause-covered
 returns-clause-covered g c = λ asked parts images is.
@@ -48,6 +52,7 @@ returns-clause-covered g c = λ asked parts images is.
     let verdict = c.in_ok-verdict.verdict in
     let has = has_verdict _ _ is.system _ _ _ _ verdict of_it is.made c.in_ok-verdict.ensures.verdict
     c.in_ok-verdict.ensures.told in
-    counted_if _ _ _ _ (is_lawful verdict) c.tell.result c.tell.ensures.answered
+    let P : Bool → Type 0 = λ b. IfOk c.tell.result (λ lawful. lawful ≡ is_lawful b verdict) in
+    counted_if _ _ _ _ (is_lawful asked.complete verdict) c.tell.result (subst P is.told c.tell.ensures.answered)
     (is_counted _ _ is.system _ _ _ _ _ _ verdict of_it is.made has.is c.in_ok-verdict.ensures.covered
     c.in_ok-verdict.ensures.covers c.in_ok-append_coverage.ensures.told)

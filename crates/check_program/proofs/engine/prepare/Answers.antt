@@ -1,5 +1,5 @@
 -- The judge is that of the system that the parts make, or the first fault is told.
-use Rattle.std.proofs.Common.{◌∙◌, ap, inl, inr, map, sym}
+use Rattle.std.proofs.Common.{◌∙◌, ap, inl, inr, map, refl, sym}
 use Rattle.check_description.specs.File.{parts_view}
 use Rattle.check_sides.specs.Plan.{Layout}
 use Rattle.check_program.specs.Fault.{of_system}
@@ -60,6 +60,7 @@ returns c =
         trace = judge.trace;
         complete = judge.complete;
         coverage = judge.coverage;
+        told = refl;
         names = begun.names;
         masters = begun.masters;
         ports = begun.ports;
