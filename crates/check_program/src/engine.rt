@@ -1,5 +1,5 @@
 //! The engine: from the parts of a system and the bytes of a capture to the line of the verdict.
-ghost use Rattle.std.specs.Prelude.{◌≡◌, ◌≤◌, ◌++◌, ℕ, List, [], is_some, length, map, IfOk, IfErr, IfSome, OnOk};
+ghost use Rattle.std.specs.Prelude.{◌≡◌, ◌≤◌, ◌++◌, if◌then◌else◌, ℕ, List, [], is_some, length, map, IfOk, IfErr, IfSome, OnOk};
 ghost use Rattle.std.specs.Io.KnownBytes.{Appends};
 ghost use Rattle.check_description.specs.File.{parts_view, Parts as PartsView};
 ghost use Rattle.check_sides.specs.Plan.{Plan};
