@@ -1,4 +1,5 @@
 pub mod WordLemmas
+pub mod RunLemmas
 pub mod HandLemmas
 pub mod ScannerLemmas
 pub mod LeftLemmas

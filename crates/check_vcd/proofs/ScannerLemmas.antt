@@ -1,12 +1,14 @@
 -- The bytes at hand are taken.
-use Rattle.std.proofs.Common.{◌≡◌, ℕ, ◌+◌, ◌<◌, ◌≤◌, Bool, true, false, nat_lt, List, ◌∷◌, ◌++◌, length, get_or, slice_range, Result, Ok, Err, refl, sym, ap, ap₂, ◌∙◌, arith, subst}
+use Rattle.std.proofs.Common.{◌≡◌, ℕ, ◌+◌, ◌<◌, ◌≤◌, Bool, true, false, nat_lt, List, ◌∷◌, ◌++◌, append_assoc, drop, length, get_or, slice_range, take, Result, Ok, Err, refl, sym, ap, ap₂, ◌∙◌, arith, subst}
+use Rattle.std.proofs.lemmas.List.{take-append-drop}
 use Rattle.std.proofs.lemmas.Bool.Decides.{nat_tests}
 use Rattle.std.specs.Result.{IfOk, OnOk}
-use Rattle.check_vcd.specs.Words.{Front, IsFront, Word, is_blank, line_after, nothing, with_byte, words_from}
+use Rattle.check_vcd.specs.Words.{Front, IsFront, Word, are_letters, is_blank, line_after, nothing, with_byte, with_bytes, words_from}
 use Rattle.check_vcd.specs.Scanner.{HasMoved, TakesWord, at_hand, front, word_at_hand}
 use Rattle.check_vcd.specs.declared.fault.DumpFault.{DumpFault}
 use Rattle.check_vcd.specs.declared.scanner.Scanner.{Scanner}
 use Rattle.check_vcd.proofs.HandLemmas.{hand-first}
+use Rattle.check_vcd.proofs.RunLemmas.{front-run, hand-after, words-run}
 use Rattle.check_vcd.proofs.WordLemmas.{words-ended, words-letter, words-skipped}
 
 -- a byte at hand
@@ -64,6 +66,25 @@ pub took-blank : {R : Type 0} (old new : Scanner R) (byte : ℕ) (r : Result Boo
 took-blank old new byte (Err fault) next moved is front_is fronts test lines = tt
 took-blank old new byte (Ok ended) next moved is front_is fronts test lines =
     blank old new byte ended next moved is front_is fronts lines.0 lines.1 test
+
+-- bytes that are no blanks
+pub took-run : {R : Type 0} (old new : Scanner R) (count : ℕ) (r : Result Unit DumpFault) → old.next + count ≤ old.filled
+    → are_letters (take count (at_hand old)) ≡ true → IsFront (front old)
+    → OnOk r (front new ≡ with_bytes (front old) (take count (at_hand old))) → OnOk r (new.next ≡ old.next + count)
+    → new.chunk ≡ old.chunk → new.filled ≡ old.filled → new.next_line ≡ old.next_line → OnOk r (TakesWord old new false)
+took-run old new count (Err fault) inside are is fronts next chunk filled lines = tt
+took-run old new count (Ok done) inside are is fronts next chunk filled lines =
+    let run = take count (at_hand old) in
+    let after : drop count (at_hand old) ≡ at_hand new =
+    rw (chunk, next, filled) (hand-after old.chunk.items old.next old.filled count inside) in
+    let parts : at_hand old ≡ run ++ at_hand new =
+    sym (take-append-drop count (at_hand old)) ∙ ap (λ (l : List ℕ). run ++ l) after in (
+      (λ rest. ap (λ (hand : List ℕ). words_from old.next_line (front old) (hand ++ rest)) parts
+          ∙ ap (words_from old.next_line (front old)) (append_assoc run (at_hand new) rest)
+          ∙ words-run old.next_line (front old) run (at_hand new ++ rest) are
+          ∙ ap₂ (λ (line : ℕ) (f : Front). words_from line f (at_hand new ++ rest)) (sym lines) (sym fronts)),
+      subst IsFront (sym fronts) (front-run (front old) run is),
+    )
 
 -- one byte more
 pub takes-more : {R : Type 0} (old mid new : Scanner R) (ended : Bool) → TakesWord old mid false → TakesWord mid new ended

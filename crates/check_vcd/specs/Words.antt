@@ -1,6 +1,7 @@
 -- The words of a dump. That white space stands between them is the rule of IEEE 1364, "Value change dump files". The
 -- lines, that a long word is cut to its front, and that what no blank ends is no word are this project's own.
-use Rattle.std.specs.Prelude.{◌≡◌, ℕ, ◌+◌, ◌==◌, nat_le, nat_lt, Bool, true, false, List, [], ◌∷◌, ◌++◌, length, Option, None, Some, ⊤, if◌then◌else◌}
+use Rattle.std.specs.Prelude.{◌≡◌, ℕ, ◌+◌, ◌==◌, nat_le, nat_lt, not, Bool, true, false, List, [], ◌∷◌, ◌++◌, length, Option, None, Some, ⊤, if◌then◌else◌}
+use Rattle.std.specs.List.{list_all}
 use Rattle.check_vcd.specs.declared.scanner.TheConstants.{MAX_WORD}
 
 -- a space, or a byte of control
@@ -31,6 +32,15 @@ with_byte front byte = record {
   bytes = if nat_lt (length front.bytes) MAX_WORD then front.bytes ++ (byte ∷ []) else front.bytes;
   size = front.size + 1;
 }
+
+-- the front with several bytes more
+abbrev pub with_bytes : Front → List ℕ → Front
+with_bytes front [] = front
+with_bytes front (byte ∷ bytes) = with_bytes (with_byte front byte) bytes
+
+-- no byte is a blank
+abbrev pub are_letters : List ℕ → Bool
+are_letters bytes = list_all (λ byte. not (is_blank byte)) bytes
 
 -- the word that a blank ends, if it has bytes
 abbrev pub word_if_any : ℕ → Front → List Word

@@ -2,7 +2,7 @@
 ghost use Rattle.std.specs.Prelude.{◌≡◌, ◌++◌, OnOk, map};
 ghost use Rattle.check_vcd.specs.Body.{Tells, begun, body_of, changed, passed, resumed, start, step_of, timed, told, with_bit, with_digits};
 ghost use Rattle.check_vcd.specs.Codes.{find_in};
-ghost use Rattle.check_vcd.specs.Token.{plain_digit};
+ghost use Rattle.check_vcd.specs.Token.{are_plain, plain_digit};
 
 use crate::codes::Codes;
 use crate::fault::{Mistake, WordFault};
@@ -48,11 +48,12 @@ pub(crate) struct Body {
     is_off: bool,
 }
 
-/// Appends digits as what they stand for. In most dumps they are that already.
-fn push_plain(value: &mut Vec<u8>, digits: &[u8]) -> Result<(), AllocError>
+/// Appends digits as what they stand for. In most dumps they are that already, and it is known whether these are.
+fn push_plain(value: &mut Vec<u8>, digits: &[u8], plain: bool) -> Result<(), AllocError>
+    requires { plain ≡ are_plain digits.now }
     ensures { OnOk result (value.new.items ≡ value.old.items ++ map plain_digit digits.now) }
 {
-    if are_plain(digits) {
+    if plain {
         return value.extend_from_slice(digits);
     }
     for digit in digits {
@@ -135,15 +136,17 @@ impl Body {
     }
 
     /// Takes the digits of a value, of which there were so many.
+    #[tactic(auto, using(crate::proofs::DigitLemmas::plain_are_bits))]
     fn take_vector(&mut self, digits: &[u8], size: u64) -> Result<Option<Event>, WordFault>
         ensures told { Tells result (with_digits (body_of self.old) digits.now size) self.new }
         ensures codes { self.new.codes ≡ self.old.codes }
     {
-        if digits.is_empty() || !are_bits(digits) {
+        let plain = are_plain(digits);
+        if digits.is_empty() || !(plain || are_bits(digits)) {
             return Err(WordFault::Wrong(Mistake::BadValue));
         }
         self.value.clear();
-        push_plain(&mut self.value, digits)?;
+        push_plain(&mut self.value, digits, plain)?;
         self.size = size;
         self.place = BodyPlace::BehindVector;
         Ok(None)

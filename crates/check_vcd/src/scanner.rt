@@ -2,7 +2,7 @@
 ghost use Rattle.std.specs.Prelude.{◌≡◌, ℕ, Err, true, false, ◌≤◌, ◌<◌, ◌+◌, ◌++◌, ◌∷◌, [], List, length, take, vec_len, nat_lt, IfOk, IfErr, OnOk};
 ghost use Rattle.std.specs.Io.KnownBytes.{Consumes, IsAtEnd, Keeps};
 ghost use Rattle.check_vcd.specs.Fault.{IsNoMistake};
-ghost use Rattle.check_vcd.specs.Words.{is_blank};
+ghost use Rattle.check_vcd.specs.Words.{are_letters, is_blank};
 
 use crate::fault::DumpFault;
 use std::alloc::Global;
@@ -23,6 +23,20 @@ fn is_blank(byte: u8) -> bool
     ensures { result ≡ is_blank byte }
 {
     byte <= b' '
+}
+
+/// How many bytes a text begins with that are no blanks.
+#[inline(always)]
+fn run_length(text: &[u8]) -> usize
+    ensures inside { result ≤ length text.now }
+    ensures letters { are_letters (take result text.now) ≡ true }
+{
+    for (count, byte) in text.iter().enumerate() {
+        if is_blank(*byte) {
+            return count;
+        }
+    }
+    text.len()
 }
 
 /// Reads once, and again if that is interrupted.
@@ -75,7 +89,7 @@ pub(crate) struct Scanner<R> {
 }
 
 impl<R: Read + Drop> Scanner<R> {
-    ghost use Rattle.check_vcd.specs.Words.{AnswersWord, HasWordsOf, IsFront, line_after, nothing, with_byte};
+    ghost use Rattle.check_vcd.specs.Words.{AnswersWord, HasWordsOf, IsFront, line_after, nothing, with_byte, with_bytes};
     ghost use Rattle.check_vcd.specs.Scanner.{HasMoved, HasSameBytes, TakesWord, at_hand, front, left, scanner_left, word_at_hand};
 
     /// The words of what a reader gives.
@@ -165,6 +179,38 @@ impl<R: Read + Drop> Scanner<R> {
         }
     }
 
+    /// Takes so many bytes of a word. Of a long word the front is kept.
+    fn push_run(&mut self, count: usize) -> Result<(), DumpFault>
+        requires { self.old.next + count ≤ self.old.filled }
+        ensures front { OnOk result (front self.new ≡ with_bytes (front self.old) (take count (at_hand self.old))) }
+        ensures next { OnOk result (self.new.next ≡ self.old.next + count) }
+        ensures reader { self.new.reader ≡ self.old.reader }
+        ensures chunk { self.new.chunk ≡ self.old.chunk }
+        ensures filled { self.new.filled ≡ self.old.filled }
+        ensures line { self.new.next_line ≡ self.old.next_line }
+        ensures fault { IfErr result IsNoMistake }
+    {
+        let kept = count.min(MAX_WORD.saturating_sub(self.word.len()));
+        self.word
+            .extend_from_slice(&self.chunk[self.next..self.next + kept])?;
+        self.size = self.size.checked_add(count as u64).ok_or(DumpFault::Read)?;
+        self.next += count;
+        Ok(())
+    }
+
+    /// Takes the bytes at hand up to the first blank.
+    fn take_run(&mut self) -> Result<(), DumpFault>
+        requires { IsFront (front self.old) }
+        ensures ok { OnOk result (TakesWord self.old self.new false) }
+        ensures next { OnOk result (self.old.next ≤ self.new.next) }
+        ensures reader { self.new.reader ≡ self.old.reader }
+        ensures filled { self.new.filled ≡ self.old.filled }
+        ensures fault { IfErr result IsNoMistake }
+    {
+        let count = run_length(&self.chunk[self.next..self.filled]);
+        self.push_run(count)
+    }
+
     /// Takes the bytes at hand, up to the blank that ends a word; answers whether one did.
     fn take_bytes(&mut self) -> Result<bool, DumpFault>
         requires { IsFront (front self.old) }
@@ -174,7 +220,8 @@ impl<R: Read + Drop> Scanner<R> {
         ensures fault { IfErr result IsNoMistake }
     {
         while self.next < self.filled {
-            if self.take_byte()? {
+            self.take_run()?;
+            if self.next < self.filled && self.take_byte()? {
                 return Ok(true);
             }
         }
