@@ -25,7 +25,8 @@ KEYS = {"": ("slots", "port", "master"), "port": ("kind", "base", "length", "res
 # The keys of a system file; those of a script that it may have too; and those that say where signals are (docs/CAPTURE.md).
 SIGNALS = ("a_valid", "a_ready", "a_opcode", "a_param", "a_size", "a_source", "a_address", "a_mask", "a_data", "a_corrupt", "d_valid", "d_ready",
            "d_opcode", "d_param", "d_size", "d_source", "d_data", "d_denied", "d_corrupt")
-SYSTEM_KEYS = {"": ("bus", "unaligned", "decode", "port", "master", "clock", "reset", "reset_active", "bits", "slots", "extra"),
+SYSTEM_KEYS = {"": ("bus", "unaligned", "decode", "port", "master", "clock", "reset", "reset_active", "edge", "bits", "names", "slots", "extra"),
+               "names": (*SIGNALS, "extra"),
                "port": ("name", "kind", "base", "length", "ranges", "reset", "image", "unknown", "sizes", "order", "bus", "volatile", "signals",
                         "wires", "bits", "extra"),
                "master": ("name", "sources", "first", "stride", "bus", "reach", "signals", "wires", "bits", "ops", "extra"),
@@ -50,10 +51,11 @@ HEADER = "time,link,channel,opcode,param,size,source,address,mask,data,denied,co
 
 def system_of(front):
     """The system file of an example's capture FRONT.csv: its own, that of all captures whose names begin with its first word, or its folder's."""
-    for path in (front + ".toml", front.split("_")[0] + ".toml"):
+    folder, name = os.path.split(front)
+    for path in (front + ".toml", os.path.join(folder, name.split("_")[0] + ".toml")):
         if os.path.exists(path):
             return path
-    return os.path.join(os.path.dirname(front), "system.toml")
+    return os.path.join(folder, "system.toml")
 
 
 def with_bits(signal):

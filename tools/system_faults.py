@@ -77,6 +77,14 @@ UNKNOWN_KEYS = ("", {
     "'my key' = 1": 'unknown key "my key" (near: master)',
     '"a\\nb" = 1': 'unknown key "a\\nb" (near: bus)',
     "extra = { any = [1, 'x'] }\nslots = 'x'": "missing master",
+    # after the keys of the top those of its names of signals, whose values say nothing to a judge; no link has such a table
+    "names = { a_vald = 'x' }\n[[port]]\nx = 1": "unknown key a_vald (near: a_valid)",
+    "names = { a_vald = 'x' }\nx = 1": "unknown key x (near: bus)",
+    "name = { a_vald = 'x' }": "unknown key name (near: names)",
+    "names = { extra = 1, d_corrupt = 1, a_valid = '-' }": "missing master",
+    "names = [{ x = 1 }]": "missing master",
+    "[[port]]\nnames = {}": "unknown key names (near: name)",
+    "[[master]]\nnames = {}": "unknown key names (near: name)",
     # a port's own keys, then those of its sizes, then those of its wires
     "[[port]]\nsignal = 'dut.p0_'": "unknown key signal (near: signals)",
     "[[port]]\nsizes = { put = [0, 3] }\nwires = { a = 'x' }\nlenght = 1": "unknown key lenght (near: length)",

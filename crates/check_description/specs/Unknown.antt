@@ -4,7 +4,7 @@ use Rattle.toml.specs.Data.{Data, Members, as_array, as_table, get_member}
 use Rattle.tl_script.specs.Value.{list_of}
 use Rattle.check_keys.specs.Known.{first_unknown, near_key}
 use Rattle.check_keys.specs.declared.known.TableKind.{TableKind}
-use Rattle.check_keys.specs.declared.known.TableKind.TheVariants.{Top, Port, Master, Sizes, Wires}
+use Rattle.check_keys.specs.declared.known.TableKind.TheVariants.{Top, Names, Port, Master, Sizes, Wires}
 use Rattle.check_keys.specs.declared.fault.SystemFault.{SystemFault}
 use Rattle.check_keys.specs.declared.fault.SystemFault.TheVariants.{UnknownKey}
 
@@ -47,11 +47,12 @@ stray_in_links kind (value ∷ values) =
 abbrev pub stray_in_array : TableKind → Option Data → Option Stray
 stray_in_array kind value = option_and_then (λ items. stray_in_links kind (list_of items)) (option_and_then as_array value)
 
--- that of a file: of its top, or else of its ports, or else of its masters
+-- that of a file: of its top, or else of its names of signals, or else of its ports, or else of its masters
 unfoldable pub stray_in_file : Members → Option Stray
 stray_in_file members =
-    or_else (stray_in Top members) (or_else (stray_in_array Port (get_member (codes "port") members))
-    (stray_in_array Master (get_member (codes "master") members)))
+    or_else (stray_in Top members) (or_else (stray_at (codes "names") Names members)
+    (or_else (stray_in_array Port (get_member (codes "port") members))
+    (stray_in_array Master (get_member (codes "master") members))))
 
 -- the fault names this key, and the nearest one that its table may have
 abbrev pub IsUnknownKey : Stray → SystemFault → Type 0

@@ -80,6 +80,9 @@ fn stray_in_file(table: &Table) -> Option<Stray<'_>>
     if let Some(stray) = stray_in(table, TableKind::Top) {
         return Some(stray);
     }
+    if let Some(stray) = stray_at(table, "names", TableKind::Names) {
+        return Some(stray);
+    }
     if let Some(stray) = stray_in_array(find_value(table, Key::Port), TableKind::Port) {
         return Some(stray);
     }

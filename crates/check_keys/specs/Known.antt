@@ -6,13 +6,13 @@ use Rattle.std.specs.Str.{bytes_eq}
 use Rattle.toml.specs.Data.{Members, no_members, member}
 use Rattle.check_keys.specs.Nearest.{nearest}
 use Rattle.check_keys.specs.declared.known.TableKind.{TableKind}
-use Rattle.check_keys.specs.declared.known.TableKind.TheVariants.{Top, Port, Master, Sizes, Wires}
+use Rattle.check_keys.specs.declared.known.TableKind.TheVariants.{Top, Names, Port, Master, Sizes, Wires}
 
 -- the name is one of these
 abbrev pub is_among : List (List ℕ) → List ℕ → Bool
 is_among names name = list_any (bytes_eq name) names
 
--- the keys of `wires`: the signals of a link. `extra` may stand in each table, has any value and means nothing
+-- the keys of `wires` and of `names`: the signals of a link. `extra` may stand in each table, has any value and means nothing
 abbrev pub wire_keys : List (List ℕ)
 wire_keys =
     codes "a_valid" ∷ codes "a_ready" ∷ codes "a_opcode" ∷ codes "a_param" ∷ codes "a_size" ∷
@@ -24,7 +24,8 @@ wire_keys =
 abbrev pub known_keys : TableKind → List (List ℕ)
 known_keys Top =
     codes "bus" ∷ codes "unaligned" ∷ codes "decode" ∷ codes "port" ∷ codes "master" ∷ codes "clock" ∷
-    codes "reset" ∷ codes "reset_active" ∷ codes "bits" ∷ codes "slots" ∷ codes "extra" ∷ []
+    codes "reset" ∷ codes "reset_active" ∷ codes "edge" ∷ codes "bits" ∷ codes "names" ∷ codes "slots" ∷ codes "extra" ∷ []
+known_keys Names = wire_keys
 known_keys Port =
     codes "name" ∷ codes "kind" ∷ codes "base" ∷ codes "length" ∷ codes "ranges" ∷ codes "reset" ∷
     codes "image" ∷ codes "unknown" ∷ codes "sizes" ∷ codes "order" ∷ codes "bus" ∷ codes "volatile" ∷

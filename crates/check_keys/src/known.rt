@@ -13,6 +13,8 @@ use toml::Table;
 pub enum TableKind {
     /// The file itself.
     Top,
+    /// What the file's `names` has.
+    Names,
     Port,
     Master,
     /// What a port's `sizes` has.
@@ -62,7 +64,7 @@ fn is_bare_byte(byte: u8) -> bool {
     byte.is_ascii_alphanumeric() || byte == b'_' || byte == b'-'
 }
 
-/// The keys of `wires`: the signals of a link.
+/// The keys of `wires` and of `names`: the signals of a link.
 fn wire_keys() -> &'static [&'static [u8]]
     ensures { map (λ key. key.now) result.now ≡ wire_keys }
 {
@@ -105,7 +107,9 @@ impl TableKind {
                 b"clock",
                 b"reset",
                 b"reset_active",
+                b"edge",
                 b"bits",
+                b"names",
                 b"slots",
                 b"extra",
             ],
@@ -140,7 +144,7 @@ impl TableKind {
                 b"intent",
                 b"extra",
             ],
-            TableKind::Wires => wire_keys(),
+            TableKind::Names | TableKind::Wires => wire_keys(),
         }
     }
 

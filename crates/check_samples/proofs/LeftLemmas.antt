@@ -91,7 +91,7 @@ stops-taking (Some x) (Some y) s new t t' fault next digits both leads joins =
 
 -- what is said of the edges of a dump of which nothing is left to happen
 abbrev pub edges-of : Sampling → Option EdgeFault
-edges-of s = edge_fault s.probes.reset (edges_now s)
+edges-of s = edge_fault s.probes.clock.edge s.probes.reset (edges_now s)
 
 end-is : (s : Sampling) (t t' : List ℕ) (done : Unit {0}) (why : Option EdgeFault) → Writes (Ok done) t t' (rows_now s)
     → edges-of s ≡ why → (left_of [] s).end ≡ end_of_edges why

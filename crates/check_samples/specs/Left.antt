@@ -29,7 +29,7 @@ end_of_edges (Some why) = WithoutEdges why
 
 -- how a dump ends in which this happens
 unfoldable pub end_in : List Happens → Sampling → End
-end_in [] s = end_of_edges (edge_fault s.probes.reset (edges_now s))
+end_in [] s = end_of_edges (edge_fault s.probes.clock.edge s.probes.reset (edges_now s))
 end_in (At time ∷ happens) s = end_in happens (at_time s time)
 end_in (Sets slot digits ∷ happens) s = end_in happens (with_value s slot digits)
 end_in (Resumes line ∷ happens) s = if s.edges.crossed then BeforeLine line Gap else end_in happens s

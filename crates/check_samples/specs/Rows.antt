@@ -1,4 +1,4 @@
--- The rows of a time: those of the beats that cross at a rising edge of the clock. This project's own.
+-- The rows of a time: those of the beats that cross at an edge of the clock. This project's own.
 use Rattle.std.specs.Prelude.{◌≡◌, ℕ, ◌&&◌, Bool, false, not, List, [], ◌∷◌, ◌++◌, codes, Option, None, Some, Result, Ok, Err, if◌then◌else◌}
 use Rattle.std.specs.List.{list_any}
 use Rattle.std.specs.Str.{bytes_eq}
@@ -9,6 +9,9 @@ use Rattle.check_samples.specs.declared.channel.BeatTaps.{BeatTaps}
 use Rattle.check_samples.specs.declared.channel.BeatTaps.TheVariants.{A, D}
 use Rattle.check_samples.specs.declared.channel.Channel.{Channel}
 use Rattle.check_samples.specs.declared.channel.UnknownBit.{UnknownBit}
+use Rattle.check_samples.specs.declared.clock.Clock.{Clock}
+use Rattle.check_samples.specs.declared.clock.Edge.{Edge}
+use Rattle.check_samples.specs.declared.clock.Edge.TheVariants.{Rising, Falling}
 use Rattle.check_samples.specs.declared.sampler.Probes as code_probes
 use Rattle.check_samples.specs.declared.edges.Needs.{Needs}
 use Rattle.check_samples.specs.declared.reset.Reset.{Reset}
@@ -109,7 +112,7 @@ rows_of needs time values (channel ∷ channels) =
 -- what is looked at: the clock, the reset, the parts of values that are put together, and the channels in the order in
 -- which their beats cross
 pub record Probes : Type 0 where
-  pub clock : Tap
+  pub clock : Clock
   pub reset : Option Reset
   pub joins : List Tap
   pub channels : List Channel
@@ -120,13 +123,22 @@ is_active values None = false
 is_active values (Some reset) =
     if reset.is_low then is_zero (bits_of values reset.tap) else is_one (bits_of values reset.tap)
 
--- the clock was 0 before the present time and is 1
-abbrev pub rises : List (List ℕ) → List (List ℕ) → Tap → Bool
-rises before now clock = is_zero (bits_of before clock) && is_one (bits_of now clock)
+-- the bit that a clock is before its edge, and the one that it is then
+abbrev pub is_early : Edge → List ℕ → Bool
+is_early Rising bits = is_zero bits
+is_early Falling bits = is_one bits
 
--- the clock rises, and there was no reset
+abbrev pub is_late : Edge → List ℕ → Bool
+is_late Rising bits = is_one bits
+is_late Falling bits = is_zero bits
+
+-- the clock was the one before the present time and is the other: it rises or falls
+abbrev pub ticks : List (List ℕ) → List (List ℕ) → Clock → Bool
+ticks before now clock = is_early clock.edge (bits_of before clock.tap) && is_late clock.edge (bits_of now clock.tap)
+
+-- the clock ticks, and there was no reset
 abbrev pub has_edge : List (List ℕ) → List (List ℕ) → Probes → Bool
-has_edge before now probes = rises before now probes.clock && not (is_active before probes.reset)
+has_edge before now probes = ticks before now probes.clock && not (is_active before probes.reset)
 
 -- ---- what calls answer
 

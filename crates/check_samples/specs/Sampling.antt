@@ -8,7 +8,7 @@ use Rattle.check_samples.specs.Edges.{needs_of, with_edge}
 use Rattle.check_samples.specs.declared.edges.Edges.{Edges}
 use Rattle.check_samples.specs.declared.sampler.SampleFault.{SampleFault}
 use Rattle.check_samples.specs.declared.sampler.SampleFault.TheVariants.{Unknown, Gap, Memory}
-use Rattle.check_samples.specs.Rows.{Probes, Rows, and_then, has_edge, is_active, no_rows, rises, rows_of, some_crosses}
+use Rattle.check_samples.specs.Rows.{Probes, Rows, and_then, has_edge, is_active, no_rows, rows_of, some_crosses, ticks}
 
 -- what is looked at; the values before the present time, with what is put together of them; those at it, and how many bits
 -- each has; the present time; and what there was at the edges of the times that are over
@@ -35,15 +35,15 @@ is_time (Some last) time = last == time
 abbrev pub is_at : Sampling → ℕ → Bool
 is_at s time = is_time s.time time
 
--- whether the clock rises at the present time, in a reset too
-abbrev pub rises_now : Sampling → Bool
-rises_now s = rises s.before s.now s.probes.clock
+-- whether the clock ticks at the present time, in a reset too
+abbrev pub ticks_now : Sampling → Bool
+ticks_now s = ticks s.before s.now s.probes.clock
 
--- what there was at the edges, with that of the present time if the clock rises at it
+-- what there was at the edges, with that of the present time if the clock ticks at it
 abbrev pub edges_when : Option ℕ → Sampling → Edges
 edges_when None s = s.edges
 edges_when (Some time) s =
-    if rises_now s
+    if ticks_now s
     then with_edge s.edges (is_active s.before s.probes.reset) (some_crosses s.before s.probes.channels)
     else s.edges
 
@@ -63,7 +63,7 @@ behind (Sets slot digits) s = with_value s slot digits
 behind (Resumes line) s = s
 behind (Wrong line mistake) s = s
 
--- the rows of the present time, if the clock rises at it: with the values that were before it. What has to be known then
+-- the rows of the present time, if the clock ticks at it: with the values that were before it. What has to be known then
 -- follows from the edges before
 abbrev pub rows_when : Option ℕ → Sampling → Rows
 rows_when None s = no_rows

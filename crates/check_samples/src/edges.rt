@@ -1,7 +1,8 @@
 //! The edges of the clock at the times that are over, and what they say of a dump at its end.
 ghost use Rattle.std.specs.Prelude.{◌≡◌};
-ghost use Rattle.check_samples.specs.Edges.{edge_fault, is_low_of, needs_of, no_edges};
+ghost use Rattle.check_samples.specs.Edges.{edge_fault, is_low_of, needs_of, never_of, no_edges};
 
+use crate::clock::Edge;
 use crate::reset::Reset;
 
 /// What there was at the edges of the clock: any edge; one outside of reset; one in reset; a beat that crossed outside; and
@@ -27,6 +28,8 @@ pub struct Needs {
 pub enum EdgeFault {
     /// The clock never rises.
     NeverRises,
+    /// The clock never falls, and its falling edges were asked for.
+    NeverFalls,
     /// The reset is active at every edge; whether it is low.
     ResetAtEdges(bool),
     /// Valid and ready were 1 in reset alone; whether it is low.
@@ -68,12 +71,22 @@ fn is_low_of(reset: Option<Reset>) -> bool
     }
 }
 
+/// That a clock has no edge.
+fn never_of(edge: Edge) -> EdgeFault
+    ensures { result ≡ never_of edge }
+{
+    match edge {
+        Edge::Rising => EdgeFault::NeverRises,
+        Edge::Falling => EdgeFault::NeverFalls,
+    }
+}
+
 /// Why the edges of a whole dump are none to take beats at, if they are not.
-pub(crate) fn edge_fault(reset: Option<Reset>, edges: Edges) -> Option<EdgeFault>
-    ensures { result ≡ edge_fault reset edges }
+pub(crate) fn edge_fault(edge: Edge, reset: Option<Reset>, edges: Edges) -> Option<EdgeFault>
+    ensures { result ≡ edge_fault edge reset edges }
 {
     if !edges.any {
-        Some(EdgeFault::NeverRises)
+        Some(never_of(edge))
     } else if !edges.outside {
         Some(EdgeFault::ResetAtEdges(is_low_of(reset)))
     } else if edges.masked && !edges.crossed {

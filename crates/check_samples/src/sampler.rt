@@ -1,11 +1,12 @@
 //! The beats that cross, edge by edge.
 ghost use Rattle.std.specs.Prelude.{◌≡◌, ◌∷◌, List, None, IfOk, OnOk};
 ghost use Rattle.check_samples.specs.Edges.{with_edge};
-ghost use Rattle.check_samples.specs.Rows.{Appended, Writes, crosses, is_one, has_edge, is_active, is_unsure, is_zero, ready_of, rises, row_at, rows_at, rows_of, some_crosses, unknown_hand, valid_of, view_of};
+ghost use Rattle.check_samples.specs.Rows.{Appended, Writes, crosses, is_one, has_edge, is_active, is_early, is_late, is_unsure, is_zero, ready_of, row_at, rows_at, rows_of, some_crosses, ticks, unknown_hand, valid_of, view_of};
 ghost use Rattle.check_samples.specs.Values.{all_before, all_now, all_widths};
 ghost use Rattle.check_samples.specs.declared.sampler.SampleFault.TheVariants.{Unknown};
 
 use crate::channel::{BeatTaps, Channel, UnknownBit};
+use crate::clock::{Clock, Edge};
 use crate::edges::{EdgeFault, Edges, Needs, edge_fault, needs_of};
 use crate::reset::Reset;
 use crate::row::{ask_cells, push_ask, push_reply, reply_cells};
@@ -184,7 +185,7 @@ fn push_rows(
 /// order in which their beats cross.
 #[derive(Drop)]
 pub struct Probes {
-    pub clock: Tap,
+    pub clock: Clock,
     pub reset: Option<Reset>,
     pub joins: Vec<Tap>,
     pub channels: Vec<Channel>,
@@ -201,18 +202,38 @@ fn is_active(values: &Values, reset: Option<Reset>) -> bool
     }
 }
 
-/// Whether the clock rises at the present time.
-fn rises(values: &Values, clock: Tap) -> bool
-    ensures { result ≡ rises (all_before values.now) (all_now values.now) clock }
+/// Whether these are the bit that a clock is before its edge.
+fn is_early(edge: Edge, bits: &[u8]) -> bool
+    ensures { result ≡ is_early edge bits.now }
 {
-    is_zero(values.before(clock)) && is_one(values.now(clock))
+    match edge {
+        Edge::Rising => is_zero(bits),
+        Edge::Falling => is_one(bits),
+    }
 }
 
-/// Whether the clock rises at the present time, outside of reset.
+/// Whether they are the one that it is then.
+fn is_late(edge: Edge, bits: &[u8]) -> bool
+    ensures { result ≡ is_late edge bits.now }
+{
+    match edge {
+        Edge::Rising => is_one(bits),
+        Edge::Falling => is_zero(bits),
+    }
+}
+
+/// Whether the clock ticks at the present time.
+fn ticks(values: &Values, clock: Clock) -> bool
+    ensures { result ≡ ticks (all_before values.now) (all_now values.now) clock }
+{
+    is_early(clock.edge, values.before(clock.tap)) && is_late(clock.edge, values.now(clock.tap))
+}
+
+/// Whether the clock ticks at the present time, outside of reset.
 fn has_edge(values: &Values, probes: &Probes) -> bool
     ensures { result ≡ has_edge (all_before values.now) (all_now values.now) (view_of probes.now) }
 {
-    rises(values, probes.clock) && !is_active(values, probes.reset)
+    ticks(values, probes.clock) && !is_active(values, probes.reset)
 }
 
 /// What there was at the edges, after one more at the present time. Once it is known that beats crossed they are not
@@ -312,7 +333,7 @@ impl Sampler {
         let Some(_) = self.time else {
             return self.edges;
         };
-        if !rises(&self.values, self.probes.clock) {
+        if !ticks(&self.values, self.probes.clock) {
             return self.edges;
         }
         with_edge(self.edges, &self.values, &self.probes)
@@ -320,9 +341,9 @@ impl Sampler {
 
     /// Why the edges are none to take beats at, if the dump ends with the present time and they are not.
     pub(crate) fn edge_fault(&self) -> Option<EdgeFault>
-        ensures { result ≡ edge_fault self.now.probes.reset (edges_now self.now) }
+        ensures { result ≡ edge_fault self.now.probes.clock.edge self.now.probes.reset (edges_now self.now) }
     {
-        edge_fault(self.probes.reset, self.edges_now())
+        edge_fault(self.probes.clock.edge, self.probes.reset, self.edges_now())
     }
 
     /// A time begins, and the present one is over. What is put together of values is so as they are now.

@@ -20,6 +20,7 @@ use Rattle.check_samples.specs.Sampling.{Sampling}
 use Rattle.check_samples.specs.Values.{all_before, all_now, all_widths}
 use Rattle.check_samples.specs.declared.channel.BeatTaps.TheVariants.{A, D}
 use Rattle.check_samples.specs.declared.channel.Channel.{Channel}
+use Rattle.check_samples.specs.declared.clock.Edge.{Edge}
 use Rattle.check_samples.specs.declared.reset.Reset.{Reset}
 use Rattle.check_samples.specs.declared.signal.Signal.{Signal}
 use Rattle.check_samples.specs.declared.tap.Tap.{Tap}
@@ -262,10 +263,10 @@ pub record Found : Type 0 where
   pub probes : Probes
   pub kept : List Kept
 
-abbrev pub found_by : List Kept → Bool → FoundSources → Found
-found_by kept is_low sources = record {
+abbrev pub found_by : List Kept → Edge → Bool → FoundSources → Found
+found_by kept edge is_low sources = record {
   probes = record {
-    clock = tap_by kept sources.clock;
+    clock = record { tap = tap_by kept sources.clock; edge = edge };
     reset = reset_by kept is_low sources.reset;
     joins = link_joins kept sources.ports ++ link_joins kept sources.masters;
     channels = in_order (channel_pairs kept 0 sources.ports)
@@ -274,14 +275,14 @@ found_by kept is_low sources = record {
   kept = kept;
 }
 
-abbrev pub found_of : Bool → FoundSources → Found
-found_of is_low sources = found_by (values_kept (all_of sources)) is_low sources
+abbrev pub found_of : Edge → Bool → FoundSources → Found
+found_of edge is_low sources = found_by (values_kept (all_of sources)) edge is_low sources
 
 -- what the names of a system file find among the signals of a header, or the first fault, where the masters' links and
 -- the ports' have these buses
 unfoldable pub found_in : List Var → List Bus → List Bus → SignalNames → Result Found SearchFault
 found_in vars masters ports names =
-    sources_in vars masters ports names >>= (λ sources. Ok (found_of names.is_low sources))
+    sources_in vars masters ports names >>= (λ sources. Ok (found_of names.edge names.is_low sources))
 
 -- ---- how a dump is read so
 

@@ -1,7 +1,7 @@
 -- The keys of a system file that say where signals are. This project's own.
 use Rattle.std.specs.Prelude.{ℕ, List, codes}
 use Rattle.check_signals.specs.declared.fault.SignalKey.{SignalKey}
-use Rattle.check_signals.specs.declared.fault.SignalKey.TheVariants.{Port, Master, Clock, Reset, ResetActive, Signals, Wires, Bits}
+use Rattle.check_signals.specs.declared.fault.SignalKey.TheVariants.{Port, Master, Clock, Reset, ResetActive, Signals, Wires, Bits, Names, Edge}
 
 -- the key, as a file has it
 abbrev pub signal_key_name : SignalKey → List ℕ
@@ -13,3 +13,5 @@ signal_key_name ResetActive = codes "reset_active"
 signal_key_name Signals = codes "signals"
 signal_key_name Wires = codes "wires"
 signal_key_name Bits = codes "bits"
+signal_key_name Names = codes "names"
+signal_key_name Edge = codes "edge"

@@ -1,7 +1,9 @@
 pub mod Key
-pub mod Names
+pub mod Values
 pub mod Wanted
 pub mod Wires
+pub mod Prefixes
+pub mod Names
 pub mod Source
 pub mod Nets
 pub mod Parts

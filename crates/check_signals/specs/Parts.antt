@@ -1,14 +1,14 @@
 -- The parts of a signal of a link, the highest bits first. This project's own.
-use Rattle.std.specs.Prelude.{ℕ, Bool, true, false, List, [], ◌∷◌, map, Result, Ok, Err, Vec, if◌then◌else◌}
+use Rattle.std.specs.Prelude.{ℕ, Bool, true, false, List, map, Result, Ok, Err, Vec, if◌then◌else◌}
 use Rattle.std.specs.Global.{Global}
 use Rattle.std.specs.List.{flat_map}
 use Rattle.tl_text.specs.Reading.{◌>>=◌, each}
 use Rattle.check_vcd.specs.Header.{Var}
 use Rattle.check_samples.specs.Signal.{signal_name}
-use Rattle.check_samples.specs.declared.signal.Signal.{Signal}
 use Rattle.check_signals.specs.Names.{SignalName, Prefixed, Wired, Joined}
 use Rattle.check_signals.specs.Nets.{named_in}
-use Rattle.check_signals.specs.Source.{SearchFault, Source, Width, parts_bits, parts_view}
+use Rattle.check_signals.specs.Prefixes.{taken}
+use Rattle.check_signals.specs.Source.{SearchFault, Source, Width, parts_bits, sources_view}
 use Rattle.check_signals.specs.Wanted.{bits_fit, count_of}
 use Rattle.check_signals.specs.declared.parts.LinkSignal.{LinkSignal}
 use Rattle.check_signals.specs.declared.source.Source as code_source
@@ -37,11 +37,11 @@ fitting signal parts =
 
 -- the parts of a signal of this name
 abbrev pub signal_parts : List Var → LinkSignal → SignalName → Result (List Source) SearchFault
-signal_parts vars signal (Prefixed name) = whole_of vars signal name true
+signal_parts vars signal (Prefixed names) = whole_of vars signal (taken vars names) true
 signal_parts vars signal (Wired name) = whole_of vars signal name false
 signal_parts vars signal (Joined names) = each (part_of vars signal) names >>= (λ found. fitting signal (all_parts found))
 
 -- ---- what calls answer
 
 abbrev pub signals_view : List (Vec code_source.Source Global) → List (List Source)
-signals_view signals = map parts_view signals
+signals_view signals = map sources_view signals

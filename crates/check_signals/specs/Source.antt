@@ -136,8 +136,8 @@ kept_view (kept.Constant digit width) = Constant digit width
 abbrev pub source_view : code_source.Source → Source
 source_view source = record { kept = kept_view source.kept; from = source.from; to = source.to }
 
-abbrev pub parts_view : Vec code_source.Source Global → List Source
-parts_view parts = map source_view parts.items
+abbrev pub sources_view : Vec code_source.Source Global → List Source
+sources_view parts = map source_view parts.items
 
 -- a fault, with its texts as lists
 abbrev pub fault_view : SignalFault → SearchFault

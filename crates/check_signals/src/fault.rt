@@ -18,6 +18,8 @@ pub enum SignalKey {
     Signals,
     Wires,
     Bits,
+    Names,
+    Edge,
 }
 
 impl SignalKey {
@@ -34,6 +36,8 @@ impl SignalKey {
             SignalKey::Signals => "signals",
             SignalKey::Wires => "wires",
             SignalKey::Bits => "bits",
+            SignalKey::Names => "names",
+            SignalKey::Edge => "edge",
         }
     }
 }

@@ -1,15 +1,20 @@
 //! The names of signals that a system file gives.
-ghost use Rattle.std.specs.Prelude.{◌≡◌, ◌++◌, OnOk, Ok, map, not, option_map, unwrap_or};
+ghost use Rattle.std.specs.Prelude.{◌≡◌, Ok, Some, map, not, option_map, unwrap_or};
 ghost use Rattle.toml.specs.Data.{get_member};
 ghost use Rattle.toml.specs.View.{table_view, view};
 ghost use Rattle.tl_text.specs.Reading.{each};
 ghost use Rattle.check_samples.specs.Signal.{signal_name as name_of_signal};
 ghost use Rattle.check_signals.specs.Key.{signal_key_name};
-ghost use Rattle.check_signals.specs.Names.{GivesNames, all_names as all_names_of, clock_by, have_signals, is_handshake, is_low_in, joined_names, link_by, link_in, link_of, link_view, links_in, lone_name, manner_view, may_be_left_out, name_behind, name_in, name_unless, name_view, names_in, names_of_file, names_view, optional_flag, optional_text, part_name, prefixed as prefixed_in, signal_text_of as text_in, some_names_in, wire_in, wired as wired_in, wires_in, with_bits};
+ghost use Rattle.check_signals.specs.Names.{all_names as all_names_of, called as called_in, clock_by, edge_by, edge_in, have_signals, is_low_in, joined_names, link_by, link_in, link_of, link_view, links_in, lone_name, name_in, name_view, names_in, names_of_file, names_view, naming_in, part_name, some_names_in, wired as wired_in, wired_alone};
+ghost use Rattle.check_signals.specs.Prefixes.{manner_view, naming_view};
+ghost use Rattle.check_signals.specs.Values.{GivesNames, may_be_left_out, name_unless, optional_flag, optional_table, optional_text, signal_text_of as text_in, value_in};
 
 use crate::fault::{KeyFault, SignalKey};
-use check_samples::Signal;
-use std::alloc::{AllocError, Global};
+use crate::prefixes::{
+    Manner, Naming, behind_each, is_no_name, name_behind, prefixes_if_any, said_in, table_of_names,
+};
+use check_samples::{Edge, Signal};
+use std::alloc::Global;
 use toml::{Table, Value};
 
 /// The signals of a link, in the order in which they are looked for.
@@ -41,8 +46,8 @@ pub const MAX_PARTS: usize = 512;
 /// The name of a signal.
 #[derive(Debug, Drop)]
 pub enum SignalName {
-    /// That of the prefix.
-    Prefixed(Vec<u8>),
+    /// Those behind the prefixes, of which the first that is declared is taken.
+    Prefixed(Vec<Vec<u8>>),
     /// That of its wire.
     Wired(Vec<u8>),
     /// Those of several signals that its wire puts together, one after the other, the highest bits first.
@@ -52,10 +57,12 @@ pub enum SignalName {
 /// The names of the signals of a link, in that order.
 pub type LinkNames = Vec<SignalName>;
 
-/// The names that a system file gives: of the clock and the reset, and of each link's signals if it has any.
+/// The names that a system file gives: of the clock and the reset, and of each link's signals if it has any; and which edges
+/// of the clock count.
 #[derive(Debug, Drop)]
 pub struct SignalNames {
     pub clock: Vec<u8>,
+    pub edge: Edge,
     pub reset: Option<Vec<u8>>,
     pub is_low: bool,
     pub ports: Vec<Option<LinkNames>>,
@@ -63,7 +70,7 @@ pub struct SignalNames {
 }
 
 /// The value at a key, if it is there.
-fn find_value(table: &Table, key: SignalKey) -> Option<&Value>
+pub(crate) fn find_value(table: &Table, key: SignalKey) -> Option<&Value>
     ensures { option_map (λ value. view value.now) result
         ≡ get_member (signal_key_name key) (table_view table.now) }
 {
@@ -71,7 +78,7 @@ fn find_value(table: &Table, key: SignalKey) -> Option<&Value>
 }
 
 /// The text of a value.
-fn text_of(value: &Value, key: SignalKey) -> Result<&[u8], KeyFault>
+pub(crate) fn text_of(value: &Value, key: SignalKey) -> Result<&[u8], KeyFault>
     ensures { GivesNames (λ text. text.now) result (text_in key (view value.now)) }
 {
     match value.as_str() {
@@ -114,51 +121,75 @@ fn read_is_low(table: &Table) -> Result<bool, KeyFault>
     }
 }
 
-/// The table at the key of wires, if it is there.
-fn wires_if_any(table: &Table) -> Result<Option<&Table>, KeyFault>
-    ensures { GivesNames (option_map (λ wires. table_view wires.now)) result (wires_in (table_view table.now)) }
+/// The edges that a word means.
+fn edge_called(word: &[u8]) -> Result<Edge, KeyFault>
+    ensures { GivesNames (λ edge. edge) result (edge_by (Some word.now)) }
 {
-    match find_value(table, SignalKey::Wires) {
+    if word == b"rising".as_slice() {
+        Ok(Edge::Rising)
+    } else if word == b"falling".as_slice() {
+        Ok(Edge::Falling)
+    } else {
+        Err(KeyFault::OutOfRange(SignalKey::Edge))
+    }
+}
+
+/// The edges of the clock at which beats cross.
+fn read_edge(table: &Table) -> Result<Edge, KeyFault>
+    ensures { GivesNames (λ edge. edge) result (edge_in (table_view table.now)) }
+{
+    match text_if_any(table, SignalKey::Edge)? {
+        Some(word) => edge_called(word),
+        None => Ok(Edge::Rising),
+    }
+}
+
+/// The table at a key that may be absent.
+pub(crate) fn table_if_any(table: &Table, key: SignalKey) -> Result<Option<&Table>, KeyFault>
+    ensures { GivesNames (option_map (λ inner. table_view inner.now)) result
+        (optional_table key (table_view table.now)) }
+{
+    match find_value(table, key) {
         None => Ok(None),
         Some(value) => match value.as_table() {
-            Some(wires) => Ok(Some(wires)),
-            None => Err(KeyFault::WrongType(SignalKey::Wires)),
+            Some(inner) => Ok(Some(inner)),
+            None => Err(KeyFault::WrongType(key)),
         },
     }
 }
 
 /// The value at the key of a signal, if it is there.
-fn find_signal(wires: &Table, signal: Signal) -> Option<&Value>
+fn find_signal(table: &Table, signal: Signal) -> Option<&Value>
     ensures { option_map (λ value. view value.now) result
-        ≡ get_member (name_of_signal signal) (table_view wires.now) }
+        ≡ get_member (name_of_signal signal) (table_view table.now) }
 {
-    wires.get(signal.name())
+    table.get(signal.name())
 }
 
-/// The same of wires that may be absent.
-fn wire_of(wires: Option<&Table>, signal: Signal) -> Option<&Value>
+/// The same of a table that may be absent.
+pub(crate) fn value_in(table: Option<&Table>, signal: Signal) -> Option<&Value>
     ensures { option_map (λ value. view value.now) result
-        ≡ wire_in (option_map (λ wires. table_view wires.now) wires.entry) signal }
+        ≡ value_in (option_map (λ table. table_view table.now) table.entry) signal }
 {
-    match wires {
-        Some(wires) => find_signal(wires, signal),
+    match table {
+        Some(table) => find_signal(table, signal),
         None => None,
     }
 }
 
 /// Whether a design may have no such signal.
-fn may_be_left_out(signal: Signal) -> bool
+pub(crate) fn may_be_left_out(signal: Signal) -> bool
     ensures { result ≡ may_be_left_out signal }
 {
     matches!(signal, Signal::ACorrupt | Signal::DParam | Signal::DCorrupt)
 }
 
 /// A name, which may be `-` if that is not refused.
-fn name_unless(refused: bool, text: &[u8]) -> Result<&[u8], KeyFault>
-    ensures { GivesNames (λ text. text.now) result (name_unless refused text.now) }
+pub(crate) fn name_unless(key: SignalKey, refused: bool, text: &[u8]) -> Result<&[u8], KeyFault>
+    ensures { GivesNames (λ text. text.now) result (name_unless key refused text.now) }
 {
     if refused && text == b"-".as_slice() {
-        return Err(KeyFault::OutOfRange(SignalKey::Wires));
+        return Err(KeyFault::OutOfRange(key));
     }
     Ok(text)
 }
@@ -168,7 +199,7 @@ fn lone(alloc: Global, value: &Value, signal: Signal) -> Result<SignalName, KeyF
     ensures { GivesNames name_view result (lone_name signal (view value.now)) }
 {
     let text = text_of(value, SignalKey::Wires)?;
-    let name = name_unless(!may_be_left_out(signal), text)?;
+    let name = name_unless(SignalKey::Wires, !may_be_left_out(signal), text)?;
     Ok(SignalName::Wired(Vec::from_slice(alloc, name)?))
 }
 
@@ -176,7 +207,7 @@ fn lone(alloc: Global, value: &Value, signal: Signal) -> Result<SignalName, KeyF
 fn part_name(value: &Value) -> Result<&[u8], KeyFault>
     ensures { GivesNames (λ text. text.now) result (part_name (view value.now)) }
 {
-    name_unless(true, text_of(value, SignalKey::Wires)?)
+    name_unless(SignalKey::Wires, true, text_of(value, SignalKey::Wires)?)
 }
 
 /// The names of several signals.
@@ -212,59 +243,27 @@ fn wired(alloc: Global, value: &Value, signal: Signal) -> Result<SignalName, Key
     }
 }
 
-/// How the names of a link begin: with this prefix; and whether those that are no handshake stand in a bundle `bits` of
-/// their channel.
-#[derive(Debug, Clone, Copy)]
-struct Manner<'a> {
-    prefix: &'a [u8],
-    bits: bool,
-}
-
-/// Whether a signal is one of a handshake.
-fn is_handshake(signal: Signal) -> bool
-    ensures { result ≡ is_handshake signal }
+/// The names behind the prefixes, of what `names` says or of the specification's.
+fn called(
+    alloc: Global,
+    manner: Manner<'_>,
+    signal: Signal,
+    said: Option<&[u8]>,
+) -> Result<SignalName, KeyFault>
+    ensures { GivesNames name_view result
+        (Ok (called_in (manner_view manner.entry) signal (option_map (λ text. text.now) said.entry))) }
 {
-    matches!(
-        signal,
-        Signal::AValid | Signal::AReady | Signal::DValid | Signal::DReady
-    )
-}
-
-/// Appends a name with `bits_` after its channel.
-fn push_with_bits(text: &mut Vec<u8>, name: &[u8]) -> Result<(), AllocError>
-    ensures { OnOk result (text.new.items ≡ text.old.items ++ with_bits name.now) }
-{
-    let [channel, line, field @ ..] = name else {
-        return text.extend_from_slice(name);
-    };
-    text.push(*channel)?;
-    text.push(*line)?;
-    text.extend_from_slice(b"bits_")?;
-    text.extend_from_slice(field)
-}
-
-/// Appends the specification's name of a signal, in the bundle of its channel or outside of it.
-fn push_name(text: &mut Vec<u8>, bits: bool, signal: Signal) -> Result<(), AllocError>
-    ensures { OnOk result (text.new.items ≡ text.old.items ++ name_behind bits signal) }
-{
-    let name = signal.name().as_bytes();
-    if bits && !is_handshake(signal) {
-        push_with_bits(text, name)
-    } else {
-        text.extend_from_slice(name)
+    match said {
+        Some(text) if is_no_name(text) => Ok(SignalName::Wired(Vec::from_slice(alloc, text)?)),
+        Some(text) => Ok(SignalName::Prefixed(behind_each(alloc, manner.prefixes, text)?)),
+        None => {
+            let text = name_behind(alloc, manner.naming.bits, signal)?;
+            Ok(SignalName::Prefixed(behind_each(alloc, manner.prefixes, &text)?))
+        }
     }
 }
 
-/// The prefix with the specification's name.
-fn prefixed(alloc: Global, manner: Manner<'_>, signal: Signal) -> Result<SignalName, KeyFault>
-    ensures { GivesNames name_view result (Ok (prefixed_in (manner_view manner.entry) signal)) }
-{
-    let mut text = Vec::from_slice(alloc, manner.prefix)?;
-    push_name(&mut text, manner.bits, signal)?;
-    Ok(SignalName::Prefixed(text))
-}
-
-/// The name of a signal: that of its wire, or else the prefix with the specification's name.
+/// The name of a signal: that of its wire, or else those behind the prefixes.
 fn name_of(
     alloc: Global,
     manner: Manner<'_>,
@@ -274,9 +273,9 @@ fn name_of(
     ensures { GivesNames name_view result
         (name_in (manner_view manner.entry) (option_map (λ wires. table_view wires.now) wires.entry) signal) }
 {
-    match wire_of(wires, signal) {
+    match value_in(wires, signal) {
         Some(value) => wired(alloc, value, signal),
-        None => prefixed(alloc, manner, signal),
+        None => called(alloc, manner, signal, said_in(manner.naming.names, signal)?),
     }
 }
 
@@ -322,46 +321,68 @@ fn some_names(
     Ok(Some(all_names(alloc, manner, wires)?))
 }
 
-/// The names of a link's signals, if there is a prefix or there are wires.
-fn names_if_any(
+/// The names of the signals of a link without prefixes, if there are wires.
+fn wired_alone(
     alloc: Global,
-    prefix: Option<&[u8]>,
     wires: Option<&Table>,
     bits: bool,
 ) -> Result<Option<LinkNames>, KeyFault>
-    ensures { GivesNames link_view result (link_by (option_map (λ prefix. prefix.now) prefix.entry)
-        (option_map (λ wires. table_view wires.now) wires.entry) bits) }
+    ensures { GivesNames link_view result
+        (wired_alone (option_map (λ wires. table_view wires.now) wires.entry) bits) }
 {
-    match prefix {
-        Some(prefix) => some_names(alloc, Manner { prefix, bits }, wires),
-        None => match wires {
-            Some(wires) => some_names(alloc, Manner { prefix: b"", bits }, Some(wires)),
-            None => Ok(None),
-        },
+    let manner = Manner {
+        prefixes: &[b""],
+        naming: Naming { bits, names: None },
+    };
+    match wires {
+        Some(wires) => some_names(alloc, manner, Some(wires)),
+        None => Ok(None),
+    }
+}
+
+/// The names of a link's signals, if there are prefixes or wires.
+fn names_if_any(
+    alloc: Global,
+    prefixes: Option<&[&[u8]]>,
+    wires: Option<&Table>,
+    naming: Naming<'_>,
+) -> Result<Option<LinkNames>, KeyFault>
+    ensures { GivesNames link_view result
+        (link_by (option_map (λ prefixes. map (λ prefix. prefix.now) prefixes.now) prefixes.entry)
+        (option_map (λ wires. table_view wires.now) wires.entry) (naming_view naming.entry)) }
+{
+    match prefixes {
+        Some(prefixes) => some_names(alloc, Manner { prefixes, naming }, wires),
+        None => wired_alone(alloc, wires, naming.bits),
     }
 }
 
 /// The names of the signals of the link that a table is of, if it gives any. It has the bundles of the whole file, if it
 /// does not say otherwise.
 #[tactic(auto, unfolding(crate::specs::Names::link_in))]
-fn link_names(alloc: Global, top: bool, table: &Table) -> Result<Option<LinkNames>, KeyFault>
-    ensures { GivesNames link_view result (link_in top (table_view table.now)) }
+fn link_names(alloc: Global, top: Naming<'_>, table: &Table) -> Result<Option<LinkNames>, KeyFault>
+    ensures { GivesNames link_view result (link_in (naming_view top.entry) (table_view table.now)) }
 {
-    let prefix = text_if_any(table, SignalKey::Signals)?;
-    let wires = wires_if_any(table)?;
+    let prefixes = prefixes_if_any(alloc, table)?;
+    let wires = table_if_any(table, SignalKey::Wires)?;
     let bits = flag_if_any(table, SignalKey::Bits)?;
-    names_if_any(alloc, prefix, wires, bits.unwrap_or(top))
+    let naming = Naming {
+        bits: bits.unwrap_or(top.bits),
+        names: top.names,
+    };
+    names_if_any(alloc, prefixes.as_deref(), wires, naming)
 }
 
 /// The names of the signals of each link of a kind, of which there may be none.
 #[tactic(auto, using(crate::proofs::Views::array_laws), unfolding(crate::specs::Names::links_in))]
 fn links_at(
     alloc: Global,
-    top: bool,
+    top: Naming<'_>,
     table: &Table,
     key: SignalKey,
 ) -> Result<Vec<Option<LinkNames>>, KeyFault>
-    ensures { GivesNames (λ links. map link_view links.items) result (links_in top key (table_view table.now)) }
+    ensures { GivesNames (λ links. map link_view links.items) result
+        (links_in (naming_view top.entry) key (table_view table.now)) }
 {
     let Some(value) = find_value(table, key) else {
         return Ok(Vec::new(alloc));
@@ -375,12 +396,12 @@ fn links_at(
 #[tactic(auto, unfolding(crate::specs::Names::link_of))]
 fn links_of(
     alloc: Global,
-    top: bool,
+    top: Naming<'_>,
     values: &[Value],
     key: SignalKey,
 ) -> Result<Vec<Option<LinkNames>>, KeyFault>
     ensures { GivesNames (λ links. map link_view links.items) result
-        (each (link_of top key) (map view values.now)) }
+        (each (link_of (naming_view top.entry) key) (map view values.now)) }
 {
     let mut links = Vec::with_capacity(alloc, values.len())?;
     for value in values {
@@ -417,6 +438,18 @@ fn clock_by(has_signals: bool, name: Option<&[u8]>) -> Result<&[u8], KeyFault>
     }
 }
 
+/// How the signals of all links are called.
+fn naming_of(table: &Table) -> Result<Naming<'_>, KeyFault>
+    ensures { GivesNames naming_view result (naming_in (table_view table.now)) }
+{
+    let bits = flag_if_any(table, SignalKey::Bits)?;
+    let names = table_of_names(table)?;
+    Ok(Naming {
+        bits: bits.unwrap_or(false),
+        names,
+    })
+}
+
 /// The names that a system's table gives.
 #[tactic(auto, unfolding(crate::specs::Names::all_names))]
 fn names_of_table(alloc: Global, table: &Table) -> Result<SignalNames, KeyFault>
@@ -428,12 +461,14 @@ fn names_of_table(alloc: Global, table: &Table) -> Result<SignalNames, KeyFault>
         None => None,
     };
     let is_low = read_is_low(table)?;
-    let bits = flag_if_any(table, SignalKey::Bits)?.unwrap_or(false);
-    let ports = links_at(alloc, bits, table, SignalKey::Port)?;
-    let masters = links_at(alloc, bits, table, SignalKey::Master)?;
+    let edge = read_edge(table)?;
+    let naming = naming_of(table)?;
+    let ports = links_at(alloc, naming, table, SignalKey::Port)?;
+    let masters = links_at(alloc, naming, table, SignalKey::Master)?;
     let named = clock_by(have_signals(&ports) || have_signals(&masters), clock)?;
     Ok(SignalNames {
         clock: Vec::from_slice(alloc, named)?,
+        edge,
         reset,
         is_low,
         ports,

@@ -5,7 +5,7 @@ ghost use Rattle.std.specs.Str.{bytes_eq};
 ghost use Rattle.tl_text.specs.Reading.{each};
 ghost use Rattle.check_vcd.specs.Header.{var_view};
 ghost use Rattle.check_signals.specs.Nets.{bit_at, bit_called, bit_of, bit_view, bit_within, bits_called, bits_wanted, codes_at, has_whole, indices_down, lone, meant, meant_of, named_in, net_by, net_in, one_of, span_from, span_of, vector_in, with_bit};
-ghost use Rattle.check_signals.specs.Source.{Finds, asked_view, parts_view, signal_in, source_view};
+ghost use Rattle.check_signals.specs.Source.{Finds, asked_view, sources_view, signal_in, source_view};
 ghost use Rattle.check_signals.specs.Wires.{first_of};
 
 use crate::parts::{Parts, parts_bits};
@@ -200,7 +200,7 @@ fn bits_at<'a>(
     bits: &[Bit<'a>],
     indices: &[u64],
 ) -> Result<Parts<'a>, SignalFault>
-    ensures { Finds parts_view result
+    ensures { Finds sources_view result
         (each (bit_at (map var_view vars.now) (asked_view asked.entry) (map bit_view bits.now)) indices.now) }
 {
     let mut parts = Vec::with_capacity(alloc, indices.len())?;
@@ -216,7 +216,7 @@ fn bits_wanted<'a>(
     asked: WantedSignal<'_>,
     parts: Parts<'a>,
 ) -> Result<Parts<'a>, SignalFault>
-    ensures { Finds parts_view result (bits_wanted (asked_view asked.entry) (parts_view parts.entry)) }
+    ensures { Finds sources_view result (bits_wanted (asked_view asked.entry) (sources_view parts.entry)) }
 {
     let bits = parts_bits(&parts)?;
     if !asked.wanted.fits(bits) {
@@ -234,7 +234,7 @@ fn vector_in<'a>(
     bits: &[Bit<'a>],
     span: Span,
 ) -> Result<Parts<'a>, SignalFault>
-    ensures { Finds parts_view result
+    ensures { Finds sources_view result
         (vector_in (map var_view vars.now) (asked_view asked.entry) name.now (map bit_view bits.now) span) }
 {
     let last = span.left.saturating_sub(span.right);
@@ -269,7 +269,7 @@ fn meant(bits: &[Bit<'_>], part: Option<Span>) -> Option<Span>
 
 /// One part.
 fn lone<'a>(alloc: Global, part: Source<'a>) -> Result<Parts<'a>, AllocError>
-    ensures { IfOk result (λ parts. parts_view parts ≡ source_view part.entry ∷ []) }
+    ensures { IfOk result (λ parts. sources_view parts ≡ source_view part.entry ∷ []) }
 {
     let mut parts = Vec::new(alloc);
     parts.push(part)?;
@@ -282,7 +282,7 @@ fn net_in<'a>(
     vars: &'a [Var],
     asked: WantedSignal<'_>,
 ) -> Result<Parts<'a>, SignalFault>
-    ensures { Finds parts_view result (net_in (map var_view vars.now) (asked_view asked.entry)) }
+    ensures { Finds sources_view result (net_in (map var_view vars.now) (asked_view asked.entry)) }
 {
     let (name, part) = sought(vars, asked.name);
     let bits = bits_called(alloc, vars, name)?;
@@ -302,7 +302,7 @@ pub(crate) fn named_in<'a>(
     vars: &'a [Var],
     asked: WantedSignal<'_>,
 ) -> Result<Parts<'a>, SignalFault>
-    ensures { Finds parts_view result (named_in (map var_view vars.now) (asked_view asked.entry)) }
+    ensures { Finds sources_view result (named_in (map var_view vars.now) (asked_view asked.entry)) }
 {
     if is_left_out(asked) {
         return Ok(lone(alloc, left_out())?);

@@ -5,12 +5,13 @@ ghost use Rattle.check_vcd.specs.Header.{var_view};
 ghost use Rattle.check_samples.specs.Signal.{signal_name};
 ghost use Rattle.check_signals.specs.Names.{name_view};
 ghost use Rattle.check_signals.specs.Parts.{all_parts, fitting, part_of, signal_parts, signals_view, whole_of};
-ghost use Rattle.check_signals.specs.Source.{Finds, Width as WidthIn, fault_view, parts_bits, parts_view, source_view};
+ghost use Rattle.check_signals.specs.Source.{Finds, Width as WidthIn, fault_view, parts_bits, sources_view, source_view};
 ghost use Rattle.check_signals.specs.Wanted.{count_of};
 ghost use Rattle.check_signals.specs.declared.signal_fault.SignalFault.TheVariants.{Memory};
 
 use crate::keys::SignalName;
 use crate::nets::named_in;
+use crate::prefixes::taken;
 use crate::signal_fault::{SignalFault, SignalOwner};
 use crate::source::{MAX_WIDTH, Source, WantedSignal};
 use crate::wanted::Wanted;
@@ -37,7 +38,7 @@ fn whole_of<'a>(
     name: &[u8],
     is_prefixed: bool,
 ) -> Result<Parts<'a>, SignalFault>
-    ensures { Finds parts_view result (whole_of (map var_view vars.now) signal name.now is_prefixed) }
+    ensures { Finds sources_view result (whole_of (map var_view vars.now) signal name.now is_prefixed) }
 {
     let asked = WantedSignal {
         owner: signal.owner,
@@ -55,7 +56,7 @@ fn part_of<'a>(
     signal: LinkSignal,
     name: &[u8],
 ) -> Result<Parts<'a>, SignalFault>
-    ensures { Finds parts_view result (part_of (map var_view vars.now) signal name.now) }
+    ensures { Finds sources_view result (part_of (map var_view vars.now) signal name.now) }
 {
     let asked = WantedSignal {
         owner: signal.owner,
@@ -96,7 +97,7 @@ pub(crate) fn push_parts<'a>(all: &mut Parts<'a>, signals: &[Parts<'a>]) -> Resu
 
 /// The parts of signals, one after the other.
 fn joined<'a>(alloc: Global, signals: &[Parts<'a>]) -> Result<Parts<'a>, AllocError>
-    ensures { IfOk result (λ parts. parts_view parts ≡ all_parts (signals_view signals.now)) }
+    ensures { IfOk result (λ parts. sources_view parts ≡ all_parts (signals_view signals.now)) }
 {
     let mut all = Vec::new(alloc);
     push_parts(&mut all, signals)?;
@@ -133,7 +134,7 @@ fn fitting<'a>(
     signal: LinkSignal,
     parts: Parts<'a>,
 ) -> Result<Parts<'a>, SignalFault>
-    ensures { Finds parts_view result (fitting signal (parts_view parts.entry)) }
+    ensures { Finds sources_view result (fitting signal (sources_view parts.entry)) }
 {
     let bits = parts_bits(&parts)?;
     if !signal.wanted.fits(bits) {
@@ -149,10 +150,10 @@ pub(crate) fn signal_parts<'a>(
     signal: LinkSignal,
     name: &SignalName,
 ) -> Result<Parts<'a>, SignalFault>
-    ensures { Finds parts_view result (signal_parts (map var_view vars.now) signal (name_view name.now)) }
+    ensures { Finds sources_view result (signal_parts (map var_view vars.now) signal (name_view name.now)) }
 {
     match name {
-        SignalName::Prefixed(name) => whole_of(alloc, vars, signal, name, true),
+        SignalName::Prefixed(names) => { whole_of(alloc, vars, signal, taken(vars, names), true) }
         SignalName::Wired(name) => whole_of(alloc, vars, signal, name, false),
         SignalName::Joined(names) => {
             let found = each_part(alloc, vars, signal, names)?;

@@ -18,7 +18,7 @@ use crate::signal_fault::{SignalFault, SignalOwner};
 use crate::source::{Kept, Source, WantedSignal};
 use crate::wanted::Wanted;
 use check_rows::Buses;
-use check_samples::{Probes, Reset, Values};
+use check_samples::{Clock, Edge, Probes, Reset, Values};
 use check_vcd::Var;
 use std::alloc::{AllocError, Global};
 
@@ -169,8 +169,13 @@ fn reset_by(kept: &[Kept<'_>], reset: Option<Source<'_>>, is_low: bool) -> Optio
 }
 
 /// What is looked at and kept of these sources.
-fn resolved_of(alloc: Global, is_low: bool, sources: &Sources<'_>) -> Result<Resolved, AllocError>
-    ensures { IfOk result (λ resolved. IsResolved resolved (found_of is_low (sources_view sources.now))) }
+fn resolved_of(
+    alloc: Global,
+    edge: Edge,
+    is_low: bool,
+    sources: &Sources<'_>,
+) -> Result<Resolved, AllocError>
+    ensures { IfOk result (λ resolved. IsResolved resolved (found_of edge is_low (sources_view sources.now))) }
 {
     let all = all_of(alloc, sources)?;
     let kept = values_kept(alloc, &all)?;
@@ -180,7 +185,10 @@ fn resolved_of(alloc: Global, is_low: bool, sources: &Sources<'_>) -> Result<Res
     let values = values_of(alloc, &kept, joins.bits)?;
     Ok(Resolved {
         probes: Probes {
-            clock: tap_by(&kept, sources.clock),
+            clock: Clock {
+                tap: tap_by(&kept, sources.clock),
+                edge,
+            },
             reset: reset_by(&kept, sources.reset, is_low),
             joins: joins.taps,
             channels: in_order(alloc, &ports, &masters)?,
@@ -207,5 +215,5 @@ pub fn find_signals(
         ≡ Err (fault_view fault)) }
 {
     let sources = sources_in(alloc, vars, buses, names)?;
-    Ok(resolved_of(alloc, names.is_low, &sources)?)
+    Ok(resolved_of(alloc, names.edge, names.is_low, &sources)?)
 }

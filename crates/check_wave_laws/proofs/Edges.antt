@@ -5,9 +5,12 @@ use Rattle.std.proofs.lemmas.List.Elements.{Contains-append_cases}
 use Rattle.std.proofs.lemmas.Option.{same_Some}
 use Rattle.std.proofs.lemmas.Slice.Eq.{bytes_eq-Decides}
 use Rattle.check_samples.specs.Digits.{bits_of, joined_of, part_if_any, with_joined}
-use Rattle.check_samples.specs.Rows.{Rows, and_then, crosses, followed_by, hand_alone, has_edge, is_active, is_one, is_unsure, is_zero, no_rows, ready_of, rises, row_alone, row_at, rows_at, rows_of, unknown_hand, valid_of}
+use Rattle.check_samples.specs.Rows.{Rows, and_then, crosses, followed_by, hand_alone, has_edge, is_active, is_early, is_late, is_one, is_unsure, is_zero, no_rows, ready_of, row_alone, row_at, rows_at, rows_of, ticks, unknown_hand, valid_of}
 use Rattle.check_samples.specs.declared.channel.Channel.{Channel}
 use Rattle.check_samples.specs.declared.channel.UnknownBit.{UnknownBit}
+use Rattle.check_samples.specs.declared.clock.Clock.{Clock}
+use Rattle.check_samples.specs.declared.clock.Edge.{Edge}
+use Rattle.check_samples.specs.declared.clock.Edge.TheVariants.{Rising, Falling}
 use Rattle.check_samples.specs.declared.edges.Needs.{Needs}
 use Rattle.check_samples.specs.declared.signal.Signal.{Signal}
 use Rattle.check_samples.specs.declared.tap.Tap.{Tap}
@@ -268,50 +271,62 @@ slot-before [] more slot digits is = absurd (cc)
 slot-before (value ∷ values) more zero digits is = is
 slot-before (value ∷ values) more (suc slot) digits is = slot-before values more slot digits is
 
--- bits that are 1 are so too before what is put together
-one-before : (parts : List Tap) (values : List (List ℕ)) (tap : Tap) → is_one (bits_of values tap) ≡ true
-    → bits_of (with_joined parts values) tap ≡ bits_of values tap
-one-before parts values tap one = go (slice_get values tap.slot) refl one
+-- bits that stand in values are so too before what is put together
+same-before : (P : List ℕ → Type 0) (parts : List Tap) (values : List (List ℕ)) (tap : Tap) → (P [] → ⊥)
+    → P (bits_of values tap) → bits_of (with_joined parts values) tap ≡ bits_of values tap
+same-before P parts values tap some holds = go (slice_get values tap.slot) refl holds
   where
-    go : (found : Option (List ℕ)) → slice_get values tap.slot ≡ found → is_one (part_if_any found tap) ≡ true
+    go : (found : Option (List ℕ)) → slice_get values tap.slot ≡ found → P (part_if_any found tap)
         → bits_of (with_joined parts values) tap ≡ part_if_any found tap
-    go None is none = absurd (cc)
-    go (Some digits) is some =
+    go None is none = absurd (some none)
+    go (Some digits) is so =
         ap (λ (found : Option (List ℕ)). part_if_any found tap)
         (slot-before values (joined_of values parts ∷ []) tap.slot digits is)
 
--- without a change of values no bits are 0 before a time and 1 at its end
-never-rises : (parts : List Tap) (values : List (List ℕ)) (tap : Tap)
-    → is_zero (bits_of (with_joined parts values) tap) ≡ true → is_one (bits_of values tap) ≡ true → ⊥
-never-rises parts values tap low high =
-    not-both (bits_of values tap) (subst (λ (bits : List ℕ). is_zero bits ≡ true) (one-before parts values tap high) low) high
+-- the bit that a clock is at its edge is some bit, and not the one before it
+late-some : (edge : Edge) → is_late edge [] ≡ true → ⊥
+late-some Rising is = absurd (cc)
+late-some Falling is = absurd (cc)
+
+early-late : (edge : Edge) (bits : List ℕ) → is_early edge bits ≡ true → is_late edge bits ≡ true → ⊥
+early-late Rising bits early late = not-both bits early late
+early-late Falling bits early late = not-both bits late early
+
+-- without a change of values a clock is not the one bit before a time and the other at its end
+never-ticks : (parts : List Tap) (values : List (List ℕ)) (clock : Clock)
+    → is_early clock.edge (bits_of (with_joined parts values) clock.tap) ≡ true
+    → is_late clock.edge (bits_of values clock.tap) ≡ true → ⊥
+never-ticks parts values clock early late =
+    early-late clock.edge (bits_of values clock.tap) (subst (λ (bits : List ℕ). is_early clock.edge bits ≡ true)
+    (same-before (λ (bits : List ℕ). is_late clock.edge bits ≡ true) parts values clock.tap (late-some clock.edge) late) early)
+    late
 
 -- without a change of its values a time has no edge
 pub no-edge : (wave : Wave) (values : List (List ℕ)) (so : List (List ℕ) → Bool) (below : Option ℕ)
     (one : HasEdge wave so below) → values_before wave one.time ≡ with_joined wave.probes.joins values
     → values_until wave one.time ≡ values → ⊥
 no-edge wave values so below one before until =
-    never-rises wave.probes.joins values wave.probes.clock
-    (subst (λ (vs : List (List ℕ)). is_zero (bits_of vs wave.probes.clock) ≡ true) before one.low)
-    (subst (λ (vs : List (List ℕ)). is_one (bits_of vs wave.probes.clock) ≡ true) until one.high)
+    never-ticks wave.probes.joins values wave.probes.clock
+    (subst (λ (vs : List (List ℕ)). is_early wave.probes.clock.edge (bits_of vs wave.probes.clock.tap) ≡ true) before one.early)
+    (subst (λ (vs : List (List ℕ)). is_late wave.probes.clock.edge (bits_of vs wave.probes.clock.tap) ≡ true) until one.late)
 
 -- nor has it a beat
 pub no-beat : (wave : Wave) (values : List (List ℕ)) (beat : SampledBeat)
     → values_before wave beat.time ≡ with_joined wave.probes.joins values → values_until wave beat.time ≡ values
     → IsSampledBeat wave beat → ⊥
 no-beat wave values beat before until is =
-    never-rises wave.probes.joins values wave.probes.clock
-    (subst (λ (vs : List (List ℕ)). is_zero (bits_of vs wave.probes.clock) ≡ true) before is.low)
-    (subst (λ (vs : List (List ℕ)). is_one (bits_of vs wave.probes.clock) ≡ true) until is.high)
+    never-ticks wave.probes.joins values wave.probes.clock
+    (subst (λ (vs : List (List ℕ)). is_early wave.probes.clock.edge (bits_of vs wave.probes.clock.tap) ≡ true) before is.early)
+    (subst (λ (vs : List (List ℕ)). is_late wave.probes.clock.edge (bits_of vs wave.probes.clock.tap) ≡ true) until is.late)
 
 pub edge-at : (wave : Wave) (time : ℕ) (beat : SampledBeat) → beat.time ≡ time → IsSampledBeat wave beat
     → has_edge (values_before wave time) (values_until wave time) wave.probes ≡ true
 edge-at wave time beat now is =
     subst (λ (n : ℕ). has_edge (values_before wave n) (values_until wave n) wave.probes ≡ true) now
-    (and_from (rises (values_before wave beat.time) (values_until wave beat.time) wave.probes.clock)
+    (and_from (ticks (values_before wave beat.time) (values_until wave beat.time) wave.probes.clock)
     (not (is_active (values_before wave beat.time) wave.probes.reset))
-    (and_from (is_zero (bits_of (values_before wave beat.time) wave.probes.clock))
-    (is_one (bits_of (values_until wave beat.time) wave.probes.clock)) is.low is.high)
+    (and_from (is_early wave.probes.clock.edge (bits_of (values_before wave beat.time) wave.probes.clock.tap))
+    (is_late wave.probes.clock.edge (bits_of (values_until wave beat.time) wave.probes.clock.tap)) is.early is.late)
     (not_from_false (is_active (values_before wave beat.time) wave.probes.reset) is.running))
 
 -- what has to be known at a time
@@ -406,14 +421,14 @@ pub beat-at : (wave : Wave) (needs : Needs) (time : ℕ) (beat : SampledBeat) �
     → tells needs (values_before wave time) beat.channel ≡ true → IsJoinedUntil wave time → is_whole wave.cut time ≡ true
     → IsSampledBeat wave beat
 beat-at wave needs time beat are now edge looked told joined whole =
-    let outside = and_parts (rises (values_before wave time) (values_until wave time) wave.probes.clock)
+    let outside = and_parts (ticks (values_before wave time) (values_until wave time) wave.probes.clock)
     (not (is_active (values_before wave time) wave.probes.reset)) edge in
-    let clock = and_parts (is_zero (bits_of (values_before wave time) wave.probes.clock))
-    (is_one (bits_of (values_until wave time) wave.probes.clock)) outside.0 in
+    let clock = and_parts (is_early wave.probes.clock.edge (bits_of (values_before wave time) wave.probes.clock.tap))
+    (is_late wave.probes.clock.edge (bits_of (values_until wave time) wave.probes.clock.tap)) outside.0 in
     record {
       looked = looked;
-      low = subst (λ (n : ℕ). is_zero (bits_of (values_before wave n) wave.probes.clock) ≡ true) (sym now) clock.0;
-      high = subst (λ (n : ℕ). is_one (bits_of (values_until wave n) wave.probes.clock) ≡ true) (sym now) clock.1;
+      early = subst (λ (n : ℕ). is_early wave.probes.clock.edge (bits_of (values_before wave n) wave.probes.clock.tap) ≡ true) (sym now) clock.0;
+      late = subst (λ (n : ℕ). is_late wave.probes.clock.edge (bits_of (values_until wave n) wave.probes.clock.tap) ≡ true) (sym now) clock.1;
       running = subst (λ (n : ℕ). is_active (values_before wave n) wave.probes.reset ≡ false) (sym now)
           (not-true (is_active (values_before wave time) wave.probes.reset) outside.1);
       shows = shown-by wave needs beat (subst (λ (n : ℕ). NeedsAre wave n needs) (sym now) are)

@@ -17,6 +17,7 @@ use Rattle.check_samples.specs.declared.signal.Signal.{Signal}
 use Rattle.check_samples.specs.declared.signal.Signal.TheVariants as signal
 use Rattle.check_signals.specs.Found.{LinkSources, NamedLink, NamesOf, signal_by, signals_named, parts_by, link_at, link_sources, links_from, system_asked, system_source, named_before, names_at, numbered, owner_of, sources_of, width_in}
 use Rattle.check_signals.specs.Names.{Joined, Prefixed, SignalName, Wired}
+use Rattle.check_signals.specs.Prefixes.{taken}
 use Rattle.check_signals.specs.Nets.{Bit, bit_among, bit_at, bit_within, bits_called, bits_wanted, codes_at, has_whole, indices_down, lone, meant, named_by, named_in, net_by, net_in, one_of, span_of, vector_in}
 use Rattle.check_signals.specs.Parts.{all_parts, fitting, part_of, signal_parts}
 use Rattle.check_signals.specs.Source.{WantedSignal, Changing, Constant, SearchFault, Kept, Source, Twice, Width, alone, constant_of, digit_in, left_out, measured, missing, parts_bits, signal_in, too_wide, unfound, width_of, within}
@@ -459,8 +460,8 @@ joined-fits vars signal names parts is =
 
 parts-fit : (vars : List Var) (signal : LinkSignal) (name : SignalName) (parts : List Source) → 0 < count_of signal.wanted
     → signal_parts vars signal name ≡ Ok parts → PartsFit vars signal.wanted parts
-parts-fit vars signal (Prefixed name) parts some is =
-    named-fits vars (record { owner = signal.owner; name = name; is_prefixed = true; wanted = signal.wanted }) parts some is
+parts-fit vars signal (Prefixed names) parts some is =
+    named-fits vars (record { owner = signal.owner; name = taken vars names; is_prefixed = true; wanted = signal.wanted }) parts some is
 parts-fit vars signal (Wired name) parts some is =
     named-fits vars (record { owner = signal.owner; name = name; is_prefixed = false; wanted = signal.wanted }) parts some is
 parts-fit vars signal (Joined names) parts some is = joined-fits vars signal names parts is

@@ -1,5 +1,5 @@
 -- What is kept has the bits of all that is looked at.
-use Rattle.std.proofs.Common.{◌≡◌, ◌∙◌, ℕ, zero, suc, ◌+◌, ◌-◌, ◌*◌, ◌<◌, ◌≤◌, ◌==◌, nat_lt, Bool, true, false, ◌||◌, cond, List, [], ◌∷◌, ◌++◌, length, get_or, map, replicate, Option, Some, None, Result, Ok, Err, arith, refl, sym, ap, subst, append_assoc}
+use Rattle.std.proofs.Common.{◌≡◌, ◌∙◌, ℕ, zero, suc, ◌+◌, ◌-◌, ◌*◌, ◌<◌, ◌≤◌, nat_lt, Bool, true, false, ◌||◌, cond, List, [], ◌∷◌, ◌++◌, length, get_or, map, Option, Some, None, Result, Ok, Err, arith, refl, sym, ap, subst, append_assoc}
 use Rattle.std.specs.Prelude.{⊤}
 use Rattle.std.specs.List.{cons_option}
 use Rattle.std.specs.Str.{bytes_eq}
@@ -15,9 +15,9 @@ use Rattle.check_vcd.specs.Codes.{coded_from, coded_in, as_widest}
 use Rattle.check_vcd.specs.Dump.{with_slot}
 use Rattle.check_vcd.specs.Header.{Var}
 use Rattle.check_vcd.specs.declared.codes.Coded.{Coded}
-use Rattle.check_samples.specs.Digits.{unknown}
 use Rattle.check_samples.specs.declared.channel.BeatTaps.TheVariants.{A, D}
 use Rattle.check_samples.specs.declared.channel.Channel.{Channel}
+use Rattle.check_samples.specs.declared.clock.Edge.{Edge}
 use Rattle.check_signals.specs.Found.{Found, LinkSources, FoundSources, all_by, all_of, bits_in, code_in, digits_in, distinct, find_of, flat, found_in, found_of, in_order, is_kept, is_same, joined_bits, joins_in, joins_of, link_bits, link_joins, values_kept, links_from, channels_of_link, channel_pairs, slot_place, sampling_of, slot_one, slots_from, sources_in, system_source, tap_by, tap_of, taps_from, width_in}
 use Rattle.check_signals.specs.Names.{SignalNames}
 use Rattle.check_signals.specs.Parts.{all_parts}
@@ -553,11 +553,11 @@ slots-of-others : (kept : List Kept) (clock : Source) (reset : Option Source) (o
 slots-of-others kept clock None others all = all.1
 slots-of-others kept clock (Some reset) others all = all.1.1
 
-pub found-fits : (vars : List Var) (masters ports : List Bus) (is_low : Bool) (sources : FoundSources)
+pub found-fits : (vars : List Var) (masters ports : List Bus) (edge : Edge) (is_low : Bool) (sources : FoundSources)
     → AllFit vars masters ports sources
-    → SamplingFits masters ports (sampling_of (found_of is_low sources))
-    × FindFits (sampling_of (found_of is_low sources)).widths (find_of vars (found_of is_low sources))
-found-fits vars masters ports is_low sources fits =
+    → SamplingFits masters ports (sampling_of (found_of edge is_low sources))
+    × FindFits (sampling_of (found_of edge is_low sources)).widths (find_of vars (found_of edge is_low sources))
+found-fits vars masters ports edge is_low sources fits =
     let others = flat sources.ports ++ flat sources.masters in
     let all = all_of sources in
     let kept = values_kept all in
@@ -645,11 +645,11 @@ all-found vars masters ports names found is =
     go (sources_in vars masters ports names) (λ sources x. sources-fit vars masters ports names sources x) is
   where
     go : (r : Result FoundSources SearchFault) → ((sources : FoundSources) → r ≡ Ok sources → AllFit vars masters ports sources)
-        → (r >>= (λ sources. Ok (found_of names.is_low sources))) ≡ Ok found
+        → (r >>= (λ sources. Ok (found_of names.edge names.is_low sources))) ≡ Ok found
         → SamplingFits masters ports (sampling_of found) × FindFits (sampling_of found).widths (find_of vars found)
     go (Err fault) fit e = absurd (cc)
     go (Ok sources) fit e =
-        let same : found_of names.is_low sources ≡ found = cc in
+        let same : found_of names.edge names.is_low sources ≡ found = cc in
         subst (λ (f : Found). SamplingFits masters ports (sampling_of f)
         × FindFits (sampling_of f).widths (find_of vars f)) same
-        (found-fits vars masters ports names.is_low sources (fit sources refl))
+        (found-fits vars masters ports names.edge names.is_low sources (fit sources refl))

@@ -8,7 +8,7 @@ use Rattle.check_samples.specs.Digits.{bits_of, with_joined}
 use Rattle.check_samples.specs.Edges.{edge_fault, needs_of, no_edges, with_edge}
 use Rattle.check_vcd.specs.declared.fault.Mistake.TheVariants.{Gap}
 use Rattle.check_samples.specs.Left.{BeforeLine, end_in, end_of_edges}
-use Rattle.check_samples.specs.Rows.{Probes, Rows, and_then, has_edge, is_active, is_one, is_zero, no_rows, rises, rows_of, some_crosses}
+use Rattle.check_samples.specs.Rows.{Probes, Rows, and_then, has_edge, is_active, is_early, is_late, no_rows, rows_of, some_crosses, ticks}
 use Rattle.check_samples.specs.Sampling.{Sampling, at_time, edges_now, edges_when, is_at, is_time, rows_from, rows_now, rows_when, with_value}
 use Rattle.check_samples.specs.declared.edges.Edges.{Edges}
 use Rattle.check_samples.specs.declared.edges.Needs.{Needs}
@@ -141,15 +141,15 @@ below-less : (next : Option ℕ) (early time : ℕ) → early < time → StandsB
 below-less None early time less below = tt
 below-less (Some next) early time less below = omega (arith, less, below)
 
--- the clock rises at a time
-abbrev rises-at : Wave → ℕ → Bool
-rises-at wave time = rises (values_before wave time) (values_until wave time) wave.probes.clock
+-- the clock ticks at a time
+abbrev ticks-at : Wave → ℕ → Bool
+ticks-at wave time = ticks (values_before wave time) (values_until wave time) wave.probes.clock
 
 rising : (wave : Wave) (so : List (List ℕ) → Bool) (below : Option ℕ) (one : HasEdge wave so below)
-    → rises-at wave one.time ≡ true
+    → ticks-at wave one.time ≡ true
 rising wave so below one =
-    and_from (is_zero (bits_of (values_before wave one.time) wave.probes.clock))
-    (is_one (bits_of (values_until wave one.time) wave.probes.clock)) one.low one.high
+    and_from (is_early wave.probes.clock.edge (bits_of (values_before wave one.time) wave.probes.clock.tap))
+    (is_late wave.probes.clock.edge (bits_of (values_until wave one.time) wave.probes.clock.tap)) one.early one.late
 
 module _ (wave : Wave) (time : ℕ) (next : Option ℕ) (ends : Ends wave (Some time) next)
     (below : StandsBelow next time) (so : List (List ℕ) → Bool) where
@@ -157,33 +157,33 @@ module _ (wave : Wave) (time : ℕ) (next : Option ℕ) (ends : Ends wave (Some 
   widen one = record {
     time = one.time;
     before = below-less next one.time time one.before below;
-    low = one.low;
-    high = one.high;
+    early = one.early;
+    late = one.late;
     was = one.was;
   }
 
-  here-is : rises-at wave time ≡ true → so (values_before wave time) ≡ true → HasEdge wave so next
+  here-is : ticks-at wave time ≡ true → so (values_before wave time) ≡ true → HasEdge wave so next
   here-is up was =
-      let clock = and_parts (is_zero (bits_of (values_before wave time) wave.probes.clock))
-      (is_one (bits_of (values_until wave time) wave.probes.clock)) up in
-      record { time = time; before = below; low = clock.0; high = clock.1; was = was }
+      let clock = and_parts (is_early wave.probes.clock.edge (bits_of (values_before wave time) wave.probes.clock.tap))
+      (is_late wave.probes.clock.edge (bits_of (values_until wave time) wave.probes.clock.tap)) up in
+      record { time = time; before = below; early = clock.0; late = clock.1; was = was }
 
   -- an edge below the next time is below the present one or at it
   where-is : (P : Type 0) → (HasEdge wave so (Some time) → P)
-      → (rises-at wave time ≡ true → so (values_before wave time) ≡ true → P) → HasEdge wave so next → P
+      → (ticks-at wave time ≡ true → so (values_before wave time) ≡ true → P) → HasEdge wave so next → P
   where-is P early now one = go (cases_lt one.time time) (cases_lt time one.time)
     where
       go : (one.time < time) ⊎ (time ≤ one.time) → (time < one.time) ⊎ (one.time ≤ time) → P
       go (inl less) later =
-          early (record { time = one.time; before = less; low = one.low; high = one.high; was = one.was })
+          early (record { time = one.time; before = less; early = one.early; late = one.late; was = one.was })
       go (inr from) (inl later) = absurd (quiet-edge wave (Some time) next ends so next one later one.before)
       go (inr from) (inr to) =
           let same : one.time ≡ time = omega (arith, from, to) in
-          now (subst (λ (n : ℕ). rises-at wave n ≡ true) same (rising wave so next one))
+          now (subst (λ (n : ℕ). ticks-at wave n ≡ true) same (rising wave so next one))
           (subst (λ (n : ℕ). so (values_before wave n) ≡ true) same one.was)
 
-  -- whether there was one, if the clock rises at the present time
-  flag-up : (flag : Bool) → rises-at wave time ≡ true → (flag ≡ true) ↔ HasEdge wave so (Some time)
+  -- whether there was one, if the clock ticks at the present time
+  flag-up : (flag : Bool) → ticks-at wave time ≡ true → (flag ≡ true) ↔ HasEdge wave so (Some time)
       → ((flag || so (values_before wave time)) ≡ true) ↔ HasEdge wave so next
   flag-up flag up know = (λ e. to flag (so (values_before wave time)) refl refl e, λ one. back one)
     where
@@ -199,11 +199,11 @@ module _ (wave : Wave) (time : ℕ) (next : Option ℕ) (ends : Ends wave (Some 
           (λ rise was. or-right flag (so (values_before wave time)) was) one
 
   -- and if it does not
-  flag-same : (flag : Bool) → rises-at wave time ≡ false → (flag ≡ true) ↔ HasEdge wave so (Some time)
+  flag-same : (flag : Bool) → ticks-at wave time ≡ false → (flag ≡ true) ↔ HasEdge wave so (Some time)
       → (flag ≡ true) ↔ HasEdge wave so next
   flag-same flag still know = (
     λ e. widen (know.0 e),
-    λ one. where-is (flag ≡ true) know.1 (λ rise was. absurd (both_ways (rises-at wave time) still rise)) one,
+    λ one. where-is (flag ≡ true) know.1 (λ rise was. absurd (both_ways (ticks-at wave time) still rise)) one,
   )
 
 -- no edge is below the first time
@@ -225,7 +225,7 @@ module _ (wave : Wave) (next : Option ℕ) (ends : Ends wave None next) where
 
 module _ (wave : Wave) (time : ℕ) (next : Option ℕ) (ends : Ends wave (Some time) next)
     (below : StandsBelow next time) (edges : Edges) (so_far : EdgesAre wave (Some time) edges) where
-  edges-more : (t : Bool) → rises-at wave time ≡ t
+  edges-more : (t : Bool) → ticks-at wave time ≡ t
       → EdgesAre wave next (cond t (with_edge edges (active_in wave (values_before wave time))
       (some_crosses (values_before wave time) wave.probes.channels)) edges)
   edges-more true up = record {
@@ -357,17 +357,17 @@ edges-at : (wave : Wave) (time : ℕ) (next : Option ℕ) (ends : Ends wave (Som
     → EdgesAre wave next (edges_when (Some time) s)
 edges-at wave time next ends s is below until =
     subst (λ (e : Edges). EdgesAre wave next e) (sym same)
-    (edges-more wave time next ends below s.edges is.edges (rises-at wave time) refl)
+    (edges-more wave time next ends below s.edges is.edges (ticks-at wave time) refl)
   where
     same : edges_when (Some time) s
-        ≡ cond (rises-at wave time) (with_edge s.edges (active_in wave (values_before wave time))
+        ≡ cond (ticks-at wave time) (with_edge s.edges (active_in wave (values_before wave time))
         (some_crosses (values_before wave time) wave.probes.channels)) s.edges
     same =
-        ap (λ (p : Probes). cond (rises s.before s.now p.clock)
+        ap (λ (p : Probes). cond (ticks s.before s.now p.clock)
         (with_edge s.edges (is_active s.before p.reset) (some_crosses s.before p.channels)) s.edges) is.probes
-        ∙ ap (λ (vs : List (List ℕ)). cond (rises vs s.now wave.probes.clock)
+        ∙ ap (λ (vs : List (List ℕ)). cond (ticks vs s.now wave.probes.clock)
         (with_edge s.edges (is_active vs wave.probes.reset) (some_crosses vs wave.probes.channels)) s.edges) is.before
-        ∙ ap (λ (vs : List (List ℕ)). cond (rises (values_before wave time) vs wave.probes.clock)
+        ∙ ap (λ (vs : List (List ℕ)). cond (ticks (values_before wave time) vs wave.probes.clock)
         (with_edge s.edges (active_in wave (values_before wave time))
         (some_crosses (values_before wave time) wave.probes.channels)) s.edges) (is.now ∙ sym until)
 
@@ -785,7 +785,7 @@ unfolding end_in last-ends
 from-ends wave [] whole joined time s runs = record {
   edges = edges_now s;
   are = edges-next wave time None (last-ends wave time s runs) s runs.sampler (now-below-none time);
-  is = ap (λ (p : Probes). end_of_edges (edge_fault p.reset (edges_now s))) runs.sampler.probes;
+  is = ap (λ (p : Probes). end_of_edges (edge_fault p.clock.edge p.reset (edges_now s))) runs.sampler.probes;
 }
 from-ends wave (At next ∷ happens) whole joined time s runs =
     time-ends wave time next happens s runs (from-ends wave happens whole joined)

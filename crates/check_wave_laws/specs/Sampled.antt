@@ -6,7 +6,7 @@ use Rattle.check_vcd.specs.Body.{Happens, At, Sets, Resumes, Wrong}
 use Rattle.check_samples.specs.Digits.{bits_of, extended, with_joined}
 use Rattle.check_samples.specs.Edges.{edge_fault}
 use Rattle.check_samples.specs.Left.{End, end_of_edges}
-use Rattle.check_samples.specs.Rows.{Probes, Rows, and_then, crosses, hand_alone, is_active, is_one, is_unsure, is_zero, no_rows, ready_of, row_alone, row_at, some_crosses, valid_of}
+use Rattle.check_samples.specs.Rows.{Probes, Rows, and_then, crosses, hand_alone, is_active, is_early, is_late, is_one, is_unsure, no_rows, ready_of, row_alone, row_at, some_crosses, valid_of}
 use Rattle.check_samples.specs.declared.channel.Channel.{Channel}
 use Rattle.check_samples.specs.declared.edges.Edges.{Edges}
 use Rattle.check_samples.specs.declared.signal.Signal.{Signal}
@@ -123,12 +123,12 @@ abbrev pub StandsBelow : Option ℕ → ℕ → Type 0
 StandsBelow None time = ⊤
 StandsBelow (Some below) time = time < below
 
--- an edge below a time: the clock was 0 before and is 1 at its end, and this was so of the values before it
+-- an edge below a time: the clock was the one bit before and is the other at its end, and this was so of the values before it
 pub record HasEdge (wave : Wave) (so : List (List ℕ) → Bool) (below : Option ℕ) : Type 0 where
   pub time : ℕ
   pub before : StandsBelow below time
-  pub low : is_zero (bits_of (values_before wave time) wave.probes.clock) ≡ true
-  pub high : is_one (bits_of (values_until wave time) wave.probes.clock) ≡ true
+  pub early : is_early wave.probes.clock.edge (bits_of (values_before wave time) wave.probes.clock.tap) ≡ true
+  pub late : is_late wave.probes.clock.edge (bits_of (values_until wave time) wave.probes.clock.tap) ≡ true
   pub was : so (values_before wave time) ≡ true
 
 -- what may be so of the values before an edge: anything; the reset is active, or not; valid and ready of some channel are 1
@@ -195,13 +195,13 @@ pub record HidesReady (wave : Wave) (beat : SampledBeat) : Type 0 where
   pub valid : is_one (bits_of (values_before wave beat.time) beat.channel.valid) ≡ true
   pub ready : is_unsure (bits_of (values_before wave beat.time) beat.channel.ready) ≡ true
 
--- it is a beat, or it is not known whether it is one: the clock was 0 before the time and is 1 at its end, the reset was
--- not active before it, valid and ready were 1 before it or one of them is hidden, and up to its end there is no gap and
+-- it is a beat, or it is not known whether it is one: the clock was 0 before the time and is 1 at its end, or for its falling
+-- edges the other way round; the reset was not active before it, valid and ready were 1 before it or one of them is hidden, and up to its end there is no gap and
 -- no line is wrong
 pub record IsSampledBeat (wave : Wave) (beat : SampledBeat) : Type 0 where
   pub looked : slice_get wave.probes.channels beat.place ≡ Some beat.channel
-  pub low : is_zero (bits_of (values_before wave beat.time) wave.probes.clock) ≡ true
-  pub high : is_one (bits_of (values_until wave beat.time) wave.probes.clock) ≡ true
+  pub early : is_early wave.probes.clock.edge (bits_of (values_before wave beat.time) wave.probes.clock.tap) ≡ true
+  pub late : is_late wave.probes.clock.edge (bits_of (values_until wave beat.time) wave.probes.clock.tap) ≡ true
   pub running : is_active (values_before wave beat.time) wave.probes.reset ≡ false
   pub shows : Meets wave beat ⊎ (HidesValid wave beat ⊎ HidesReady wave beat)
   pub joined : IsJoinedUntil wave beat.time
@@ -246,4 +246,4 @@ pub record AreSampled (wave : Wave) (rows : Rows) : Type 0 where
 pub record EndsSampled (wave : Wave) (end : End) : Type 0 where
   pub edges : Edges
   pub are : EdgesAre wave None edges
-  pub is : end ≡ end_of_edges (edge_fault wave.probes.reset edges)
+  pub is : end ≡ end_of_edges (edge_fault wave.probes.clock.edge wave.probes.reset edges)

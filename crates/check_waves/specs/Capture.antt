@@ -17,7 +17,7 @@ use Rattle.check_signals.specs.Names.{SignalNames, names_of_file}
 use Rattle.check_signals.specs.Source.{SearchFault, fault_view}
 use Rattle.check_signals.specs.declared.fault.KeyFault.{KeyFault}
 use Rattle.tl_streams.specs.Streams.{ReadsUpTo}
-use Rattle.check_waves.specs.Links.{WaveLinks, links_of}
+use Rattle.check_waves.specs.Links.{WaveLinks, wave_links_of}
 use Rattle.check_waves.specs.Out.{EndsCapture, IsOut, capture_of}
 use Rattle.check_waves.specs.declared.fault.WaveFault.{WaveFault}
 use Rattle.check_waves.specs.declared.fault.WaveFault.TheVariants as wave
@@ -71,7 +71,7 @@ pub record GivesLinks (old new : Option (List ℕ)) (links : WaveLinks) : Type 0
   pub described : Describes file system
   pub names : SignalNames
   pub named : names_of_file file ≡ Ok names
-  pub are : links ≡ links_of system names
+  pub are : links ≡ wave_links_of system names
 
 -- the fault is the first of what was read
 pub record HasSystemFault (old new : Option (List ℕ)) (fault : SystemFault) : Type 0 where
@@ -134,7 +134,7 @@ pub record IsWaveRefused (read_old read_new : Option (List ℕ)) (fault : WaveFa
   pub written : Appends old new []
 
 -- the system has these links, and the capture of the text was written, as far as was answered, and ended so
-pub record IsWritten (read_old read_new : Option (List ℕ)) (result : Result Unit WaveFault) (text : List ℕ)
+pub record IsCaptureWritten (read_old read_new : Option (List ℕ)) (result : Result Unit WaveFault) (text : List ℕ)
     (old new : Option (List ℕ)) : Type 0 where
   pub links : WaveLinks
   pub given : GivesLinks read_old read_new links
@@ -147,9 +147,9 @@ pub record IsWritten (read_old read_new : Option (List ℕ)) (result : Result Un
 
 abbrev pub IsCapture : Option (List ℕ) → Option (List ℕ) → Result Unit WaveFault → List ℕ → Option (List ℕ)
     → Option (List ℕ) → Type 0
-IsCapture read_old read_new (Ok done) text old new = IsWritten read_old read_new (Ok done) text old new
+IsCapture read_old read_new (Ok done) text old new = IsCaptureWritten read_old read_new (Ok done) text old new
 IsCapture read_old read_new (Err fault) text old new =
-    IsWaveRefused read_old read_new fault text old new ⊎ IsWritten read_old read_new (Err fault) text old new
+    IsWaveRefused read_old read_new fault text old new ⊎ IsCaptureWritten read_old read_new (Err fault) text old new
 
 -- ---- for the proofs
 

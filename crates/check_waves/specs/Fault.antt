@@ -45,13 +45,13 @@ of_read read.Read = Read
 of_read read.Memory = Memory
 
 -- the status that the program ends with
-abbrev pub status_of : WaveFault → ℕ
-status_of (System fault) = 1
-status_of (Keys fault) = 1
-status_of (Signal fault) = 1
-status_of (Dump line mistake) = 1
-status_of (Unknown unknown) = 1
-status_of (Edges why) = 1
-status_of Read = 5
-status_of Write = 5
-status_of Memory = 4
+abbrev pub wave_status_of : WaveFault → ℕ
+wave_status_of (System fault) = 1
+wave_status_of (Keys fault) = 1
+wave_status_of (Signal fault) = 1
+wave_status_of (Dump line mistake) = 1
+wave_status_of (Unknown unknown) = 1
+wave_status_of (Edges why) = 1
+wave_status_of Read = 5
+wave_status_of Write = 5
+wave_status_of Memory = 4

@@ -13,20 +13,20 @@ pub record WaveLinks : Type 0 where
   pub ports : List Bus
   pub names : SignalNames
 
-abbrev pub master_buses : List Master → List Bus
-master_buses masters = map (λ (master : Master). master.bus) masters
+abbrev pub buses_of_masters : List Master → List Bus
+buses_of_masters masters = map (λ (master : Master). master.bus) masters
 
-abbrev pub port_buses : List Port → List Bus
-port_buses ports = map (λ (port : Port). port.bus) ports
+abbrev pub buses_of_ports : List Port → List Bus
+buses_of_ports ports = map (λ (port : Port). port.bus) ports
 
 -- the links of a system whose signals have these names
-abbrev pub links_of : Description → SignalNames → WaveLinks
-links_of system names =
-    record { masters = master_buses system.masters; ports = port_buses system.ports; names = names }
+abbrev pub wave_links_of : Description → SignalNames → WaveLinks
+wave_links_of system names =
+    record { masters = buses_of_masters system.masters; ports = buses_of_ports system.ports; names = names }
 
 -- what contracts see
-abbrev pub links_view : code_links.WaveLinks → WaveLinks
-links_view links = record {
+abbrev pub wave_links_view : code_links.WaveLinks → WaveLinks
+wave_links_view links = record {
   masters = links.master_buses.items;
   ports = links.port_buses.items;
   names = names_view links.names;

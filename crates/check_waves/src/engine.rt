@@ -6,7 +6,7 @@ ghost use Rattle.check_vcd.specs.Header.{var_view};
 ghost use Rattle.check_samples.specs.Left.{left_in};
 ghost use Rattle.check_signals.specs.Found.{slot_one, slots_from};
 ghost use Rattle.check_waves.specs.Capture.{GivesLinks, IsCapture, IsOpened, IsUnopened};
-ghost use Rattle.check_waves.specs.Links.{links_view};
+ghost use Rattle.check_waves.specs.Links.{wave_links_view};
 ghost use Rattle.check_waves.specs.Out.{AppendsFront, EndsCapture, Finishes, IsOut, IsPushed, Moves, capture_of, is_cut, is_marked};
 
 use crate::fault::WaveFault;
@@ -73,9 +73,9 @@ fn sampler_of<D: Read + Drop>(
 ) -> Result<Sampler, WaveFault>
     ensures ok { (text : Option (List ℕ)) → Opens text (map var_view vars.now) dump.old
         → IfOk result (λ sampler. IfSome text
-        (IsOpened (links_view links.now) (left_in dump.new sampler))) }
+        (IsOpened (wave_links_view links.now) (left_in dump.new sampler))) }
     ensures fault { (text : Option (List ℕ)) → Opens text (map var_view vars.now) dump.old
-        → IfErr result (λ fault. IfSome text (IsUnopened (links_view links.now) fault)) }
+        → IfErr result (λ fault. IfSome text (IsUnopened (wave_links_view links.now) fault)) }
 {
     let buses = Buses {
         masters: &links.master_buses,
@@ -86,11 +86,16 @@ fn sampler_of<D: Read + Drop>(
     Ok(Sampler::new(resolved.probes, resolved.values))
 }
 
-/// Opens a dump; answers the rows that are to come of it.
-fn open<D: Read + Drop>(alloc: Global, reader: D, links: &WaveLinks) -> Result<Rows<D>, WaveFault>
-    ensures ok { IfOk result (λ rows. IfSome (D.remaining reader) (IsOpened (links_view links.now) rows)) }
+/// Opens a dump of a system with these links; answers the rows that are to come of it. The header of the dump is read, up to
+/// the first fault, and then it is looked where its signals are.
+pub fn open_dump<D: Read + Drop>(
+    alloc: Global,
+    reader: D,
+    links: &WaveLinks,
+) -> Result<Rows<D>, WaveFault>
+    ensures ok { IfOk result (λ rows. IfSome (D.remaining reader) (IsOpened (wave_links_view links.now) rows)) }
     ensures fault { IfErr result (λ fault. IfSome (D.remaining reader)
-        (IsUnopened (links_view links.now) fault)) }
+        (IsUnopened (wave_links_view links.now) fault)) }
 {
     let (vars, mut dump) = Dump::open(alloc, reader)?;
     let sampler = sampler_of(alloc, &mut dump, &vars, links)?;
@@ -265,11 +270,11 @@ fn write_linked<D: Read + Drop, W: Write>(
     writer: &mut LimitedWriter<'_, W>,
 ) -> Result<(), WaveFault>
     ensures same_writer { writer.new.writer.ghost_name ≡ writer.old.writer.ghost_name }
-    ensures written { (read_old read_new : Option (List ℕ)) → GivesLinks read_old read_new (links_view links.now)
+    ensures written { (read_old read_new : Option (List ℕ)) → GivesLinks read_old read_new (wave_links_view links.now)
         → IfSome (D.remaining dump) (λ text. IsCapture read_old read_new result text
         (W.contents writer.old.writer.now) (W.contents writer.new.writer.now)) }
 {
-    let rows = open(alloc, dump, links)?;
+    let rows = open_dump(alloc, dump, links)?;
     let answer = write_rows(alloc, rows, writer);
     end_capture(writer, answer)
 }

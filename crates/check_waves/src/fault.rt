@@ -1,6 +1,6 @@
 //! Why not all rows were written.
 ghost use Rattle.std.specs.Prelude.{◌≡◌};
-ghost use Rattle.check_waves.specs.Fault.{of_dump, of_keys, of_read, of_rows, of_signal, of_system, status_of};
+ghost use Rattle.check_waves.specs.Fault.{of_dump, of_keys, of_read, of_rows, of_signal, of_system, wave_status_of};
 ghost use Rattle.check_waves.specs.declared.fault.WaveFault.TheVariants.{Write, Memory};
 
 use check_keys::SystemFault;
@@ -38,7 +38,7 @@ pub enum WaveFault {
 impl WaveFault {
     /// The status that the program ends with.
     pub fn status(&self) -> u8
-        ensures { result ≡ status_of self.now }
+        ensures { result ≡ wave_status_of self.now }
     {
         match self {
             WaveFault::Memory => 4,
@@ -58,14 +58,8 @@ fn write_beat<W: fmt::Write>(f: &mut fmt::Formatter<W>, unknown: &UnknownBit) ->
         "D"
     };
     match unknown.link {
-        Link::Master(number) => write!(
-            f,
-            "tlvcd: time {time}, m{number} {channel}: {signal} is unknown"
-        ),
-        Link::Port(number) => write!(
-            f,
-            "tlvcd: time {time}, p{number} {channel}: {signal} is unknown"
-        ),
+        Link::Master(number) => write!(f, "time {time}, m{number} {channel}: {signal} is unknown"),
+        Link::Port(number) => write!(f, "time {time}, p{number} {channel}: {signal} is unknown"),
     }
 }
 
@@ -81,31 +75,46 @@ fn hint_of(is_low: bool) -> &'static str {
 /// Why the edges of a dump are none to take beats at.
 fn write_edges<W: fmt::Write>(f: &mut fmt::Formatter<W>, why: EdgeFault) -> fmt::Result {
     match why {
-        EdgeFault::NeverRises => f.write_str("tlvcd: the clock never rises"),
+        EdgeFault::NeverRises => f.write_str("the clock never rises"),
+        EdgeFault::NeverFalls => f.write_str("the clock never falls"),
         EdgeFault::ResetAtEdges(is_low) => {
             let hint = hint_of(is_low);
-            write!(f, "tlvcd: the reset is active at every edge{hint}")
+            write!(f, "the reset is active at every edge{hint}")
         }
         EdgeFault::ResetAtBeats(is_low) => {
             let hint = hint_of(is_low);
-            write!(f, "tlvcd: the reset is active at every beat{hint}")
+            write!(f, "the reset is active at every beat{hint}")
         }
     }
 }
 
-impl fmt::Display for WaveFault {
-    fn fmt<W: fmt::Write>(&self, f: &mut fmt::Formatter<W>) -> fmt::Result {
+impl WaveFault {
+    /// Writes what is wrong, without the program that says so.
+    pub fn write_words<W: fmt::Write>(&self, f: &mut fmt::Formatter<W>) -> fmt::Result {
         match self {
             WaveFault::System(fault) => write!(f, "{fault}"),
             WaveFault::Keys(fault) => write!(f, "{fault}"),
-            WaveFault::Signal(fault) => write!(f, "tlvcd: {fault}"),
-            WaveFault::Dump(line, mistake) => write!(f, "tlvcd: line {line}: {mistake}"),
+            WaveFault::Signal(fault) => write!(f, "{fault}"),
+            WaveFault::Dump(line, mistake) => write!(f, "line {line}: {mistake}"),
             WaveFault::Unknown(unknown) => write_beat(f, unknown),
             WaveFault::Edges(why) => write_edges(f, *why),
             WaveFault::Read => f.write_str("read failed"),
             WaveFault::Write => f.write_str("write failed"),
             WaveFault::Memory => f.write_str("memory refused"),
         }
+    }
+}
+
+impl fmt::Display for WaveFault {
+    fn fmt<W: fmt::Write>(&self, f: &mut fmt::Formatter<W>) -> fmt::Result {
+        if let WaveFault::Signal(_)
+        | WaveFault::Dump(_, _)
+        | WaveFault::Unknown(_)
+        | WaveFault::Edges(_) = self
+        {
+            f.write_str("tlvcd: ")?;
+        }
+        self.write_words(f)
     }
 }
 

@@ -6,7 +6,7 @@ ghost use Rattle.check_description.specs.declared.read.TheConstants.{MAX_SYSTEM}
 ghost use Rattle.check_signals.specs.Names.{names_view};
 ghost use Rattle.tl_streams.specs.Streams.{ReadsUpTo};
 ghost use Rattle.check_waves.specs.Capture.{Describes, GivesLinks, IsOfSystem};
-ghost use Rattle.check_waves.specs.Links.{links_of as links_of_system, links_view, master_buses as buses_of_masters, port_buses as buses_of_ports};
+ghost use Rattle.check_waves.specs.Links.{buses_of_masters, buses_of_ports, wave_links_of, wave_links_view};
 
 use crate::fault::WaveFault;
 use check_beats::Bus;
@@ -52,7 +52,7 @@ fn links_of(
     system: &Description,
     names: SignalNames,
 ) -> Result<WaveLinks, AllocError>
-    ensures { IfOk result (λ links. links_view links ≡ links_of_system system.now (names_view names)) }
+    ensures { IfOk result (λ links. wave_links_view links ≡ wave_links_of system.now (names_view names)) }
 {
     Ok(WaveLinks {
         master_buses: master_buses(alloc, system.masters())?,
@@ -64,7 +64,7 @@ fn links_of(
 /// The links of the system that a file describes, with the names that it gives.
 fn named_links(alloc: Global, system: &Description, bytes: &[u8]) -> Result<WaveLinks, WaveFault>
     ensures ok { (old new : Option (List ℕ)) → ReadsUpTo (MAX_SYSTEM + 1) old new bytes.now
-        → Describes bytes.now system.now → IfOk result (λ links. GivesLinks old new (links_view links)) }
+        → Describes bytes.now system.now → IfOk result (λ links. GivesLinks old new (wave_links_view links)) }
     ensures fault { (old new : Option (List ℕ)) → ReadsUpTo (MAX_SYSTEM + 1) old new bytes.now
         → Describes bytes.now system.now → IfErr result (IsOfSystem old new) }
 {
@@ -75,7 +75,7 @@ fn named_links(alloc: Global, system: &Description, bytes: &[u8]) -> Result<Wave
 /// What the bytes of a system file say of its links.
 fn links_in(alloc: Global, bytes: &[u8]) -> Result<WaveLinks, WaveFault>
     ensures ok { (old new : Option (List ℕ)) → ReadsUpTo (MAX_SYSTEM + 1) old new bytes.now
-        → IfOk result (λ links. GivesLinks old new (links_view links)) }
+        → IfOk result (λ links. GivesLinks old new (wave_links_view links)) }
     ensures fault { (old new : Option (List ℕ)) → ReadsUpTo (MAX_SYSTEM + 1) old new bytes.now
         → IfErr result (IsOfSystem old new) }
 {
@@ -92,7 +92,7 @@ pub fn read_links<S: Read>(
 ) -> Result<WaveLinks, WaveFault>
     ensures same { reader.new.reader.ghost_name ≡ reader.old.reader.ghost_name }
     ensures ok { IfOk result (λ links. GivesLinks (S.remaining reader.old.reader.now)
-        (S.remaining reader.new.reader.now) (links_view links)) }
+        (S.remaining reader.new.reader.now) (wave_links_view links)) }
     ensures fault { IfErr result (IsOfSystem (S.remaining reader.old.reader.now)
         (S.remaining reader.new.reader.now)) }
 {

@@ -4,4 +4,4 @@ use Rattle.check_signals.proofs.keys.find_signal.Goals as goal
 
 pub returns : goal.returns
 returns c = rw (← c.name.ensures)
-    (table_get c.get.result c.name.result.now c.args.wires.now.entries c.get.ensures.value)
+    (table_get c.get.result c.name.result.now c.args.table.now.entries c.get.ensures.value)

@@ -3,7 +3,8 @@ use Rattle.std.proofs.Common.{◌≡◌, drop, map}
 use Rattle.std.specs.Option.{option_map}
 use Rattle.toml.specs.View.{table_view}
 use Rattle.tl_text.specs.Reading.{each, with_front}
-use Rattle.check_signals.specs.Names.{manner_view, name_in, name_view}
+use Rattle.check_signals.specs.Names.{name_in, name_view}
+use Rattle.check_signals.specs.Prefixes.{manner_view}
 use Rattle.check_signals.proofs.keys.names_of.Given as goal
 
 abbrev pub invariant-loop-signal : goal.invariant-loop-signal

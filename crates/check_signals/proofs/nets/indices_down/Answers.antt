@@ -1,5 +1,5 @@
 -- One index more.
-use Rattle.std.proofs.Common.{◌≡◌, ◌∙◌, ◌-◌, ◌++◌, ◌∷◌, [], ap, arith, sym}
+use Rattle.std.proofs.Common.{◌∙◌, ◌-◌, ◌++◌, ◌∷◌, [], ap, arith, sym}
 use Rattle.std.proofs.lemmas.List.FromFn.{map-range_with_len_more}
 use Rattle.check_signals.specs.Nets.{indices_down}
 use Rattle.check_signals.proofs.nets.indices_down.Goals as goal

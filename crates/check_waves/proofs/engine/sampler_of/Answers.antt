@@ -4,13 +4,13 @@ use Rattle.std.specs.Option.{IfSome}
 use Rattle.check_vcd.specs.Header.{var_view}
 use Rattle.check_waves.specs.Capture.{IsUnopened, found_among}
 use Rattle.check_waves.specs.Fault.{of_signal}
-use Rattle.check_waves.specs.Links.{links_view}
+use Rattle.check_waves.specs.Links.{wave_links_view}
 use Rattle.check_waves.proofs.OpenLemmas.{fails-by, found-is, opened-rows, unopened-signal}
 use Rattle.check_waves.proofs.engine.sampler_of.Goals as goal
 
 pub returns-in_err-resolved-clause-fault : goal.returns-in_err-resolved-clause-fault
 returns-in_err-resolved-clause-fault g c text opens =
-    let links = links_view c.args.links.now in
+    let links = wave_links_view c.args.links.now in
     let fault = c.in_err-resolved.field-0.0 in
     fails-by c.from_residual.result (of_signal fault) (λ f. IfSome text (IsUnopened links f))
     c.from_residual.ensures.1
@@ -19,7 +19,7 @@ returns-in_err-resolved-clause-fault g c text opens =
 
 pub returns-clause-ok : goal.returns-clause-ok
 returns-clause-ok g c text opens =
-    let links = links_view c.args.links.now in
+    let links = wave_links_view c.args.links.now in
     let vars = map var_view c.args.vars.now in
     let f = found-is (found_among vars links) c.in_ok-resolved.resolved
     (rw (c.deref.ensures.value, c.deref-2.ensures.value) at c.in_ok-resolved.ensures) in
