@@ -140,7 +140,7 @@ def of_runs(places):
     threads = files.errors("crates/tl_workers/src/fault.rt", "ThreadFault")
     reads = files.errors("crates/tl_streams/src/streams.rt", "ReadFault")
     inputs = [said for said in files.errors("crates/tl_streams/src/input.rt", "InputFault") if said.key != "Script"]
-    checks = [said for said in files.errors("crates/check_program/src/fault.rt", "CheckFault") if said.key not in ("System", "Capture")]
+    checks = [said for said in files.errors("crates/check_program/src/fault.rt", "CheckFault") if said.key in ("Read", "Write", "Memory")]
     for said in (*threads, *reads, *inputs, *checks):
         places.tell(keys.get(said.key) == said.text, f"{said.at}: {said.text!r} of {said.key} is {keys.get(said.key)!r} ({places.run_faults[0].path})")
     places.said(runs, files.words("crates/tl_streams/src/streams.rt", r'#\[error\("(?P<text>[^"]+)"\)\]\npub struct WriteFault;'), is_whole=False)

@@ -24,6 +24,8 @@ SYSTEM_FAULT = re.compile(
     r"|masters \d+ and \d+ share source \d+)\n")
 CAPTURE_FAULT = re.compile(r"capture: line \d+: (wrong header|row too long|cut by a fault|wrong count of columns|bad number|number out of range|no such link"
                            r"|no such channel|time falls|two beats at one time)\n")
+# of what begins as a dump: no system here names signals
+UNNAMED = re.compile(r"system: (missing clock|no signals|(port|master) \d+: no signals)\n")
 REPLY = rf"({'|'.join(REPLIES)})( denied)?( ([0-9a-f]{{2}}|xx)+)?"
 TRACE = re.compile(rf"m\d+ s\d+ ({'|'.join(OPERATIONS)}) 0x[0-9a-f]+ [0-8]( ([0-9a-f]{{2}}|--)+)? -> {REPLY} p\d+ #\d+")
 ENDS = {
@@ -37,7 +39,7 @@ ENDS = {
 IMAGES = {"none.bin": None, "short.bin": 16, "page.bin": 4096, "long.bin": 70000}
 OTHERS = ("missing.bin", "folder", "dangling.bin", "", ".", "short.bin/", "/proc/self/mem", "/dev/null", "a" * 300, "\\u0000")
 WORDS = ["bus", "port", "master", "kind", "base", "length", "ranges", "image", "unknown", "sizes", "order", "volatile", "sources", "first", "stride",
-         "name", "=",
+         "name", "names", "signals", "=",
          "=", "[[port]]", "[[master]]", "[", "]", "{", "}", ",", "\n", "\n", "0", "1", "4", "64", "-1", "65536", "0x1000", "1.5", "true", "'ram'",
          "'device'", "'short.bin'", "'00ff'", "'accept'", "[0, 3]", "'''", '"""', "#", "\\", "\0", "é"]
 VALUES = ["0", "1", "2", "4", "16", "-1", "64", "0x1000", "0x1_0000", "65536", "9223372036854775807", "9223372036854775808", "1.5", "true", "false",
@@ -187,7 +189,7 @@ def is_right(status, out, err, traces):
     if lines.pop() != "":
         return False
     if status == 1:
-        fault = SYSTEM_FAULT.fullmatch(err) and not lines or CAPTURE_FAULT.fullmatch(err)
+        fault = (SYSTEM_FAULT.fullmatch(err) or UNNAMED.fullmatch(err)) and not lines or CAPTURE_FAULT.fullmatch(err)
     else:
         fault = status in ENDS and err == "" and lines and ENDS[status].fullmatch(lines.pop())
     return bool(fault) and all(TRACE.fullmatch(line) for line in lines) and (traces or not lines)

@@ -237,7 +237,7 @@ def check_readme(folder, table):
     rtl.tell(f"{path}: more than ten lines", len(commands.splitlines()) <= 10)
     shown = "".join(f"    {line}\n" for line in commands.splitlines()) + f"\nprints\n\n    {prints}\n"
     rtl.tell(f"{path}: docs/CAPTURE.md has other commands", shown in rtl.read(os.path.join(TOP, "docs", "CAPTURE.md")))
-    commands = commands.replace("/tmp/", folder.directory + "/").replace("./tlcheck ", rtl.TLCHECK + " ").replace("./tlvcd ", rtl.TLVCD + " ")
+    commands = commands.replace("/tmp/", folder.directory + "/").replace("./tlcheck ", rtl.TLCHECK + " ")
     for words, expected in ((commands, prints), (re.sub(r"-DBUG=\w+ ", "", commands), without)):
         done = subprocess.run(["bash", "-c", words], cwd=TOP, stdout=subprocess.PIPE, text=True)
         rtl.tell(f"{path}: {done.stdout}", done.stdout.splitlines()[-1:] == [expected])

@@ -1,5 +1,6 @@
-"""The runs of tlcheck: a lawful and an unlawful capture, images, and the file of what was covered."""
+"""The runs of tlcheck: a lawful and an unlawful capture, a dump, images, and the file of what was covered."""
 
+import dump_runs
 from common import HEADER, TLCHECK
 from streams import FAULT, MOST_CALLS, READ_FAILED, STREAM, WRITE_FAILED, Run, by_bytes, ends
 
@@ -249,6 +250,40 @@ def coverage():
     yield run("nothing is covered", end, system=TWO_SOURCES, rows=capture(""), words=TO_FILE)
 
 
+# A master that puts no byte with `v`, which is answered with `w`; the header of a dump, and the dump: the beats cross at 5 and at 7.
+DUMPED = dump_runs.SYSTEM.replace(b"a_mask = '1'", b"a_mask = '0'").replace(b"d_valid = '0', d_ready = '0'", b"d_valid = 'w', d_ready = '1'")
+HEAD = b'$var wire 1 ! c $end $var wire 1 " v $end $var wire 1 # w $end $enddefinitions $end\n'
+DUMP = HEAD + b'0! 1" 0# #5 1! #6 0! 0" 1# #7 1! #8 0! #9\n'
+DUMP_LINE = b"lawful: 2 rows, 1 requests, 1 answered\n"
+AT_MASTERS = ["--links", "masters"]
+# Dumps, their words, and the line of their fault.
+NO_DUMPS = (
+    (b"$", AT_MASTERS, b"dump: line 1: cut in its header\n"),
+    (b" \n$upscope $end ", AT_MASTERS, b"dump: line 2: not a dump\n"),
+    (HEAD + b"b2 !\n", AT_MASTERS, b"dump: line 2: bad value\n"),
+    (HEAD + b"0! #5 0!\n", AT_MASTERS, b"dump: the clock never rises\n"),
+    (DUMP, [], b"system: port 0: no signals\n"),
+)
+
+
+def dumps():
+    """A dump is judged however its bytes come, or has its fault; each read of it fails once, and each write of its verdict."""
+    for flow in (by_bytes(), by_bytes("before")):
+        for front in (b"", b"\n\t "):
+            it = run("a dump", ends(0, DUMP_LINE), system=DUMPED, rows=front + DUMP, words=AT_MASTERS, capture=flow, written=flow)
+            yield it
+            yield from_input(it)
+    for rows, words, line in NO_DUMPS:
+        yield run("no dump", ends(FAULT, b"", line), system=DUMPED, rows=rows, words=words)
+    for at in range(len(DUMP) + 1):
+        end = ends(STREAM, b"", READ_FAILED)
+        yield run(f"read {at} of a dump fails", end, system=DUMPED, rows=DUMP, words=AT_MASTERS, capture=by_bytes("fails", at))
+    yield run("no read of a dump ends", ends(STREAM, b"", READ_FAILED), system=DUMPED, rows=DUMP, words=AT_MASTERS, capture=by_bytes("forever"))
+    for at in range(len(DUMP_LINE)):
+        end = ends(STREAM, DUMP_LINE[:at], WRITE_FAILED)
+        yield run(f"write {at} fails", end, system=DUMPED, rows=DUMP, words=AT_MASTERS, written=by_bytes("fails", at))
+
+
 def runs():
-    for of in (failed_reads, failed_writes, verdicts, told, refused, images, named, coverage):
+    for of in (failed_reads, failed_writes, verdicts, told, refused, dumps, images, named, coverage):
         yield from of()

@@ -16,7 +16,7 @@ const ABOUT: &str = "Judges whether a captured trace of a TileLink crossbar is l
 
 /// What help says at its end.
 const AFTER_HELP: &str = "\
-SYSTEM describes the ports and masters. CAPTURE has a row for each beat that crossed a link:
+SYSTEM describes the ports and masters. CAPTURE is a dump (VCD), or has a row for each beat that crossed a link:
   time,link,channel,opcode,param,size,source,address,mask,data,denied,corrupt
   10,m0,A,4,0,2,3,1000,0f,,,
   12,p0,D,1,,2,3,,,xxxxxxxx33221100,0,0
@@ -142,7 +142,7 @@ fn capture_word<'a>(alloc: Global) -> Arg<'a>
     ensures rule { rule_of result ≡ capture_rule }
     ensures local { result.global ≡ false }
 {
-    let help = "The file with the capture; standard input if there is none, or -";
+    let help = "The file with the capture or the dump; standard input if there is none, or -";
     valued(alloc, "capture", "CAPTURE", help)
 }
 

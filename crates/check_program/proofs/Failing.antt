@@ -1,7 +1,6 @@
 -- What a fault says of a result.
 use Rattle.std.proofs.Common.{◌≡◌, ◌≢◌, ℕ, Bool, List, Option, Result, Ok, Err, IfErr, IfOk, inl, inr, sym, subst}
 use Rattle.std.specs.Io.KnownBytes.{Appends}
-use Rattle.std.proofs.KnownBytes.{Keeps-refl}
 use Rattle.std.specs.Result.{IsErrAnd}
 use Rattle.check_keys.specs.declared.fault.SystemFault.{SystemFault}
 use Rattle.check_keys.specs.declared.fault.SystemFault.TheVariants as system
@@ -55,21 +54,6 @@ pub unprepared_by : (terms : Terms) (parts : Parts) (images : List (List ℕ)) (
 unprepared_by terms parts images system.Memory first = tt
 unprepared_by terms parts images fault first = first (λ is. cc is)
 
-unprepared : (asked : Asked) (given : GivenParts) (bytes : Option (List ℕ)) (fault : CheckFault)
-    → IsUnprepared asked.terms given.parts given.images fault → IsFaulty asked given bytes bytes fault
-unprepared asked given bytes (check.System fault) is = (is, Keeps-refl bytes)
-unprepared asked given bytes (check.Capture fault) is = absurd is
-unprepared asked given bytes check.Read is = absurd is
-unprepared asked given bytes check.Write is = absurd is
-unprepared asked given bytes check.Memory is = inl (Keeps-refl bytes)
-
--- nothing was written
-pub checked_unprepared : (asked : Asked) (given : GivenParts) (bytes : Option (List ℕ)) (result : Result Bool CheckFault)
-    (fault : CheckFault) → IsErrAnd result (λ e. e ≡ fault) → IsUnprepared asked.terms given.parts given.images fault
-    → IsChecked asked given bytes bytes result
-checked_unprepared asked given bytes result fault is why =
-    checked_by asked given bytes bytes result fault is (unprepared asked given bytes fault why)
-
 module _ (asked : Asked) (given : GivenParts) (old told new : Option (List ℕ)) (system : Description) (verdict : Verdict)
     (has : HasVerdict asked given old told system verdict) where
   -- a verdict whose line was not written
@@ -77,6 +61,9 @@ module _ (asked : Asked) (given : GivenParts) (old told new : Option (List ℕ))
       → IsFaulty asked given old new fault
   untold (check.System fault) is = absurd is
   untold (check.Capture fault) is = absurd is
+  untold (check.Keys fault) is = absurd is
+  untold (check.Unnamed link) is = absurd is
+  untold (check.Dump fault) is = absurd is
   untold check.Read is = absurd is
   untold check.Write is =
       inr (record { system = system; verdict = verdict; told = told; has = has; line = is })

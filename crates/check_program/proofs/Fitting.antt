@@ -1,5 +1,5 @@
 -- One image more, and the fault of one image.
-use Rattle.std.proofs.Common.{◌≡◌, ◌∙◌, ◌⊎◌, inl, inr, ℕ, List, [], ◌∷◌, ◌++◌, ◌<◌, length, map, get_or, slice_get, Option, Some, Result, Ok, Err, IfErr, Vec, Global, ap, sym, subst, arith}
+use Rattle.std.proofs.Common.{◌≡◌, ◌∙◌, ◌⊎◌, inl, inr, ℕ, List, [], ◌∷◌, ◌++◌, ◌<◌, length, map, get_or, slice_get, Option, Some, Result, Ok, Err, IfErr, Vec, Global, ap, sym, arith}
 use Rattle.std.proofs.lemmas.List.{length-map, map-append}
 use Rattle.std.proofs.lemmas.Option.{slice_get-get_or, slice_get-map, slice_get_within}
 use Rattle.std.specs.Result.{IsErrAnd}

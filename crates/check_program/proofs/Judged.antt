@@ -19,7 +19,13 @@ use Rattle.check_sides.specs.Plan.{Plan}
 use Rattle.check_program.specs.declared.asked.Asked.{Asked}
 use Rattle.check_program.specs.declared.fault.CheckFault.{CheckFault}
 use Rattle.check_program.specs.declared.engine.Prepared.{Prepared}
+use Rattle.check_program.specs.Dump.{IsText}
 use Rattle.check_program.specs.Engine.{GivenParts, HasVerdict, IsCounted, IsPrepared, IsStopped, IsVerdictOf, IsWrittenByJudge, buses_of, is_lawful, with_buses}
+
+-- what holds of the text of a reader holds of what is known of it
+pub as_known : (known text : Option (List ℕ)) (P : List ℕ → Type 0) → IsText known text → IfSome text P → IfSome known P
+as_known None text P is holds = tt
+as_known (Some bytes) text P is holds = subst (λ t. IfSome t P) is holds
 
 -- a judge of a system, and the buses of its links
 pub record IsJudgeOf (asked : Asked) (given : GivenParts) (system : Description) (judge : Judge) (buses : LinkBuses)
@@ -50,7 +56,7 @@ of_prepared asked given prepared buses is have = record {
   have = have;
 }
 
-by_the_plan : (asked : Asked) (given : GivenParts) (system : Description) (judge : Judge) (buses : LinkBuses)
+pub by_the_plan : (asked : Asked) (given : GivenParts) (system : Description) (judge : Judge) (buses : LinkBuses)
     (Holds : LinkBuses → Plan → Type 0) → IsJudgeOf asked given system judge buses
     → ((plan : Plan) → Judges plan [] judge → Holds buses plan)
     → ByThePlan asked.terms system given.images (Holds (buses_of system))
@@ -108,7 +114,7 @@ is_stopped asked given system judge buses old new fault of_it made found tells =
 -- ---- what is covered
 
 -- what follows of the rows of a verdict that are lawful
-of_judged : (plan : Plan) (v : Verdict) (rows : List SeenRow) (P Q : List SeenRow → Type 0)
+pub of_judged : (plan : Plan) (v : Verdict) (rows : List SeenRow) (P Q : List SeenRow → Type 0)
     → ((crossed : List SeenRow) → P crossed → Q crossed) → OfJudged plan v rows P → OfJudged plan v rows Q
 of_judged plan (verdicts.Lawful counts) rows P Q to is = record { lawful = is.lawful; holds = to is.lawful.crossed is.holds }
 of_judged plan (verdicts.Incomplete left) rows P Q to is = record { lawful = is.lawful; holds = to is.lawful.crossed is.holds }

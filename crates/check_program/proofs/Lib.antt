@@ -2,3 +2,6 @@ pub mod Fitting
 pub mod Failing
 pub mod Judged
 mod Files
+mod FrontLemmas
+mod DumpJudged
+mod Outcome

@@ -1,5 +1,5 @@
 -- What a check judges, and what it writes for that. This project's own.
-use Rattle.std.specs.Prelude.{◌≡◌, ◌⊎◌, ℕ, Bool, true, false, not, ◌&&◌, ◌==◌, if◌then◌else◌, List, [], Option, Result, Ok, Err, IfOk, IfErr, IfSome, ⊤}
+use Rattle.std.specs.Prelude.{◌≡◌, ◌⊎◌, ℕ, Bool, false, not, ◌&&◌, ◌==◌, if◌then◌else◌, List, [], Option, Result, Ok, Err, IfOk, IfErr, IfSome, ⊤}
 use Rattle.std.specs.Io.KnownBytes.{Appends, Keeps}
 use Rattle.tl_streams.specs.Streams.{AppendsPart}
 use Rattle.check_keys.specs.declared.fault.SystemFault.{SystemFault}
@@ -28,8 +28,9 @@ use Rattle.check_program.specs.declared.engine.Prepared.{Prepared}
 
 -- ---- what is judged
 
--- the parts that a system file names, with the bytes of the image of each port, and what the reader of a capture has
+-- a system file and the parts that it names, with the bytes of the image of each port, and what the reader of a capture has
 pub record GivenParts : Type 0 where
+  pub file : List ℕ
   pub parts : Parts
   pub images : List (List ℕ)
   pub capture : Option (List ℕ)
@@ -127,6 +128,9 @@ pub record IsUntold (asked : Asked) (given : GivenParts) (old new : Option (List
 abbrev pub IsFaulty : Asked → GivenParts → Option (List ℕ) → Option (List ℕ) → CheckFault → Type 0
 IsFaulty asked given old new (check.System fault) = IsSystemFault asked given fault × Keeps old new
 IsFaulty asked given old new (check.Capture fault) = IsStopped asked given old new fault
+IsFaulty asked given old new (check.Keys fault) = ⊥
+IsFaulty asked given old new (check.Unnamed link) = ⊥
+IsFaulty asked given old new (check.Dump fault) = ⊥
 IsFaulty asked given old new check.Read = IsStopped asked given old new stop.Read
 IsFaulty asked given old new check.Memory =
     Keeps old new
@@ -181,6 +185,9 @@ IsUnprepared terms parts images (check.System fault) =
     IsFirstFaultOf parts fault
     ⊎ (system : Description) × Makes parts system × (slaves_at_reset terms.order images system.ports ≡ Err fault)
 IsUnprepared terms parts images (check.Capture fault) = ⊥
+IsUnprepared terms parts images (check.Keys fault) = ⊥
+IsUnprepared terms parts images (check.Unnamed link) = ⊥
+IsUnprepared terms parts images (check.Dump fault) = ⊥
 IsUnprepared terms parts images check.Read = ⊥
 IsUnprepared terms parts images check.Write = ⊥
 IsUnprepared terms parts images check.Memory = ⊤
@@ -189,6 +196,9 @@ IsUnprepared terms parts images check.Memory = ⊤
 abbrev pub IsLineFault : Option (List ℕ) → Option (List ℕ) → List ℕ → CheckFault → Type 0
 IsLineFault old new line (check.System fault) = ⊥
 IsLineFault old new line (check.Capture fault) = ⊥
+IsLineFault old new line (check.Keys fault) = ⊥
+IsLineFault old new line (check.Unnamed link) = ⊥
+IsLineFault old new line (check.Dump fault) = ⊥
 IsLineFault old new line check.Read = ⊥
 IsLineFault old new line check.Write = AppendsPart old new line
 IsLineFault old new line check.Memory = Keeps old new

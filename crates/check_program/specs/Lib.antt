@@ -3,3 +3,5 @@ pub mod Program
 pub mod Fault
 pub mod System
 pub mod Engine
+pub mod Front
+pub mod Dump

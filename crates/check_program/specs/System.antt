@@ -1,5 +1,5 @@
 -- What is read of a system: its file, and the images of its ports. This project's own.
-use Rattle.std.specs.Prelude.{◌≡◌, ℕ, ◌+◌, ◌<◌, ◌≤◌, List, length, Option, Ok}
+use Rattle.std.specs.Prelude.{◌≡◌, ℕ, ◌+◌, ◌<◌, ◌≤◌, List, length, Option}
 use Rattle.std.specs.Io.KnownBytes.{Consumes}
 use Rattle.tl_streams.specs.Streams.{ReadsAll, ReadsUpTo}
 use Rattle.check_keys.specs.declared.fault.SystemFault.{SystemFault}
@@ -10,11 +10,10 @@ use Rattle.check_description.specs.File.{Parts}
 use Rattle.check_description.specs.Name.{IsFirstPartFault, NamesParts}
 use Rattle.check_description.specs.declared.read.TheConstants.{MAX_SYSTEM}
 use Rattle.check_program.specs.declared.fault.CheckFault.{CheckFault}
-use Rattle.check_program.specs.declared.fault.CheckFault.TheVariants.{System, Capture, Read, Write, Memory}
+use Rattle.check_program.specs.declared.fault.CheckFault.TheVariants.{System, Capture, Keys, Unnamed, Dump, Read, Write, Memory}
 
--- the reader gave bytes that name these parts, and had no others
-pub record GivesParts (old new : Option (List ℕ)) (parts : Parts) : Type 0 where
-  pub file : List ℕ
+-- the reader gave a file that names these parts, and had no other bytes
+pub record GivesParts (old new : Option (List ℕ)) (file : List ℕ) (parts : Parts) : Type 0 where
   pub read : ReadsAll old new file
   pub named : NamesParts file parts
 
@@ -28,6 +27,9 @@ pub record HasPartFault (old new : Option (List ℕ)) (fault : SystemFault) : Ty
 abbrev pub IsPartsFault : Option (List ℕ) → Option (List ℕ) → CheckFault → Type 0
 IsPartsFault old new (System fault) = HasPartFault old new fault
 IsPartsFault old new (Capture fault) = ⊥
+IsPartsFault old new (Keys fault) = ⊥
+IsPartsFault old new (Unnamed link) = ⊥
+IsPartsFault old new (Dump fault) = ⊥
 IsPartsFault old new Read = Unit {0}
 IsPartsFault old new Write = ⊥
 IsPartsFault old new Memory = Unit {0}
@@ -53,6 +55,9 @@ IsImageFaultOf number port old new fault = ⊥
 abbrev pub IsImageFault : ℕ → Port → Option (List ℕ) → Option (List ℕ) → CheckFault → Type 0
 IsImageFault number port old new (System fault) = IsImageFaultOf number port old new fault
 IsImageFault number port old new (Capture fault) = ⊥
+IsImageFault number port old new (Keys fault) = ⊥
+IsImageFault number port old new (Unnamed link) = ⊥
+IsImageFault number port old new (Dump fault) = ⊥
 IsImageFault number port old new Read = ⊥
 IsImageFault number port old new Write = ⊥
 IsImageFault number port old new Memory = Unit {0}

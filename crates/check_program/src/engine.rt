@@ -1,5 +1,5 @@
 //! The engine: from the parts of a system and the bytes of a capture to the line of the verdict.
-ghost use Rattle.std.specs.Prelude.{◌≡◌, ◌≤◌, ◌++◌, if◌then◌else◌, ℕ, List, [], is_some, length, map, IfOk, IfErr, IfSome, OnOk};
+ghost use Rattle.std.specs.Prelude.{◌≡◌, ◌≤◌, ◌++◌, ℕ, List, [], Option, if◌then◌else◌, is_some, length, map, IfOk, IfErr, IfSome, OnOk};
 ghost use Rattle.std.specs.Io.KnownBytes.{Appends};
 ghost use Rattle.check_description.specs.File.{parts_view, Parts as PartsView};
 ghost use Rattle.check_sides.specs.Plan.{Plan};
@@ -10,17 +10,21 @@ ghost use Rattle.check_review.specs.View.{Judges, is_asked, is_covered, is_trace
 ghost use Rattle.check_lines.specs.Verdict.{empty_line, lawful_line};
 ghost use Rattle.check_text.specs.Buses.{HasBuses};
 ghost use Rattle.check_program.specs.declared.asked.Asked.{Asked as AskedFor};
+ghost use Rattle.check_program.specs.Dump.{IsOutcome, IsOutcomeCounted, IsText};
 ghost use Rattle.check_program.specs.Engine.{IsChecked, IsCounted, IsLineFault, IsPrepared, IsUnprepared, is_empty, is_lawful, line_of, with_buses};
 
 use crate::asked::Asked;
+use crate::dump::check_dump;
 use crate::fault::CheckFault;
+use crate::front::{begins_dump, read_front};
+use crate::system::SystemFile;
 use check_beats::Bus;
 use check_coverage::Coverage;
 use check_description::{Parts, describe};
 use check_lines::{Names, VerdictCounts, push_empty, push_incomplete, push_lawful, push_unlawful};
 use check_review::Judge;
 use check_rows::Buses;
-use check_sides::Watch;
+use check_sides::{Links, Watch};
 use check_start::{begin, pending_of};
 use check_text::{Verdict, judge_capture};
 use check_unanswered::Pending;
@@ -121,12 +125,12 @@ fn judge_of(alloc: Global, watch: Watch, asked: Asked) -> Result<Judge, AllocErr
 /// What a capture is judged by: a judge that has seen no beat, whether it is asked which requests are left, and the names and
 /// the buses of the links of its system.
 #[derive(Drop)]
-struct Prepared {
-    judge: Judge,
-    complete: bool,
-    names: Names,
-    master_buses: Vec<Bus>,
-    port_buses: Vec<Bus>,
+pub(crate) struct Prepared {
+    pub(crate) judge: Judge,
+    pub(crate) complete: bool,
+    pub(crate) names: Names,
+    pub(crate) master_buses: Vec<Bus>,
+    pub(crate) port_buses: Vec<Bus>,
 }
 
 /// What a capture is judged by, of a crossbar that is the system of these parts.
@@ -158,7 +162,7 @@ fn prepare(
 }
 
 /// Writes the line of a verdict. The answer is whether it says that the capture is lawful.
-fn tell<W: Write>(
+pub(crate) fn tell<W: Write>(
     alloc: Global,
     complete: bool,
     names: &Names,
@@ -190,13 +194,13 @@ fn check_prepared<C: Read + Drop, W: Write>(
     requires buses { HasBuses prepared.old.judge.tally.watch.layout
         (with_buses prepared.old.master_buses.items prepared.old.port_buses.items) }
     ensures same_writer { writer.new.writer.ghost_name ≡ writer.old.writer.ghost_name }
-    ensures checked { (asked : AskedFor) (parts : PartsView) (images : List (List ℕ))
-        → IsPrepared asked parts images prepared.old
-        → IsChecked asked (record { parts = parts; images = images; capture = C.remaining capture })
+    ensures checked { (asked : AskedFor) (file : List ℕ) (parts : PartsView) (images : List (List ℕ))
+        (known : Option (List ℕ)) → IsPrepared asked parts images prepared.old → IsText known (C.remaining capture)
+        → IsChecked asked (record { file = file; parts = parts; images = images; capture = known })
         (W.contents writer.old.writer.now) (W.contents writer.new.writer.now) result }
-    ensures covered { (asked : AskedFor) (parts : PartsView) (images : List (List ℕ))
-        → IsPrepared asked parts images prepared.old
-        → IfOk result (IsCounted asked (record { parts = parts; images = images; capture = C.remaining capture })
+    ensures covered { (asked : AskedFor) (file : List ℕ) (parts : PartsView) (images : List (List ℕ))
+        (known : Option (List ℕ)) → IsPrepared asked parts images prepared.old → IsText known (C.remaining capture)
+        → IfOk result (IsCounted asked (record { file = file; parts = parts; images = images; capture = known })
         covered.old.items covered.new.items) }
 {
     let buses = Buses {
@@ -209,38 +213,43 @@ fn check_prepared<C: Read + Drop, W: Write>(
 }
 
 /// Reads a capture to its end or first fault, and writes the line of the verdict: whether what crossed the watched links
-/// of a crossbar that is the system of these parts is lawful. Images has the bytes of the image of each port by its
+/// of a crossbar that is the system of this file is lawful. Images has the bytes of the image of each port by its
 /// number, none of a port that names no image. The answer is the same as the line's. If replies are told, their lines
 /// are written before, as the capture is read. If it is asked what the capture covers, the text of that is appended to
 /// `covered` with the verdict.
+///
+/// The capture may be a dump, if its first byte that is no blank is a dollar sign: then the rows are those that its signals
+/// show, by the names that the file gives.
 pub fn check<C: Read + Drop, W: Write>(
     alloc: Global,
-    parts: Parts,
+    system: SystemFile,
     images: &[Vec<u8>],
     capture: C,
     writer: &mut W,
     asked: Asked,
     covered: &mut Vec<u8>,
 ) -> Result<bool, CheckFault>
-    ensures checked { IsChecked asked (record {
-      parts = parts_view parts;
+    ensures checked { IsOutcome asked (record {
+      file = system.bytes.items;
+      parts = parts_view system.parts;
       images = map (λ image. image.items) images.now;
       capture = C.remaining capture;
     }) (W.contents writer.old) (W.contents writer.new) result }
-    ensures covered { IfOk result (IsCounted asked (record {
-      parts = parts_view parts;
+    ensures covered { IfOk result (IsOutcomeCounted asked (record {
+      file = system.bytes.items;
+      parts = parts_view system.parts;
       images = map (λ image. image.items) images.now;
       capture = C.remaining capture;
     }) covered.old.items covered.new.items) }
 {
     let mut writer = LimitedWriter::new(writer);
-    check_within(alloc, parts, images, capture, &mut writer, asked, covered)
+    check_within(alloc, system, images, capture, &mut writer, asked, covered)
 }
 
 /// The same, through what limits the retried writes.
 fn check_within<C: Read + Drop, W: Write>(
     alloc: Global,
-    parts: Parts,
+    system: SystemFile,
     images: &[Vec<u8>],
     capture: C,
     writer: &mut LimitedWriter<'_, W>,
@@ -248,17 +257,68 @@ fn check_within<C: Read + Drop, W: Write>(
     covered: &mut Vec<u8>,
 ) -> Result<bool, CheckFault>
     ensures same_writer { writer.new.writer.ghost_name ≡ writer.old.writer.ghost_name }
-    ensures checked { IsChecked asked (record {
-      parts = parts_view parts;
+    ensures checked { IsOutcome asked (record {
+      file = system.bytes.items;
+      parts = parts_view system.parts;
       images = map (λ image. image.items) images.now;
       capture = C.remaining capture;
     }) (W.contents writer.old.writer.now) (W.contents writer.new.writer.now) result }
-    ensures covered { IfOk result (IsCounted asked (record {
-      parts = parts_view parts;
+    ensures covered { IfOk result (IsOutcomeCounted asked (record {
+      file = system.bytes.items;
+      parts = parts_view system.parts;
       images = map (λ image. image.items) images.now;
       capture = C.remaining capture;
     }) covered.old.items covered.new.items) }
 {
+    let SystemFile { parts, bytes } = system;
     let mut prepared = prepare(alloc, parts, images, asked)?;
-    check_prepared(alloc, &mut prepared, capture, writer, covered)
+    check_read(
+        alloc,
+        &bytes,
+        &mut prepared,
+        capture,
+        writer,
+        asked.terms.links,
+        covered,
+    )
+}
+
+/// The verdict over a capture or a dump by what was prepared, with its line.
+fn check_read<C: Read + Drop, W: Write>(
+    alloc: Global,
+    file: &[u8],
+    prepared: &mut Prepared,
+    mut capture: C,
+    writer: &mut LimitedWriter<'_, W>,
+    links: Links,
+    covered: &mut Vec<u8>,
+) -> Result<bool, CheckFault>
+    requires masters { length prepared.old.master_buses.items ≤ MAX_JUDGED_MASTERS }
+    requires ports { length prepared.old.port_buses.items ≤ MAX_JUDGED_PORTS }
+    requires buses { HasBuses prepared.old.judge.tally.watch.layout
+        (with_buses prepared.old.master_buses.items prepared.old.port_buses.items) }
+    ensures same_writer { writer.new.writer.ghost_name ≡ writer.old.writer.ghost_name }
+    ensures checked { (asked : AskedFor) (parts : PartsView) (images : List (List ℕ)) → asked.terms.links ≡ links
+        → IsPrepared asked parts images prepared.old → IsOutcome asked (record {
+          file = file.now;
+          parts = parts;
+          images = images;
+          capture = C.remaining capture;
+        }) (W.contents writer.old.writer.now) (W.contents writer.new.writer.now) result }
+    ensures covered { (asked : AskedFor) (parts : PartsView) (images : List (List ℕ)) → asked.terms.links ≡ links
+        → IsPrepared asked parts images prepared.old → IfOk result (IsOutcomeCounted asked (record {
+          file = file.now;
+          parts = parts;
+          images = images;
+          capture = C.remaining capture;
+        }) covered.old.items covered.new.items) }
+{
+    let front = read_front(alloc, &mut capture)?;
+    let is_dump = begins_dump(&front);
+    let text = front.as_slice().chain(capture);
+    if is_dump {
+        check_dump(alloc, file, prepared, text, writer, links, covered)
+    } else {
+        check_prepared(alloc, prepared, text, writer, covered)
+    }
 }

@@ -2,14 +2,14 @@
 ghost use Rattle.std.specs.Prelude.{◌≡◌, IfOk, IfErr, map};
 ghost use Rattle.std.specs.Process.{exit_status};
 ghost use Rattle.check_description.specs.File.{parts_view};
-ghost use Rattle.check_program.specs.Engine.{IsChecked, IsCounted};
+ghost use Rattle.check_program.specs.Dump.{IsOutcome, IsOutcomeCounted};
 ghost use Rattle.check_program.specs.Fault.{status_of};
 ghost use Rattle.check_program.specs.Program.{asked_by_options, status_of_verdict};
 
 use crate::asked::Asked;
 use crate::engine::check;
 use crate::fault::CheckFault;
-use check_description::Parts;
+use crate::system::SystemFile;
 use check_options::CheckOptions;
 use check_start::Terms;
 use std::alloc::Global;
@@ -20,24 +20,26 @@ use tl_cli::fail;
 /// The status of a capture that is not lawful, or incomplete.
 const UNLAWFUL: u8 = 3;
 
-/// Judges a capture as the command line asks, for the system of these parts and images. The text of what the capture has
-/// covered is added to `covered` if a file for it was named and there is a verdict.
+/// Judges a capture, or a dump, as the command line asks, for the system of this file and of these images. The text of what
+/// the capture has covered is added to `covered` if a file for it was named and there is a verdict.
 pub fn check_as_asked<C: Read + Drop, W: Write>(
     alloc: Global,
-    parts: Parts,
+    system: SystemFile,
     images: &[Vec<u8>],
     capture: C,
     writer: &mut W,
     options: &CheckOptions<'_>,
     covered: &mut Vec<u8>,
 ) -> Result<bool, CheckFault>
-    ensures checked { IsChecked (asked_by_options options.now) (record {
-      parts = parts_view parts;
+    ensures checked { IsOutcome (asked_by_options options.now) (record {
+      file = system.bytes.items;
+      parts = parts_view system.parts;
       images = map (λ image. image.items) images.now;
       capture = C.remaining capture;
     }) (W.contents writer.old) (W.contents writer.new) result }
-    ensures covered { IfOk result (IsCounted (asked_by_options options.now) (record {
-      parts = parts_view parts;
+    ensures covered { IfOk result (IsOutcomeCounted (asked_by_options options.now) (record {
+      file = system.bytes.items;
+      parts = parts_view system.parts;
       images = map (λ image. image.items) images.now;
       capture = C.remaining capture;
     }) covered.old.items covered.new.items) }
@@ -51,7 +53,7 @@ pub fn check_as_asked<C: Read + Drop, W: Write>(
         complete: options.complete,
         coverage: options.coverage.is_some(),
     };
-    check(alloc, parts, images, capture, writer, asked, covered)
+    check(alloc, system, images, capture, writer, asked, covered)
 }
 
 /// Ends the program after a verdict, or with the line and the status of a fault.

@@ -11,10 +11,17 @@ use std::alloc::Global;
 use std::io::Read;
 use tl_streams::{LimitedReader, ReadFault, read_up_to};
 
+/// A system file: the parts that it names, and its bytes. A dump asks for what else the file says.
+#[derive(Drop)]
+pub struct SystemFile {
+    pub parts: Parts,
+    pub bytes: Vec<u8>,
+}
+
 /// Reads a system file to its end, and the parts that it names.
-pub fn read_system_parts<R: Read>(alloc: Global, system: &mut R) -> Result<Parts, CheckFault>
-    ensures ok { IfOk result (λ parts. GivesParts (R.remaining system.old) (R.remaining system.new)
-        (parts_view parts)) }
+pub fn read_system_file<R: Read>(alloc: Global, system: &mut R) -> Result<SystemFile, CheckFault>
+    ensures ok { IfOk result (λ file. GivesParts (R.remaining system.old) (R.remaining system.new)
+        file.bytes.items (parts_view file.parts)) }
     ensures fault { IfErr result (IsPartsFault (R.remaining system.old) (R.remaining system.new)) }
 {
     let mut reader = LimitedReader::new(system);
@@ -25,16 +32,16 @@ pub fn read_system_parts<R: Read>(alloc: Global, system: &mut R) -> Result<Parts
 fn read_within<R: Read>(
     alloc: Global,
     reader: &mut LimitedReader<'_, R>,
-) -> Result<Parts, CheckFault>
+) -> Result<SystemFile, CheckFault>
     ensures same { reader.new.reader.ghost_name ≡ reader.old.reader.ghost_name }
-    ensures ok { IfOk result (λ parts. GivesParts (R.remaining reader.old.reader.now)
-        (R.remaining reader.new.reader.now) (parts_view parts)) }
+    ensures ok { IfOk result (λ file. GivesParts (R.remaining reader.old.reader.now)
+        (R.remaining reader.new.reader.now) file.bytes.items (parts_view file.parts)) }
     ensures fault { IfErr result (IsPartsFault (R.remaining reader.old.reader.now)
         (R.remaining reader.new.reader.now)) }
 {
-    let file = read_up_to(alloc, reader, MAX_SYSTEM + 1)?;
-    let parts = read_parts(alloc, &file)?;
-    Ok(parts)
+    let bytes = read_up_to(alloc, reader, MAX_SYSTEM + 1)?;
+    let parts = read_parts(alloc, &bytes)?;
+    Ok(SystemFile { parts, bytes })
 }
 
 /// Reads the image of the port of this number to its end. One that can't be read, or is longer than the port's first range,

@@ -2,12 +2,12 @@
 use Rattle.std.proofs.Common.{◌≡◌, ℕ, ◌+◌, ◌-◌, ◌≤◌, slice_range, arith, drop-drop, List, [], ◌++◌, take, drop, Option, Some, None, refl, sym, ap, ◌∙◌}
 use Rattle.std.proofs.lemmas.List.{drop-take}
 use Rattle.std.specs.Io.KnownBytes.{Consumes, Keeps, prepend_known}
-use Rattle.check_records.specs.Source.{Between, Both, TextLeft}
+use Rattle.check_records.specs.Source.{Between, StaysKnown, TextLeft}
 use Rattle.check_records.specs.Text.{TextPlace}
 
 pub both-trans : (a b c : Option (List ℕ)) (P Q S : List ℕ → List ℕ → Type 0)
     → ((x y z : List ℕ) → P x y → Q y z → S x z)
-    → Both a b P → Both b c Q → Both a c S
+    → StaysKnown a b P → StaysKnown b c Q → StaysKnown a c S
 both-trans None b c P Q S join one two = tt
 both-trans (Some x) None c P Q S join one two = absurd one
 both-trans (Some x) (Some y) None P Q S join one two = absurd two
@@ -27,13 +27,13 @@ between-trans a b c P Q S join one two =
 -- bytes at hand, and then those of a reader: a relation that holds whatever the reader has
 pub both-hand : (old new : List ℕ) (known : Option (List ℕ)) (P : List ℕ → List ℕ → Type 0)
     → ((rest : List ℕ) → P (old ++ rest) (new ++ rest))
-    → Both (prepend_known old known) (prepend_known new known) P
+    → StaysKnown (prepend_known old known) (prepend_known new known) P
 both-hand old new None P all = tt
 both-hand old new (Some rest) P all = all rest
 
 -- a known text that stays as it is
 pub both-keeps : (a b : Option (List ℕ)) (P : List ℕ → List ℕ → Type 0) → ((x : List ℕ) → P x x) → Keeps a b
-    → Both a b P
+    → StaysKnown a b P
 both-keeps None b P all kept = tt
 both-keeps (Some x) None P all kept = absurd kept
 both-keeps (Some x) (Some y) P all kept = rw kept (all x)

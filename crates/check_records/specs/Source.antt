@@ -20,10 +20,10 @@ abbrev pub text_left : {R : Type 0} → (R → Option (List ℕ)) → Source R �
 text_left remaining source = prepend_known (at_hand source) (remaining source.reader)
 
 -- a text that is known stays known, and the two are so related
-abbrev pub Both : Option (List ℕ) → Option (List ℕ) → (List ℕ → List ℕ → Type 0) → Type 0
-Both None new P = ⊤
-Both (Some old) None P = ⊥
-Both (Some old) (Some new) P = P old new
+abbrev pub StaysKnown : Option (List ℕ) → Option (List ℕ) → (List ℕ → List ℕ → Type 0) → Type 0
+StaysKnown None new P = ⊤
+StaysKnown (Some old) None P = ⊥
+StaysKnown (Some old) (Some new) P = P old new
 
 -- a text that is left, if it is known, and the line on which it begins
 pub record TextLeft : Type 0 where
@@ -36,7 +36,7 @@ left remaining source = record { line = source.line; text = text_left remaining 
 -- the same of places
 abbrev pub Between : TextLeft → TextLeft → (TextPlace → TextPlace → Type 0) → Type 0
 Between old new P =
-    Both old.text new.text
+    StaysKnown old.text new.text
     (λ from to. P (record { line = old.line; text = from }) (record { line = new.line; text = to }))
 
 -- the two places have the same next record

@@ -1,5 +1,5 @@
 mod HeaderLemmas
-mod OutLemmas
+pub mod OutLemmas
 mod Taking
 mod Answering
 mod Fitting

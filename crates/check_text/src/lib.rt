@@ -20,3 +20,5 @@ mod rows;
 
 pub use capture::judge_capture;
 pub use fault::{CaptureFault, Verdict};
+pub use out::write_long;
+pub use rows::verdict_at_end;

@@ -167,7 +167,7 @@ fn verdict_refused(refusal: Refusal) -> Result<Verdict, CaptureFault>
 }
 
 /// The verdict over a capture that is lawful.
-fn verdict_at_end(ending: Ending) -> Verdict
+pub fn verdict_at_end(ending: Ending) -> Verdict
     ensures { result ≡ verdict_at_end ending }
 {
     match ending.left {

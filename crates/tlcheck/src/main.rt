@@ -1,9 +1,10 @@
 //! tlcheck: judges whether a captured trace of a TileLink crossbar is lawful.
 //!
 //! SYSTEM is a system file, and says what the crossbar is, with the images that it names. CAPTURE has a row for each beat
-//! that crossed one of its links. Standard output ends with one line, the verdict: lawful, with counts, or the first row
-//! that makes the capture unlawful, and why. With `--complete` it can be incomplete too, if requests are left at its end.
-//! With `--trace` a line for each reply stands before the verdict. Nothing else is written to it.
+//! that crossed one of its links, or is a dump, whose rows are those that `tlvcd` writes. Standard output ends with one
+//! line, the verdict: lawful, with counts, or the first row that makes the capture unlawful, and why. With `--complete` it
+//! can be incomplete or empty too, if requests are left at its end or there were none. With `--trace` a line for each reply
+//! stands before the verdict. Nothing else is written to it.
 //!
 //! With `--coverage FILE` the text of what the capture has covered is written to FILE, after the verdict's line. FILE is
 //! left alone if there is no verdict.
@@ -20,7 +21,7 @@
 
 use check_options::{CheckOptions, read_check_options};
 use check_program::{
-    CheckFault, Erasing, Meter, Shown, check_as_asked, end_check, read_images, read_system_parts,
+    CheckFault, Erasing, Meter, Shown, check_as_asked, end_check, read_images, read_system_file,
     write_coverage,
 };
 use std::fs;
@@ -56,15 +57,15 @@ fn judge<C: Read + Drop>(
     capture: C,
 ) -> Result<bool, CheckFault> {
     let mut system = NamedFile::new(rt, options.system);
-    let parts = read_system_parts(rt.alloc(), &mut system)?;
-    let images = read_images(rt.alloc(), rt, options.system, &parts)?;
+    let file = read_system_file(rt.alloc(), &mut system)?;
+    let images = read_images(rt.alloc(), rt, options.system, &file.parts)?;
     let meter = meter(rt, options);
     let mut writer = Erasing::new(rt.stdout(), meter.as_ref());
     let capture = Shown::new(capture, meter.as_ref());
     let mut covered = Vec::new(rt.alloc());
     let outcome = check_as_asked(
         rt.alloc(),
-        parts,
+        file,
         &images,
         capture,
         &mut writer,

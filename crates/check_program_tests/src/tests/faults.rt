@@ -47,7 +47,7 @@ fn faults_of_captures_have_their_lines_and_statuses(rt: HostRuntime) {
 }
 
 /// Faults of tlvcd.
-const OF_DUMPS: [(WaveFault, &str, u8); 13] = [
+const OF_DUMPS: [(WaveFault, &str, u8); 14] = [
     (
         WaveFault::System(SystemFault::TooLong),
         "system: longer than 1048576 bytes",
@@ -76,6 +76,11 @@ const OF_DUMPS: [(WaveFault, &str, u8); 13] = [
     (
         WaveFault::Edges(EdgeFault::NeverRises),
         "tlvcd: the clock never rises",
+        1,
+    ),
+    (
+        WaveFault::Edges(EdgeFault::NeverFalls),
+        "tlvcd: the clock never falls",
         1,
     ),
     (

@@ -1,5 +1,5 @@
 -- One image more is that of its port.
-use Rattle.std.proofs.Common.{rules, ◌≡◌, ◌∙◌, ◌++◌, ◌∷◌, [], map, length, inl, refl, sym, arith, Some, slice_get}
+use Rattle.std.proofs.Common.{rules, ◌≡◌, ◌++◌, ◌∷◌, [], map, length, inl, refl, arith, Some, slice_get}
 use Rattle.std.proofs.lemmas.List.{length-map, length-append}
 use Rattle.check_description.specs.Port.{port_view}
 use Rattle.check_program.specs.declared.fault.CheckFault.TheVariants.{Memory}

@@ -7,13 +7,12 @@ use Rattle.check_program.proofs.system.read_within.Goals as goal
 
 pub returns-clause-ok : goal.returns-clause-ok
 returns-clause-ok g c =
-    let file = c.in_ok-file.file.items in
+    let file = c.in_ok-bytes.bytes.items in
     let parts = parts_view c.in_ok-parts.parts in
-    let read = c.in_ok-file.ensures.bytes in
+    let read = c.in_ok-bytes.ensures.bytes in
     let named = subst (λ (b : List ℕ). NamesParts b parts) c.deref.ensures.value c.in_ok-parts.ensures.named in
     let short = length-named file parts named.are in
     record {
-      file = file;
       read = record { taken = read.taken; whole = read.whole (omega arith) };
       named = named;
     }
