@@ -13,6 +13,8 @@ CORE = ("a_valid", "a_opcode", "a_address", "d_valid", "d_opcode")
 CONSTANTS = ("a_param", "d_denied", "d_corrupt")
 # Those that most designs have not: tlvcd looks for them behind a prefix, and leaves their columns empty.
 EXTRAS = ("a_corrupt", "d_param")
+# What may be an array, of which each element is a signal.
+IN_ARRAYS = ("a_mask", "a_data", "d_data")
 # How many bits tlvcd takes; those of mask and data follow from the bus.
 WIDTHS = {"a_opcode": 8, "a_param": 8, "a_size": 8, "d_opcode": 8, "d_param": 8, "d_size": 8, "a_source": 16, "d_source": 16, "a_address": 64}
 # The marks of the struct with the requests, and of the one with the replies.
@@ -30,12 +32,19 @@ def spellings(signal):
         yield with_bits(name)
 
 
+def written(prefix, spelling):
+    """How a dump has a name: as it is, or after a backslash, which Icarus keeps of an escaped name."""
+    scope, point, front = prefix.rpartition(".")
+    return prefix + spelling, f"{scope}{point}\\{front}{spelling}"
+
+
 def members(prefix, variables):
     """The names of the signals that stand behind a prefix."""
     found = {}
     for signal in SIGNALS:
-        names = (prefix + spelling for spelling in spellings(signal))
-        if name := next((name for name in names if name in variables.named), None):
+        names = [name for spelling in spellings(signal) for name in written(prefix, spelling)]
+        places = (variables.named, variables.arrays) if signal in IN_ARRAYS else (variables.named,)
+        if name := next((name for place in places for name in names if name in place), None):
             found[signal] = name
     return found
 
@@ -56,20 +65,25 @@ def words_in(part):
 class Link:
     """A link: the names of its signals, and the parts of the name that it is called by."""
 
-    def __init__(self, prefix, names, called, variables):
-        self.prefix, self.names = prefix, names
-        self.identifiers = {signal: variables.named[name][0] for signal, name in names.items()}
-        self.bits = {signal: variables.named[name][1] for signal, name in names.items()}
+    def __init__(self, prefixes, names, called, variables):
+        self.prefixes, self.prefix, self.names = prefixes, prefixes[0], names
+        nets = {signal: variables.net_of(name) for signal, name in names.items()}
+        self.identifiers = {signal: identifier for signal, (identifier, _) in nets.items()}
+        self.bits = {signal: bits for signal, (_, bits) in nets.items()}
+        # the elements of those that are arrays
+        self.elements = {signal: variables.arrays[name] for signal, name in names.items() if name not in variables.named}
         self.parts = [part for part in called.rstrip("_.").split(".") if part]
+        self.declared = variables.named
         self.doubles = [name for name in names.values() if name in variables.twice]
         self.aliases = []
 
     def behind(self):
-        """How the names stand behind one prefix, but for signals that the design has not or calls otherwise: each signal with its name, as the
-        standard has it or else as Chisel has it. None if they do not."""
+        """How the names stand behind the prefixes, but for arrays and for signals that the design has not or calls otherwise: each signal with
+        its name, as the standard has it or else as Chisel has it, behind the first prefix that has one. None if they do not."""
         for how in (str, with_bits):
-            names = {signal: self.prefix + how(signal) for signal in SIGNALS}
-            if all(self.names[signal] == names[signal] for signal in self.names if signal != "d_denied"):
+            names = {signal: next((prefix + how(signal) for prefix in self.prefixes if prefix + how(signal) in self.declared),
+                                  self.prefix + how(signal)) for signal in SIGNALS}
+            if all(name == names[signal] for signal, name in self.names.items() if signal != "d_denied" and signal not in self.elements):
                 return names
         return None
 
@@ -116,16 +130,16 @@ class Link:
 
 def link_at(prefix, variables):
     """The link whose requests stand behind a prefix, or None."""
-    names, called = members(prefix, variables), prefix
+    names, called, prefixes = members(prefix, variables), prefix, [prefix]
     if "d_valid" not in names:
         for other, head in partners(prefix):
             replies = members(other, variables)
             if "d_valid" in replies and "a_valid" not in replies:
-                names, called = names | replies, head
+                names, called, prefixes = names | replies, head, [prefix, other]
                 break
     if any(signal not in names for signal in CORE):
         return None
-    return Link(prefix, {signal: names[signal] for signal in SIGNALS if signal in names}, called, variables)
+    return Link(prefixes, {signal: names[signal] for signal in SIGNALS if signal in names}, called, variables)
 
 
 def links_of(variables, top=None):

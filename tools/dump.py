@@ -8,8 +8,14 @@ BLOCK = 1 << 16
 LONGEST_WORD = 1 << 20
 # What is sampled of a link at an edge.
 SAMPLED = ("a_valid", "a_ready", "a_address", "a_size", "a_source")
-RANGE = re.compile(r"\[[^\[\]]*\]$")
+# The range behind a name, and the index of an element of an array.
+RANGE = re.compile(r"\[([0-9]+)(?::([0-9]+))?\]$")
 INDEX = re.compile(r"\[([0-9]+)\]$")
+# The most words of a name and its range that are looked at.
+NAME_WORDS = 5
+# What the digits of VHDL stand for that Verilog has not: a weak 0, a weak 1, and bits of which nothing is known.
+DIGITS = "01xzlhuw-"
+PLAIN = str.maketrans("lhuw-", "01xxx")
 
 
 class NoDump(Exception):
@@ -41,20 +47,25 @@ def section(words):
 class Variables:
     """What a header declares: for each name with its scopes the identifier and the width, in the order of the dump. If a name stands twice
     with one identifier, it is as wide as its widest declaration. A net that is declared bit by bit has the identifiers of its bits, the
-    highest first. Names that two signals have are in `twice`: tlvcd refuses them."""
+    highest first. Names that two signals have are in `twice`: tlvcd refuses them. `arrays` has the elements of arrays that are declared as
+    one signal each, the highest index first."""
 
     def __init__(self):
-        self.named, self.twice, self.scopes = {}, set(), []
+        self.named, self.twice, self.scopes, self.arrays = {}, set(), [], {}
         # the identifiers of each index of the names that are declared bit by bit, and the names of other signals
         self.bits, self.whole = {}, set()
 
     def declare(self, fields):
-        """Takes a $var: its type, width, identifier and name. A range behind the name is not part of it."""
+        """Takes a $var: its type, width, identifier and name. A range behind the name is not part of it, if it has so many bits."""
         if len(fields) < 4 or not fields[1].isdecimal():
             raise NoDump("not a dump")
-        name, net = ".".join([*self.scopes, RANGE.sub("", fields[3])]), (fields[2], int(fields[1]))
-        if net[1] == 1 and (index := INDEX.search("".join(fields[3:]))):
-            self.bits.setdefault(name, {}).setdefault(int(index[1]), set()).add(net[0])
+        text, net = "".join(fields[3:3 + NAME_WORDS]), (fields[2], int(fields[1]))
+        span = RANGE.search(text)
+        if span and abs(int(span[1]) - int(span[2] or span[1])) != net[1] - 1:
+            span = None
+        name = ".".join([*self.scopes, text[:span.start()] if span else text])
+        if net[1] == 1 and span:
+            self.bits.setdefault(name, {}).setdefault(int(span[1]), set()).add(net[0])
         else:
             self.whole.add(name)
         identifier, bits = self.named.setdefault(name, net)
@@ -74,6 +85,22 @@ class Variables:
             else:
                 self.twice.discard(name)
                 self.named[name] = tuple(next(iter(bits[index])) for index in indices), len(bits)
+
+    def find_arrays(self):
+        """Finds the arrays whose elements are declared one by one, without a gap."""
+        found = {}
+        for name in self.named.keys() - self.twice:
+            if index := INDEX.search(name):
+                found.setdefault(name[:index.start()], {})[int(index[1])] = name
+        self.arrays = {name: tuple(elements[index] for index in sorted(elements, reverse=True)) for name, elements in found.items()
+                       if len(elements) == max(elements) - min(elements) + 1 > 1 and name not in self.named}
+
+    def net_of(self, name):
+        """The identifier and the width of a signal, or the identifiers of an array and the width of all its elements."""
+        if name in self.named:
+            return self.named[name]
+        elements = [self.named[element] for element in self.arrays[name]]
+        return tuple(identifier for identifier, _ in elements), sum(bits for _, bits in elements)
 
     def take(self, keyword, fields):
         """Takes a section of the header."""
@@ -98,6 +125,7 @@ def variables_of(words):
             break
         if word == "$enddefinitions":
             variables.join_bits()
+            variables.find_arrays()
             return variables
         variables.take(word, fields)
     raise NoDump("cut in its header")
@@ -123,13 +151,13 @@ def steps_of(words, tracked):
             if moment > time:
                 yield changed
                 changed, time = {}, moment
-        elif mark in "01xz":
+        elif mark in DIGITS:
             if rest in tracked:
-                changed[rest] = mark
+                changed[rest] = mark.translate(PLAIN)
         elif mark in "brs":
             identifier = next(words, None)
             if mark == "b" and identifier in tracked:
-                changed[identifier] = rest.lower()
+                changed[identifier] = rest.lower().translate(PLAIN)
         elif word == "$comment":
             section(words)
         elif mark != "$":
