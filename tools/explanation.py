@@ -7,26 +7,14 @@ import re
 from bus import reply_of
 from causes import CAUSES
 from common import carries_data
-from story import ANSWERS, NAMES, Story, System
+from sides import Sides, Views
+from spelling import bytes_of, counted, hexadecimal, place_of, replied
+from story import ANSWERS, NAMES, Story, System, turn_of
 
 VERDICT = re.compile(r"unlawful: line (\d+), time (\d+), (\S+) ([AD]): (.*)")
 WRONG = re.compile(r"wrong reply: expected (\w+)( denied)?(?: ([0-9a-fx]+))?, captured (\w+)( denied)?(?: ([0-9a-fx]+))?")
 # So many wrong bytes are explained.
 MOST_BYTES = 8
-
-
-def hexadecimal(data):
-    """Bytes in the order of their addresses, as a verdict spells them."""
-    return "".join("xx" if byte is None else f"{byte:02x}" for byte in data)
-
-
-def counted(number, what):
-    return f"{number} {what}{'s' * (number != 1)}"
-
-
-def bytes_of(size):
-    """How many bytes a size stands for."""
-    return counted(1 << size, "byte")
 
 
 def value_of(row, column):
@@ -40,28 +28,24 @@ def changes(first, row, columns):
             for at, field in columns if value_of(first, at) != value_of(row, at)]
 
 
-def place_of(rows):
-    """The lines and the times of some rows."""
-    first, last = rows[0], rows[-1]
-    if first is last:
-        return f"line {first.line}, time {first.time}"
-    return f"lines {first.line} to {last.line}, times {first.time} to {last.time}"
-
-
 class Explainer:
     """Explains the verdict of a capture."""
 
-    def __init__(self, system, story, view):
-        self.system, self.story, self.view = system, story, view
+    def __init__(self, system, story, view, views):
+        self.system, self.story, self.view, self.views = system, story, view, views
+        self.sides = Sides(self)
+
+    def whose(self, message):
+        """Whose source a request at a port has, if the view says so."""
+        owner = self.system.owners.get(message.source) if message.link[0] == "p" and self.view != "each" else None
+        return f" (source {owner[1]} of {self.system.names[f'm{owner[0]}']})" if owner else ""
 
     def name(self, message):
         """A request in words: its link, its source and whose that is, what it asks, and where it stands."""
         link = self.system.names[message.link]
-        owner = self.system.owners.get(message.source) if message.link[0] == "p" and self.view != "each" else None
-        whose = f" (source {owner[1]} of {self.system.names[f'm{owner[0]}']})" if owner else ""
         data = f" {hexadecimal(message.data)}" if message.data else ""
         asks = f"{message.name} {message.address:#x} of {bytes_of(message.size)}{data}"
-        return f"{link}, source {message.source}{whose}: {asks}, {place_of(message.asked)}"
+        return f"{link}, source {message.source}{self.whose(message)}: {asks}, {place_of(message.asked)}"
 
     def state(self, message):
         """How far a request has come."""
@@ -92,8 +76,11 @@ class Explainer:
         name = NAMES.get((row.number(3), row.number(4)))
         if begun:
             yield f"the beat goes on with: {self.name(begun)}"
+        if link[0] == "p" and fault != "no master sent this request":
+            yield from self.sides.of_other(begun) if begun else self.sides.of_sender(row)
         if fault == "field changed":
-            yield from changes(begun.asked[0], row, ((3, "opcode"), (4, "param"), (5, "size"), (6, "source"), (7, "address")))
+            yield from self.of_changed(begun.asked[0], row, ((3, "opcode"), (4, "param"), (5, "size"), (6, "source"), (7, "address")))
+            yield from self.sides.of_fields(row)
         elif fault == "wrong mask":
             bus = system.buses[link]
             right = bus.spell_mask(bus.active(row.address(), row.number(5))) + " or fewer bits" * (name == "putpart")
@@ -110,6 +97,11 @@ class Explainer:
             yield from self.of_stray(row, begun)
         elif fault == "no such source":
             yield f"source {row.number(6)} belongs to no master here"
+
+    def of_changed(self, first, row, columns):
+        """Which fields a beat changes, and whether the message goes on."""
+        yield from changes(first, row, columns)
+        yield from self.sides.goes_on(row, first, [column for column, _ in columns])
 
     def elsewhere(self, row):
         """The request in flight of a source of the ports' side at another port."""
@@ -135,6 +127,9 @@ class Explainer:
         yield from (f"{what}: {one} at the master's link, {other} here" for what, one, other in pairs if one != other)
         if sent.data and sent.name == name and sent.data != data:
             yield f"bytes: {hexadecimal(sent.data)} at the master's link, {hexadecimal(data)} here"
+            rows = [*(begun.asked if begun else []), row]
+            yield from self.sides.difference(sent.address, (row.link, rows, data), (sent.link, sent.asked, sent.data))
+            yield from self.sides.of_lanes(sent.asked[0], sent, data, "the bytes here")
         if not sent.is_whole:
             yield "at the master's link it has not ended"
         before = self.story.over.get((row.link, row.number(6)))
@@ -146,9 +141,12 @@ class Explainer:
     def of_reply(self, row, fault):
         """Explains the fault of a beat of a reply."""
         story, key = self.story, (row.link, row.number(6))
-        message = story.flights.get(key)
+        message, under = story.flights.get(key), story.under.get((row.link, "D"))
+        is_mixed = under is not None and under is not message
+        if is_mixed:
+            yield f"the beat goes on with the reply to: {self.text(under)}"
         if message:
-            yield f"the request: {self.name(message)}"
+            yield f"the request of this beat's source: {self.text(message)}" if is_mixed else f"the request: {self.name(message)}"
         if fault == "reply without request":
             over = story.over.get(key)
             yield f"the last request of this source: {self.text(over)}" if over else "this source has asked nothing yet"
@@ -159,9 +157,12 @@ class Explainer:
             yield f"{message.name} is answered by {reply_of(message.name)}, captured {ANSWERS[row.number(3)]}"
             yield from self.others_of(row, lambda other: reply_of(other.name) == ANSWERS[row.number(3)])
         elif fault == "field changed":
-            yield from changes(story.under[row.link, "D"].answered[0], row, ((3, "opcode"), (5, "size"), (6, "source"), (10, "denied")))
+            yield from self.of_changed(under.answered[0], row, ((3, "opcode"), (5, "size"), (6, "source"), (10, "denied")))
         elif fault == "the port gave no such reply":
             yield from self.of_given(row, message)
+        if row.link[0] == "m":
+            yield from self.sides.of_other(message) if message else ()
+            yield from self.sides.of_not_had(row)
 
     def others_of(self, row, fits):
         """Requests in flight at the link that the reply would fit."""
@@ -178,21 +179,28 @@ class Explainer:
 
     def of_given(self, row, message):
         """What the port gave for a request that is answered at its master's link."""
-        wide = next((wide for wide, owner in self.system.owners.items() if f"m{owner[0]}" == row.link and owner[1] == message.source), None)
-        port = f"p{self.system.port_to(message)}"
-        given = self.story.over.get((port, wide))
-        here = f"{' denied' if row.words[10] == '1' else ''} {hexadecimal(self.captured(row, message))}".rstrip()
-        if given is None or given.asked[0].time < message.asked[0].time:
-            yield f"{self.system.names.get(port, port)} has not answered it; captured{here}"
-            return
-        yield f"{self.system.names[port]} gave{' denied' if given.denied else ''} {hexadecimal(given.reply)}, {place_of(given.answered)}"
-        yield f"captured here{here}"
+        port, captured = self.system.names.get(f"p{message.port}", f"p{message.port}"), self.captured(row, message)
+        answer, here = reply_of(message.name), f"captured {replied(ANSWERS[row.number(3)], row.words[10] == '1', captured)}"
+        given = self.sides.at_port(message)
+        if given is None or not given.answered:
+            yield f"{port} has not answered it; {here}"
+        elif given.is_over:
+            yield f"{port} gave {replied(answer, given.denied, given.reply)}, {place_of(given.answered)}"
+            yield f"{here.replace('captured', 'captured here', 1)}"
+        else:
+            yield f"{port} has begun to answer it: {replied(answer, given.denied, given.reply)}, {place_of(given.answered)}; {here}"
+        if given and given.answered and given.denied != (row.words[10] == "1"):
+            yield f"{'denied' if given.denied else 'not denied'} at {port}'s link, {'not denied' if given.denied else 'denied'} here"
+        if given and given.reply and captured:
+            rows = [*message.answered, row]
+            yield from self.sides.difference(message.address, (row.link, rows, captured), (given.link, given.answered, given.reply))
+            yield from self.sides.of_lanes(row, message, given.reply, f"the bytes that {port} gave")
 
     # ---- wrong replies
 
     def of_wrong(self, message, found):
         """Explains a reply with other bytes than the slave expects: lines, and runs of wrong bytes of one origin."""
-        port = self.system.port_to(message)
+        port = message.port
         if bool(found[2]) != bool(found[5]):
             return [self.denial(message, port)], []
         pairs = zip(message.window(), re.findall("..", found[3] or ""), re.findall("..", found[6] or ""))
@@ -201,11 +209,20 @@ class Explainer:
         for at, expected, captured in wrong[:MOST_BYTES]:
             run = {"first": at, "last": at, "expected": expected, "captured": captured,
                    "expected_from": self.origin(port, at, history[at][-1][0]),
-                   "captured_from": self.source_of(message, port, at, captured, history[at])}
+                   "captured_from": self.source_of(message, port, at, captured, history[at]),
+                   "writer": self.of_writer(history, history[at][-1][0], message, {place for place, _, _ in wrong})}
             if not (runs and joined(runs[-1], run)):
                 runs.append(run)
         more = len(wrong) - MOST_BYTES
         return [f"{counted(more, 'wrong byte')} more"] * (more > 0), runs
+
+    def of_writer(self, history, writer, message, wrong):
+        """How much of what a request wrote there is wrong, and whether it was answered before. Of the reset there is nothing to say."""
+        if writer is None:
+            return {}
+        wrote = [at for at, held in history.items() if held[-1][0] is writer]
+        is_before = bool(writer.answered) and writer.answered[0].turned() < message.asked[0].turned()
+        return {"wrote": len(wrote), "wrong": len(wrong.intersection(wrote)), "was_answered": is_before}
 
     def denial(self, message, port):
         """Why a request is denied, or is not."""
@@ -247,20 +264,44 @@ class Explainer:
         """The request that a beat goes on with or answers, or None."""
         return self.story.under.get((row.link, "A")) if row.channel == "A" else self.story.flights.get((row.link, row.number(6)))
 
+    def place_in(self, verdict):
+        """The place of the unlawful beat of a verdict among all rows, or None."""
+        found = VERDICT.fullmatch(verdict)
+        link = found and next(link for link, name in self.system.names.items() if name == found[3])
+        return (int(found[2]), *turn_of(link, found[4])) if found else None
+
+    def of_expected(self, row, message, wrong):
+        """Whether the expected bytes stand in other lanes of the beat."""
+        pairs = re.findall("..", wrong[3] or "")
+        if pairs and "xx" not in pairs and len(message.answered) == 0:
+            yield from self.sides.of_lanes(row, message, [int(pair, 16) for pair in pairs], "the expected bytes")
+
+    def links(self):
+        """The link of the fault, and that of the other side if the fault lies between both."""
+        row = self.story.last
+        asked = self.asked_by(row) if (row.link[0], row.channel) in (("p", "A"), ("m", "D")) else None
+        other = self.sides.other(asked) if asked else None
+        return [row.link, *([other.link] if other else [])]
+
     def unlawful(self, found):
         """Explains an unlawful beat."""
         row, fault = self.story.last, found[5]
-        lines, runs = [f"the beat: {','.join(row.words[2:])}"], []
+        lines, runs, orders = [f"the beat: {','.join(row.words[2:])}"], [], []
         wrong = WRONG.fullmatch(fault)
         if wrong:
             message = self.story.flights[row.link, row.number(6)]
             more, runs = self.of_wrong(message, wrong)
-            lines += [f"the request: {self.name(message)}", *more]
+            lines += [f"the request: {self.name(message)}", *more, *self.of_expected(row, message, wrong)]
+            orders = [*self.views.of_orders(found[0])]
         else:
             lines += self.of_request(row, fault) if row.channel == "A" else self.of_reply(row, fault)
-        asked = self.asked_by(row)
-        return {"line": row.line, "time": row.time, "link": found[3], "channel": row.channel, "why": lines,
-                "request": self.record(asked) if asked else None, "bytes": runs,
+        asked, under = self.asked_by(row), self.story.under.get((row.link, row.channel))
+        port = row.link if row.link[0] == "p" else f"p{asked.port}" if asked and under in (None, asked) else None
+        other = self.sides.other(asked) if asked else None
+        where = [*self.sides.where(row, asked, port, self.views)]
+        return {"line": row.line, "time": row.time, "link": found[3], "channel": row.channel, "why": lines, "where": where,
+                "request": self.record(asked) if asked else None, "other_side": self.record(other) if other else None,
+                "bytes": runs, "orders": orders,
                 "in_flight": [self.record(message) for message in self.in_flight()], "look_at": CAUSES[fault.partition(":")[0]]}
 
 
@@ -298,12 +339,20 @@ def told_of(words, verdict):
     if not found and not verdict.startswith("incomplete:"):
         return {}, None
     system = System(words[-2])
-    story = Story(system, option(words, "--order", "accept"))
+    view, order = option(words, "--links", "both"), option(words, "--order", "accept")
+    story = Story(system, order, view)
     story.tell(words[-1], int(found[1]) if found else None)
-    explainer = Explainer(system, story, option(words, "--links", "both"))
+    explainer = Explainer(system, story, view, Views(words, view, order))
     if found:
         return explainer.unlawful(found), explainer
-    return {"in_flight": [explainer.record(message) for message in explainer.in_flight()]}, explainer
+    return {"where": [*explainer.sides.where_left()], "in_flight": [explainer.record(message) for message in explainer.in_flight()]}, explainer
+
+
+def of_writer(writer):
+    """What is said of the request that wrote the expected bytes."""
+    if writer:
+        yield (f"{writer['wrong']} of its {counted(writer['wrote'], 'byte')} here {'is' if writer['wrong'] == 1 else 'are'} wrong; it was "
+               f"{'' if writer['was_answered'] else 'not '}answered before this request crossed")
 
 
 def sections(explanation):
@@ -312,9 +361,11 @@ def sections(explanation):
     for run in explanation.get("bytes", []):
         place = f"{run['first']:#x}" if run["first"] == run["last"] else f"{run['first']:#x} to {run['last']:#x}"
         why += [f"wrong at {place}: expected {run['expected']}, captured {run['captured']}",
-                f"  {run['expected']}: {run['expected_from']['text']}", f"  {run['captured']}: {run['captured_from']['text']}"]
+                f"  {run['expected']}: {run['expected_from']['text']}", *(f"    {line}" for line in of_writer(run["writer"])),
+                f"  {run['captured']}: {run['captured_from']['text']}"]
+    why += explanation.get("orders", [])
     in_flight = [request["text"] for request in explanation.get("in_flight", [])]
-    for title, lines in (("why", why), ("in flight", in_flight), ("look at", explanation.get("look_at"))):
+    for title, lines in (("why", why), ("where", explanation.get("where")), ("in flight", in_flight), ("look at", explanation.get("look_at"))):
         if lines:
             yield title, lines
 

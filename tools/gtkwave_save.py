@@ -1,5 +1,6 @@
 """A save file of GTKWave for a fault that was found in a dump: the clock, the signals of the fault's link by the names of the system file,
-the cursor at the fault, and markers at its request (A to M) and at the requests that wrote its bytes (N to Z). For tools/explain.
+of a fault between both sides also those of the other side's link, the cursor at the fault, and markers at its request (A to M) and at the
+requests that wrote its bytes (N to Z). For tools/explain.
 """
 
 import os
@@ -10,6 +11,8 @@ from explanation import writers_of
 
 SIGNALS = ("a_valid", "a_ready", "a_opcode", "a_param", "a_size", "a_source", "a_address", "a_mask", "a_data", "a_corrupt",
            "d_valid", "d_ready", "d_opcode", "d_param", "d_size", "d_source", "d_denied", "d_corrupt", "d_data")
+# What the system file has in place of a signal's name.
+CONSTANTS = ("0", "1", "-")
 MARKERS, HALF = 26, 13
 # How GTKWave shows a value: as a hexadecimal number at the right, or as a bit.
 NUMBER, BIT = "@22", "@28"
@@ -45,14 +48,30 @@ def variables_of(dump):
     return found
 
 
-def signals_of(table, top):
+def is_declared(name, variables):
+    """Whether a dump has a signal of this name, or of the name before the range that it ends in."""
+    return name in variables or re.sub(r"\[[^\[]*\]$", "", name) in variables
+
+
+def named_by(signal, table, top, variables):
+    """What a link's table says of a signal, or else the whole file's, whose table is `top`: a name, or those of several signals."""
+    if signal in table.get("wires", {}):
+        return table["wires"][signal]
+    prefixes = table.get("signals", [])
+    bundled = with_bits(signal) if table.get("bits", top.get("bits", False)) else signal
+    behind = top.get("names", {}).get(signal, bundled)
+    if behind in CONSTANTS:
+        return behind
+    names = [prefix + behind for prefix in (prefixes if isinstance(prefixes, list) else [prefixes])]
+    return next((name for name in names if is_declared(name, variables)), [])
+
+
+def signals_of(table, top, variables):
     """The names of a link's signals in the system file, whose table of the whole file is `top`; a constant has none."""
-    wires, prefix, bits = table.get("wires", {}), table.get("signals"), table.get("bits", top.get("bits", False))
     for signal in SIGNALS:
-        behind = with_bits(signal) if bits else signal
-        names = wires.get(signal, prefix + behind if prefix is not None else None)
+        names = named_by(signal, table, top, variables)
         for name in names if isinstance(names, list) else [names]:
-            if name not in (None, "0", "1", "-"):
+            if name not in CONSTANTS:
                 yield name
 
 
@@ -77,13 +96,16 @@ def markers_of(explanation):
     return [*request, *[-1] * (HALF - len(request)), *writers, *[-1] * (MARKERS - HALF - len(writers))]
 
 
-def save_of(dump, table, link, explanation):
-    """The text of the save file: the table is the system file's, and the link the fault's, as in p0."""
-    of_link = table["master" if link[0] == "m" else "port"][int(link[1:])]
+def save_of(dump, table, links, explanation):
+    """The text of the save file: the table is the system file's, and the links are the fault's, as p0, and that of the other side, if it lies
+    between both."""
+    of_links = [table["master" if link[0] == "m" else "port"][int(link[1:])] for link in links]
+    variables = variables_of(dump)
     names = [name for name in (table.get("clock"), table.get("reset")) if name]
+    names += [name for of_link in of_links for name in signals_of(of_link, table, variables)]
     times = " ".join(str(time) for time in markers_of(explanation))
     lines = ["[*] tools/explain", f'[dumpfile] "{os.path.abspath(dump)}"', f"[timestart] {max(0, first_of(explanation) - 1)}",
-             f"*-3.000000 {explanation['time']} {times}", *shown_of([*names, *signals_of(of_link, table)], variables_of(dump))]
+             f"*-3.000000 {explanation['time']} {times}", *shown_of(names, variables)]
     return "".join(f"{line}\n" for line in lines)
 
 

@@ -8,6 +8,7 @@ import collections
 import csv
 import dataclasses
 import functools
+import itertools
 import os
 import tomllib
 
@@ -20,8 +21,10 @@ NAMES = {codes: name for name, codes in OPERATIONS.items()}
 ANSWERS = {code: name for name, code in REPLIES.items()}
 # The channels in the order in which their beats cross within one time.
 TURNS = {("m", "A"): 0, ("p", "A"): 1, ("p", "D"): 2, ("m", "D"): 3}
-# So many rows before a fault are kept for its picture.
-RECENT = 64
+# So many rows before a fault are kept for its picture, and so many behind it to see how a message goes on.
+RECENT, BEHIND = 64, 256
+# The sides whose links a view judges, by the word of --links.
+SIDES = {"both": "mp", "each": "mp", "masters": "m", "ports": "p"}
 
 
 @functools.cache
@@ -83,6 +86,8 @@ class Message:
     answered: list = dataclasses.field(default_factory=list)
     reply: list = dataclasses.field(default_factory=list)
     denied: bool = False
+    # the number of the port to which it goes
+    port: int = None
 
     def ask(self):
         return Ask(self.name, self.address, self.size, self.data)
@@ -176,44 +181,70 @@ def rows_of(path):
     yield from in_turn(group)
 
 
+def well_formed(rows):
+    """Rows up to the first record that is none: tlcheck has read no further than a fault."""
+    try:
+        yield from rows
+    except (ValueError, LookupError, csv.Error):
+        return
+
+
 class Story:
     """What has crossed up to a row: the requests in flight by link and source, the last one of each that is over, and what is under way on
-    each channel. Of each side the writes in the order in which they take effect."""
+    each channel. Of each side the writes in the order in which they take effect. A side that the view does not judge has rows alone."""
 
-    def __init__(self, system, order):
-        self.system, self.order = system, order
+    def __init__(self, system, order, view="both"):
+        self.system, self.order, self.sides = system, order, SIDES[view]
         self.flights, self.over, self.under = {}, {}, {}
         self.writes = {"m": [], "p": []}
-        self.last = None
+        self.last, self.behind = None, []
         # the last rows that were taken, each with its request
         self.recent = collections.deque(maxlen=RECENT)
+        # of each link how many requests are in flight, and the most so far with the row at which there were so many
+        self.open, self.most = collections.Counter(), {}
+        # how many requests are answered, by the port to which they went and the link at which the reply crossed
+        self.done = collections.Counter()
+        # the first row of each side
+        self.first = {}
 
     def tell(self, path, line):
-        """Takes the rows before this line's, in the order in which they cross, and keeps this one."""
-        for row in rows_of(path):
+        """Takes the rows before this line's, in the order in which they cross, and keeps this one and some behind it."""
+        rows = rows_of(path) if line is None else well_formed(rows_of(path))
+        for row in rows:
             if row.line == line:
-                self.last = row
+                self.last, self.behind = row, list(itertools.islice(rows, BEHIND))
                 return
             self.take(row)
 
     def take(self, row):
-        if row.channel == "A":
+        side = row.link[0]
+        if side not in self.first:
+            self.first[side] = row
+        if side not in self.sides:
+            self.recent.append((row, None))
+        elif row.channel == "A":
             self.take_ask(row)
         else:
             self.take_reply(row)
 
     def order_of(self, message):
-        port = self.system.port_to(message)
         tables = self.system.tables["p"]
-        return tables[port].get("order", self.order) if port < len(tables) else self.order
+        return tables[message.port].get("order", self.order) if message.port < len(tables) else self.order
+
+    def begun(self, row):
+        """The request that a row begins."""
+        name, link = NAMES[row.number(3), row.number(4)], row.link
+        message = Message(link, row.number(6), name, row.address(), row.number(5))
+        message.port = self.system.port_to(message) if link[0] == "m" else int(link[1:])
+        self.flights[link, message.source] = self.under[link, "A"] = message
+        self.open[link] += 1
+        if link not in self.most or self.open[link] > self.most[link][0]:
+            self.most[link] = self.open[link], row
+        return message
 
     def take_ask(self, row):
-        message = self.under.get((row.link, "A"))
+        message = self.under.get((row.link, "A")) or self.begun(row)
         bus = self.system.buses[row.link]
-        if message is None:
-            name = NAMES[row.number(3), row.number(4)]
-            message = Message(row.link, row.number(6), name, row.address(), row.number(5))
-            self.flights[row.link, message.source] = self.under[row.link, "A"] = message
         message.asked.append(row)
         self.recent.append((row, message))
         carries = carries_data(message.name)
@@ -250,6 +281,8 @@ class Story:
             message.reply += [word[lane] for lane in lanes]
         if len(message.answered) == bus.count(message.size, carries):
             message.is_over = True
+            self.open[row.link] -= 1
+            self.done[message.port, row.link] += 1
             del self.under[row.link, "D"]
             del self.flights[row.link, message.source]
             self.over[row.link, message.source] = message

@@ -1,0 +1,164 @@
+"""Captures for tools/explain_test whose explanation was worked out by hand: the options, the rows below the header, and lines that have to be
+printed. One system has all: two masters with two sources each, a memory on their bus of 8 bytes, and one behind an adapter, with a bus of 4
+bytes. At the ports, core has the sources 0 and 1, and dma 2 and 3. The memories are zero at reset, except for the first 8 bytes of `slow`.
+"""
+
+SYSTEM = """[[port]]
+name = "ram"
+kind = "ram"
+base = 0x1000
+length = 64
+[[port]]
+name = "slow"
+kind = "ram"
+base = 0x2000
+length = 64
+reset = "0011223344556677"
+bus = 4
+[[master]]
+name = "core"
+sources = 2
+[[master]]
+name = "dma"
+sources = 2
+"""
+LOW, HIGH = "a7a6a5a4a3a2a1a0", "b7b6b5b4b3b2b1b0"
+# slow answers source 0 of core, and core gets that as the reply of source 1.
+OTHER_SOURCE = """10,m0,A,4,0,3,0,2000,ff,,,
+11,p1,A,4,0,3,0,2000,f,,,
+12,m0,A,4,0,3,1,2008,ff,,,
+13,p1,A,4,0,3,1,2008,f,,,
+14,p1,D,1,,3,0,,,33221100,0,0
+15,p1,D,1,,3,0,,,77665544,0,0
+15,m0,D,1,,3,1,,,%s,0,0
+"""
+# A get of core is let in within a burst of dma.
+BURST = f"""10,m1,A,0,0,4,0,1000,ff,{LOW},,
+10,p0,A,0,0,4,2,1000,ff,{LOW},,
+11,m0,A,4,0,0,1,1021,02,,,
+11,p0,A,4,0,0,1,1021,02,,,
+12,m1,A,0,0,4,0,1000,ff,{HIGH},,
+12,p0,A,0,0,4,2,1000,ff,{HIGH},,
+"""
+# A get passes a put to the same bytes that was accepted before.
+PASSED = """10,m0,A,0,0,2,0,1000,0f,00000000a3a2a1a0,,
+10,p0,A,0,0,2,0,1000,0f,00000000a3a2a1a0,,
+11,m1,A,4,0,2,0,1000,0f,,,
+11,p0,A,4,0,2,2,1000,0f,,,
+12,p0,D,1,,2,2,,,0000000000000000,0,0
+13,m1,D,1,,2,0,,,0000000000000000,0,0
+"""
+# The adapter gives the right bytes in other lanes.
+LANES = """10,m0,A,4,0,2,0,2004,f0,,,
+11,p1,A,4,0,2,0,2004,f,,,
+12,p1,D,1,,2,0,,,77665544,0,0
+12,m0,D,1,,2,0,,,0000000077665544,0,0
+"""
+# A put crosses at the port beat by beat before its one beat ends at the master's link. Its reply is denied on the way.
+DENIED = f"""10,p1,A,0,0,3,0,2000,f,a3a2a1a0,,
+11,m0,A,0,0,3,0,2000,ff,{LOW},,
+11,p1,A,0,0,3,0,2000,f,a7a6a5a4,,
+12,p1,D,0,,3,0,,,,0,0
+13,m0,D,0,,3,0,,,,1,0
+"""
+# A reply of slow is let in within one of ram.
+REPLIES = """10,m0,A,4,0,4,0,1000,ff,,,
+10,p0,A,4,0,4,0,1000,ff,,,
+11,m0,A,4,0,3,1,2000,ff,,,
+11,p1,A,4,0,3,1,2000,f,,,
+12,p0,D,1,,4,0,,,0000000000000000,0,0
+12,p1,D,1,,3,1,,,33221100,0,0
+12,m0,D,1,,4,0,,,0000000000000000,0,0
+13,p1,D,1,,3,1,,,77665544,0,0
+13,m0,D,1,,3,1,,,7766554433221100,0,0
+14,m0,D,1,,4,0,,,0000000000000000,0,0
+"""
+# Of three requests one was answered at the port, one was not, and one did not cross there.
+LEFT = """10,m0,A,4,0,0,0,1000,01,,,
+10,p0,A,4,0,0,0,1000,01,,,
+11,m0,A,4,0,0,1,1000,01,,,
+11,p0,A,4,0,0,1,1000,01,,,
+12,p0,D,1,,0,0,,,0000000000000000,0,0
+13,m1,A,4,0,0,0,1000,01,,,
+"""
+# core gets a reply that it did not ask for; then the port gets a request for another one.
+STRAY = """10,m0,D,0,,0,0,,,,0,0
+11,p0,A,4,0,0,0,2000,01,,,
+"""
+# The byte that the port has to give is 00.
+ALONE = """10,m0,D,0,,0,0,,,,0,0
+11,p0,A,4,0,0,0,1000,01,,,
+12,p0,D,1,,0,0,,,00000000000000ff,0,0
+"""
+# No port has the address, and the reply is not denied.
+NOBODYS = """10,m0,A,4,0,0,0,5000,01,,,
+11,m0,D,1,,0,0,,,0000000000000000,0,0
+"""
+# The second word of a put is changed on the way.
+CHANGED = f"""10,m1,A,0,0,3,1,2008,ff,{LOW},,
+10,p1,A,0,0,3,3,2008,f,a3a2a1a0,,
+11,p1,A,0,0,3,3,2008,f,a7a6a5ff,,
+"""
+BETWEEN = "all beats at the ports' links are lawful up to there, and this reply at core's link is not"
+CASES = (
+    ([], OTHER_SOURCE % "7766554433221100", (
+        "slow has not answered it; captured AccessAckData 0011223344556677",
+        "slow gave source 0 (source 0 of core) AccessAckData 0011223344556677, lines 6 to 7, times 14 to 15; no beat of it crossed at core's link; "
+        "this beat fits it",
+        f"between slow and core: {BETWEEN}", "the bus has 8 bytes at core's link and 4 bytes at slow's",
+        "in flight at slow's link: at most 2 requests so far, first at line 5, time 13", "whole replies at core's link before: none")),
+    ([], OTHER_SOURCE % "7766554433221101", (
+        "slow gave source 0 (source 0 of core) AccessAckData 0011223344556677, lines 6 to 7, times 14 to 15; no beat of it crossed at core's link; "
+        "this beat differs from it in data",)),
+    ([], BURST, (
+        "the beat goes on with: ram, source 2 (source 0 of dma): putfull 0x1000 of 16 bytes a0a1a2a3a4a5a6a7, line 3, time 10",
+        "at the other side: dma, source 0: putfull 0x1000 of 16 bytes a0a1a2a3a4a5a6a7, line 2, time 10; under way, 1 beat so far",
+        "address: 1000 in the first beat, 1021 here",
+        "these are the fields of: core, source 1: get 0x1021 of 1 byte, line 4, time 11; not answered yet",
+        "behind it a beat has the fields of the first one again: line 7, time 12",
+        "between the masters and ram: all beats at the masters' links are lawful up to there, and this request at ram's link is not",
+        "whole replies at ram's link before: none")),
+    (["--links", "ports"], BURST, ("between the masters and ram: with --links masters all is lawful up to there",)),
+    ([], PASSED, (
+        "4 of its 4 bytes here are wrong; it was not answered before this request crossed",
+        "with --order reply: lawful: 6 rows, 2 requests, 1 answered", "with --order any: lawful: 6 rows, 2 requests, 1 answered",
+        "in ram: this reply is unlawful by what crossed at its link alone; all requests there are lawful up to there")),
+    (["--links=masters"], PASSED, (
+        "with --links ports an earlier row is unlawful already: line 6, time 12, ram D: wrong reply: expected AccessAckData a0a1a2a3, "
+        "captured AccessAckData 00000000", "whole replies at dma's link before: none")),
+    ([], LANES, (
+        "slow gave AccessAckData 44556677, line 4, time 12", "captured here AccessAckData 00000000",
+        "the first difference, at 0x2004: 44 at slow's link (line 4, time 12), 00 at core's link (line 5, time 12)",
+        "the bytes that slow gave stand at lane 0 of the beat in line 5, time 12; the address begins at lane 4",
+        "at the other side: slow, source 0 (source 0 of core): get 0x2004 of 4 bytes, line 3, time 11; answered at line 4, time 12")),
+    (["--links", "masters"], LANES, (
+        "the expected bytes stand at lane 0 of the beat in line 5, time 12; the address begins at lane 4",
+        "between the ports and core: with --links ports all is lawful up to there")),
+    ([], DENIED, (
+        "slow gave AccessAck, line 5, time 12", "captured here AccessAck denied", "not denied at slow's link, denied here",
+        f"between slow and core: {BETWEEN}")),
+    ([], REPLIES, (
+        "the beat goes on with the reply to: core, source 0: get 0x1000 of 16 bytes, line 2, time 10; its reply has begun at line 8, time 12",
+        "the request of this beat's source: core, source 1: get 0x2000 of 8 bytes, line 4, time 11; not answered yet",
+        "source: 0 in the first beat, 1 here", "behind it a beat has the fields of the first one again: line 11, time 14",
+        "at the other side: slow, source 1 (source 1 of core): get 0x2000 of 8 bytes, line 5, time 11; answered at lines 7 to 9, times 12 to 13",
+        f"between the ports and core: {BETWEEN}")),
+    (["--complete"], LEFT, (
+        "core, source 0: ram answered it, line 6, time 12; the reply has not crossed whole at core's link",
+        "core, source 1: it crossed at ram's link, line 5, time 11; ram has not answered it", "dma, source 0: it has not crossed at ram's link")),
+    (["--links", "ports"], STRAY, (
+        "1 byte at 0x2000: the address of slow",
+        "with --links masters an earlier row is unlawful already: line 2, time 10, core D: reply without request")),
+    (["--links", "ports"], ALONE, (
+        "the request: ram, source 0 (source 0 of core): get 0x1000 of 1 byte, line 3, time 11",
+        "in ram: this reply is unlawful by what crossed at its link alone; all requests there are lawful up to there")),
+    ([], NOBODYS, (
+        "no port has 1 byte at 0x5000: the error port denies it", f"between the ports and core: {BETWEEN}",
+        "the error port answers this request; it has no link")),
+    (["--links", "masters"], NOBODYS, (
+        "between the ports and core, or in one of these: no row of the ports' links was captured up to there",)),
+    ([], CHANGED, (
+        "bytes: a0a1a2a3a4a5a6a7 at the master's link, a0a1a2a3ffa5a6a7 here",
+        "the first difference, at 0x200c: a4 at dma's link (line 2, time 10), ff at slow's link (line 4, time 11)",
+        "the bus has 8 bytes at dma's link and 4 bytes at slow's")),
+)

@@ -1,0 +1,251 @@
+"""Both sides of the crossbar at a fault: on which side it lies, the same message at the other side, the first difference between both, and
+the replies that a master has not had. For tools/explain; nothing of it is proved. Messages of both sides are compared if the view is `both`:
+with another one nobody knows that they are the same.
+"""
+
+from bus import reply_of
+from capture_input import said_by
+from common import ORDERS, TLCHECK
+from spelling import counted, hexadecimal, place_of, replied
+from story import ANSWERS, NAMES
+
+# So many requests or replies of a kind are told.
+MOST = 8
+OTHER_VIEW = {"masters": "ports", "ports": "masters"}
+
+
+def beat_with(rows, place, bus):
+    """The beat of a message that carries its byte at a place."""
+    return rows[min(place // bus.width, len(rows) - 1)]
+
+
+class Views:
+    """What tlcheck says of the same capture in other views and orders."""
+
+    def __init__(self, words, view, order):
+        self.files, self.view, self.order = words[-2:], view, order
+
+    def said(self, view=None, order=None):
+        """Its line, or None if it judges nothing."""
+        options = ["--quiet", "--links", view or self.view, "--order", order or self.order]
+        run = said_by(TLCHECK, [*options, *self.files], stdout=-1)
+        return run.stdout.decode(errors="replace").strip() if run.returncode in (0, 3) else None
+
+    def of_orders(self, verdict):
+        """What it says if requests take effect at another moment."""
+        # what is unlawful with `any` is so with each order
+        for order in ORDERS if self.order != "any" else ():
+            said = self.said(order=order) if order != self.order else None
+            if said:
+                yield f"with --order {order}: {'the same line' if said == verdict else said}"
+
+
+class Sides:
+    """Both sides at a fault: of an explainer."""
+
+    def __init__(self, explainer):
+        self.explainer, self.system, self.story, self.view = explainer, explainer.system, explainer.story, explainer.view
+        self.are_compared = self.view == "both"
+        self.wide = {(f"m{master}", own): wide for wide, (master, own) in self.system.owners.items()}
+
+    def name(self, link):
+        return self.system.names.get(link, link)
+
+    # ---- the same message at the other side
+
+    def at_port(self, message):
+        """A request of a master as it crossed at its port's link, or None. An adapter may take beats at its port before the master's beat."""
+        key = f"p{message.port}", self.wide.get((message.link, message.source))
+        found = self.story.flights.get(key)
+        if found:
+            return found
+        over = self.story.over.get(key)
+        return over if over and over.asked[-1].turned() > message.asked[-1].turned() else None
+
+    def at_master(self, message):
+        """A request at a port as its master has it in flight, or None."""
+        owner = self.system.owners.get(message.source)
+        found = owner and self.story.flights.get((f"m{owner[0]}", owner[1]))
+        return found if found and found.port == message.port else None
+
+    def other(self, message):
+        """The same request at the other side: None if the view does not compare both, or if it has not crossed there."""
+        if not self.are_compared:
+            return None
+        return self.at_port(message) if message.link[0] == "m" else self.at_master(message)
+
+    def of_other(self, message):
+        """Where the same request stands at the other side."""
+        if not self.are_compared or f"p{message.port}" not in self.system.buses:
+            return
+        found, owner = self.other(message), self.system.owners.get(message.source)
+        link = f"p{message.port}" if message.link[0] == "m" else f"m{owner[0]}" if owner else None
+        if found:
+            yield f"at the other side: {self.explainer.text(found)}"
+        elif link:
+            yield f"at the other side: it has not crossed at {self.name(link)}'s link"
+
+    def of_sender(self, row):
+        """What the owner of the source of a request that begins at a port's link has in flight."""
+        owner = self.system.owners.get(row.number(6)) if self.are_compared else None
+        if owner:
+            found = self.story.flights.get((f"m{owner[0]}", owner[1]))
+            said = self.explainer.text(found) if found else f"nothing is in flight of source {owner[1]} of {self.name(f'm{owner[0]}')}"
+            yield f"at the other side: {said}"
+
+    def difference(self, address, ours, theirs):
+        """The first byte that two messages carry differently: pairs of a link and its beats, each with the bytes."""
+        (link, rows, data), (other, beats, given) = ours, theirs
+        place = next((place for place, pair in enumerate(zip(data, given)) if pair[0] != pair[1]), None)
+        if place is None:
+            return
+        here, there = (f"{hexadecimal([found[place]])} at {self.name(at)}'s link ({place_of([beat_with(rows, place, self.system.buses[at])])})"
+                       for at, rows, found in ((link, rows, data), (other, beats, given)))
+        yield f"the first difference, at {address + place:#x}: {there}, {here}"
+
+    # ---- replies that a master has not had
+
+    def not_had(self, link):
+        """The requests of a master to which a port's reply has begun of which no beat crossed at the master's link, as they crossed at the
+        port."""
+        for (at, _), message in self.story.flights.items():
+            given = self.other(message) if at == link and not message.answered else None
+            if given and given.answered:
+                yield given
+
+    def of_not_had(self, row):
+        """These, and whether a beat at the master's link fits them."""
+        own = self.wide.get((row.link, row.number(6)))
+        for given in [given for given in self.not_had(row.link) if given.source != own][:MOST]:
+            reply = replied(reply_of(given.name), given.denied, given.reply)
+            unlike = self.unlike(row, given)
+            fits = f"this beat differs from it in {', '.join(unlike)}" if unlike else "this beat fits it"
+            yield (f"{self.name(given.link)} gave source {given.source}{self.explainer.whose(given)} {reply}, {place_of(given.answered)}; "
+                   f"no beat of it crossed at {self.name(row.link)}'s link; {fits}")
+
+    def unlike(self, row, given):
+        """In what a beat differs from the same beat of a port's reply, apart from its source."""
+        under = self.story.under.get((row.link, "D")) or self.story.flights.get((row.link, row.number(6)))
+        begun = len(under.answered) if under else 0
+        bus = self.system.buses[row.link]
+        places, lanes = bus.lanes(given.address, given.size, begun)
+        word = row.lanes(bus)
+        answer = ANSWERS.get(row.number(3))
+        pairs = (("opcode", answer, reply_of(given.name)), ("size", row.number(5), given.size), ("denied flag", row.words[10] == "1", given.denied))
+        unlike = [field for field, one, other in pairs if one != other]
+        data = given.reply[places.start:places.stop]
+        is_other = answer == "AccessAckData" and not unlike and [word[lane] for lane in lanes][:len(data)] != data
+        return unlike + ["data"] * is_other
+
+    # ---- a beat in the midst of another message
+
+    def of_fields(self, row):
+        """Which requests of the masters in flight have the fields of a beat at a port."""
+        if row.link[0] == "p" and self.are_compared:
+            found = [message for (link, _), message in self.story.flights.items() if link[0] == "m" and self.has_fields(row, message)]
+            yield from (f"these are the fields of: {self.explainer.text(message)}" for message in found[:MOST])
+
+    def has_fields(self, row, message):
+        """Whether a request of a master has the fields of a beat at a port."""
+        return (self.wide[message.link, message.source], message.size, message.name, message.address) == (
+            row.number(6), row.number(5), NAMES.get((row.number(3), row.number(4))), row.address())
+
+    def goes_on(self, row, first, columns):
+        """Whether a message goes on behind a beat that does not fit it."""
+        for other in self.story.behind:
+            if (other.link, other.channel) == (row.link, row.channel):
+                if all(other.words[column] == first.words[column] for column in columns):
+                    yield f"behind it a beat has the fields of the first one again: {place_of([other])}"
+                    return
+
+    # ---- lanes
+
+    def of_lanes(self, row, message, data, what):
+        """Other lanes of a beat in which the bytes stand that belong to lanes of it: of a message that is one part of the bus."""
+        bus = self.system.buses[row.link]
+        span = len(data)
+        if span != 1 << message.size or span >= bus.width or not any(data):
+            return
+        _, right = bus.lanes(message.address, message.size)
+        word = row.lanes(bus)
+        found = [first for first in range(0, bus.width, span) if word[first:first + span] == data]
+        if len(found) == 1 and found[0] != right.start:
+            yield f"{what} stand at lane {found[0]} of the beat in {place_of([row])}; the address begins at lane {right.start}"
+
+    # ---- on which side
+
+    def where(self, row, message, port, views):
+        """On which side the fault lies, with what says so; and what crossed that way before."""
+        yield from self.side_of(row, port, views)
+        if port in self.system.buses:
+            yield from self.width_of(row, message, port)
+            if port in self.story.most:
+                most, first = self.story.most[port]
+                yield f"in flight at {self.name(port)}'s link: at most {counted(most, 'request')} so far, first at {place_of([first])}"
+        yield from self.counts(row)
+
+    def side_of(self, row, port, views):
+        name, side = self.name(row.link), row.link[0]
+        kind = "request" if row.channel == "A" else "reply"
+        if (side, row.channel) == ("m", "A"):
+            yield f"in {name}: this request is unlawful by what crossed at its link alone; all replies there are lawful up to there"
+        elif (side, row.channel) == ("p", "D"):
+            yield f"in {name}: this reply is unlawful by what crossed at its link alone; all requests there are lawful up to there"
+        elif self.view in OTHER_VIEW:
+            yield from self.by_other(row, port, views)
+        else:
+            far = "masters" if side == "p" else "ports"
+            start = self.name(port) if side == "m" and port in self.system.buses else f"the {far}"
+            yield f"between {start} and {name}: all beats at the {far}' links are lawful up to there, and this {kind} at {name}'s link is not"
+        if side == "m" and port and port not in self.system.buses:
+            yield "the error port answers this request; it has no link"
+
+    def by_other(self, row, port, views):
+        """The side of a fault at the far end of a view that judges one side: what the view of the other side says."""
+        view = OTHER_VIEW[self.view]
+        far, name = ("p", self.name(row.link)) if view == "ports" else ("m", self.name(row.link))
+        said = views.said(view=view) if far in self.story.first else None
+        if said is None:
+            yield f"between the {view} and {name}, or in one of these: no row of the {view}' links was captured up to there"
+            return
+        place = self.explainer.place_in(said)
+        if place is None or place > row.turned():
+            yield f"between the {view} and {name}: with --links {view} all is lawful up to there"
+        else:
+            yield f"with --links {view} an earlier row is unlawful already: {said.removeprefix('unlawful: ')}"
+
+    def width_of(self, row, message, port):
+        """Whether the way has an adapter of widths."""
+        link = row.link
+        if link[0] == "p":
+            owner = self.system.owners.get(message.source) if message else None
+            link = f"m{owner[0]}" if owner and self.view != "each" else None
+        widths = [self.system.buses[at].width for at in (link, port) if at]
+        if len(set(widths)) == 2:
+            yield f"the bus has {counted(widths[0], 'byte')} at {self.name(link)}'s link and {counted(widths[1], 'byte')} at {self.name(port)}'s"
+
+    def counts(self, row):
+        """How many requests were answered at the link before."""
+        found = [(port, number) for (port, link), number in sorted(self.story.done.items()) if link == row.link]
+        told = ", ".join(f"{number} from {self.name(f'p{port}') if f'p{port}' in self.system.buses else 'the error port'}" for port, number in found)
+        if row.link[0] == "p":
+            told = ", ".join(str(number) for _, number in found)
+        yield f"whole replies at {self.name(row.link)}'s link before: {told or 'none'}"
+
+    # ---- requests without reply
+
+    def where_left(self):
+        """How far the oldest requests that are left at masters' links have come at the other side."""
+        left = [message for message in self.explainer.in_flight() if message.link[0] == "m" and f"p{message.port}" in self.system.buses]
+        for message in left[:MOST] if self.are_compared else ():
+            given, port = self.at_port(message), self.name(f"p{message.port}")
+            asker = f"{self.name(message.link)}, source {message.source}"
+            if given is None:
+                yield f"{asker}: it has not crossed at {port}'s link"
+            elif given.is_over:
+                yield f"{asker}: {port} answered it, {place_of(given.answered)}; the reply has not crossed whole at {self.name(message.link)}'s link"
+            elif given.is_whole:
+                state = "begun to answer" if given.answered else "not answered"
+                yield f"{asker}: it crossed at {port}'s link, {place_of(given.asked)}; {port} has {state} it"
+            else:
+                yield f"{asker}: its beats have not all crossed at {port}'s link"

@@ -1,0 +1,28 @@
+"""How messages, bytes and rows are spelled in an explanation. For tools/explain."""
+
+
+def hexadecimal(data):
+    """Bytes in the order of their addresses, as a verdict spells them."""
+    return "".join("xx" if byte is None else f"{byte:02x}" for byte in data)
+
+
+def counted(number, what):
+    return f"{number} {what}{'s' * (number != 1)}"
+
+
+def bytes_of(size):
+    """How many bytes a size stands for."""
+    return counted(1 << size, "byte")
+
+
+def place_of(rows):
+    """The lines and the times of some rows."""
+    first, last = rows[0], rows[-1]
+    if first is last:
+        return f"line {first.line}, time {first.time}"
+    return f"lines {first.line} to {last.line}, times {first.time} to {last.time}"
+
+
+def replied(answer, denied, data):
+    """A reply as a verdict spells it: its opcode, whether it is denied, and its bytes if it has some."""
+    return " ".join([answer] + ["denied"] * bool(denied) + [hexadecimal(data)] * bool(data))
