@@ -18,15 +18,24 @@ ROLES = ("port", "master")
 
 
 def where(link, table):
-    """The bus of a link and the names of its signals, without those that the dump has not, or None if it has no signals."""
-    wires, prefix, bits = link.get("wires", {}), link.get("signals"), link.get("bits", table.get("bits", False))
-    if prefix is None and not wires:
+    """The bus of a link and the names that each of its signals may have, one behind each prefix, without those signals that the dump has not; or
+    None if it has no signals."""
+    wires, prefixes, bits = link.get("wires", {}), link.get("signals", []), link.get("bits", table.get("bits", False))
+    if not prefixes and not wires:
         return None
+    prefixes = [prefixes] if isinstance(prefixes, str) else prefixes
     # tlvcd does without these if nothing behind the prefix has such a name, and no bench has one
     left_out = {signal: "-" for signal in ("a_corrupt", "d_param")}
-    behind = {signal: prefix + (with_bits(signal) if bits else signal) for signal in SIGNALS} if prefix is not None else {}
-    names = {**behind, **left_out, **wires}
-    return link.get("bus", table.get("bus", BUS)), {signal: name for signal, name in names.items() if name != "-"}
+    behind = {signal: [prefix + (with_bits(signal) if bits else signal) for prefix in prefixes] for signal in SIGNALS if prefixes}
+    names = {**behind, **{signal: [wire] for signal, wire in {**left_out, **wires}.items()}}
+    return link.get("bus", table.get("bus", BUS)), {signal: those for signal, those in names.items() if those != ["-"]}
+
+
+def is_told(link, others):
+    """Whether one of these links has the bus and the signals of a link, each by one of its names."""
+    bus, names = link
+    return any(bus == wide and names.keys() == those.keys() and all(any(name in those[signal] for name in names[signal]) for signal in names)
+               for wide, those in others)
 
 
 def links_of(text):
@@ -44,7 +53,7 @@ def fault_of_draft(system, dump):
     told = links_of("\n".join(found[1] for line in lines if (found := LOOKED_AT.fullmatch(line))))
     with open(system, encoding="utf-8") as file:
         text = file.read()
-    lacks = [f"no {role} {link}" for role, links in links_of(text).items() for link in links if link not in told[role]]
+    lacks = [f"no {role} {link}" for role, links in links_of(text).items() for link in links if not is_told(link, told[role])]
     # where several signals may be the clock or the reset, the draft lists them as comments
     wanted = [line for line in text.splitlines() if line.startswith(("clock = ", "reset = "))]
     lacks += [f"no line {line}" for line in wanted if line not in lines and "# " + line not in lines]
