@@ -4,6 +4,7 @@ use Rattle.std.proofs.KnownBytes.{Keeps-refl}
 use Rattle.std.specs.Result.{IsErrAnd}
 use Rattle.tl_streams.specs.declared.streams.ReadFault.{ReadFault}
 use Rattle.tl_streams.specs.declared.streams.ReadFault.TheVariants as read
+use Rattle.check_description.specs.Description.{Description, Makes}
 use Rattle.check_description.specs.File.{Parts}
 use Rattle.check_program.specs.Dump.{IsDumpCounted, IsOutcome, IsOutcomeCounted, IsUnknownFault}
 use Rattle.check_program.specs.Engine.{GivenParts, IsCounted, IsUnprepared}
@@ -18,9 +19,10 @@ is_err (Ok lawful) fault is = absurd is
 is_err (Err e) fault is = ap Err is
 
 module _ (asked : Asked) (given : GivenParts) where
-  pub why_unread : (fault : ReadFault) → IsUnknownFault asked given (of_read fault)
-  why_unread read.Memory = tt
-  why_unread read.Read = tt
+  pub why_unread : (system : Description) → Makes given.parts system → (fault : ReadFault)
+      → IsUnknownFault asked given (of_read fault)
+  why_unread system made read.Memory = tt
+  why_unread system made read.Read = (system, made)
 
   pub why_unprepared : (fault : CheckFault) → IsUnprepared asked.terms given.parts given.images fault
       → IsUnknownFault asked given fault

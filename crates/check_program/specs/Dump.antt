@@ -160,14 +160,15 @@ pub record IsDumpChecked (asked : Asked) (given : GivenParts) (old new : Option 
 abbrev pub IsText : Option (List ℕ) → Option (List ℕ) → Type 0
 IsText known text = IfSome known (λ bytes. text ≡ Some bytes)
 
--- it is not known yet which it is: the fault is one of the system, or of a read, or want of memory; nothing was written
+-- it is not known yet which it is: the fault is one of the system, or of a read if there is a system, or want of memory;
+-- nothing was written
 abbrev pub IsUnknownFault : Asked → GivenParts → CheckFault → Type 0
 IsUnknownFault asked given (check.System fault) = IsSystemFault asked given fault
 IsUnknownFault asked given (check.Capture fault) = ⊥
 IsUnknownFault asked given (check.Keys fault) = ⊥
 IsUnknownFault asked given (check.Unnamed link) = ⊥
 IsUnknownFault asked given (check.Dump fault) = ⊥
-IsUnknownFault asked given check.Read = Unit {0}
+IsUnknownFault asked given check.Read = (system : Description) × Makes given.parts system
 IsUnknownFault asked given check.Memory = Unit {0}
 IsUnknownFault asked given check.Write = ⊥
 

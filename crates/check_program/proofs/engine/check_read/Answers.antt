@@ -18,7 +18,7 @@ returns-in_err-front-clause-checked g c = λ asked parts images same is.
       capture = g.C.Read.remaining c.args.capture;
     } in
     let fault = c.in_err-front.field-0.0 in
-    unread asked given _ _ (of_read fault) c.from_residual.ensures.1 (why_unread asked given fault)
+    unread asked given _ _ (of_read fault) c.from_residual.ensures.1 (why_unread asked given is.system is.made fault)
 
 pub returns-then-is_dump-clause-checked : goal.returns-then-is_dump-clause-checked
 returns-then-is_dump-clause-checked g c = λ asked parts images same is.
