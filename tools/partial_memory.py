@@ -74,8 +74,8 @@ ERROR_PORT = {"kind": "error", "base": 0, "length": 0}
 class Kept:
     """A request that a slave has accepted and not answered, with `--order any`: what its reply has to fit, and its place by acceptance."""
 
-    def __init__(self, ask, writes, expected, place):
-        self.ask, self.writes, self.expected, self.place = ask, writes, expected, place
+    def __init__(self, ask, start, writes, expected, place):
+        self.ask, self.start, self.writes, self.expected, self.place = ask, start, writes, expected, place
 
     def spoils(self, shared):
         """The bytes that nobody knows once others may write these bytes of it too: an atomic's whole window, since a sum carries."""
@@ -84,7 +84,7 @@ class Kept:
     def lose(self, others):
         """What the reply has to fit, once others may write these bytes before it begins."""
         if self.expected and not self.expected.denied:
-            places = range(self.ask.address, self.ask.address + len(self.expected.data))
+            places = range(self.start, self.start + len(self.expected.data))
             self.expected = Reply(False, [None if at in others else byte for at, byte in zip(places, self.expected.data)])
 
 
@@ -92,10 +92,10 @@ class Slave:
     """A slave from reset on, and how many requests it has served."""
 
     def __init__(self, port, image=b""):
-        self.kind, self.sizes, self.order = port["kind"], port.get("sizes"), port.get("order")
+        self.kind, self.sizes = port["kind"], port.get("sizes")
         self.is_unknown, self.served, self.kept = port.get("unknown", False), 0, []
         self.ranges = ranges_of(port)
-        base = self.ranges[0][0]
+        self.is_mirror, base = port.get("mirror", False), self.ranges[0][0]
         self.volatile = [(base + offset, length) for offset, length in port.get("volatile", [])]
         self.cells = {base + place: byte for given in (image, bytes.fromhex(port.get("reset", ""))) for place, byte in enumerate(given)}
 
@@ -113,8 +113,14 @@ class Slave:
             return None
         return self.cells.get(address, None if self.is_unknown else 0)
 
+    def start_of(self, ask):
+        """Where the bytes of a request stand: if the ranges are one memory, as far from the base of the first as from that of their own."""
+        own = next((base for base, length in self.ranges if holds([(base, length)], ask.address, ask.size)), None)
+        return ask.address if own is None or not self.is_mirror else self.ranges[0][0] + ask.address - own
+
     def window(self, ask):
-        return [self.byte(at) for at in range(ask.address, ask.address + (1 << ask.size))]
+        start = self.start_of(ask)
+        return [self.byte(at) for at in range(start, start + (1 << ask.size))]
 
     def served_next(self, ask):
         """What a request expects after all before it, and its place among them; of a device it expects nothing."""
@@ -128,7 +134,8 @@ class Slave:
             return Reply(True, [0] * (1 << ask.size) if carries else [])
         old = self.window(ask)
         if ask.data:
-            self.cells.update(zip(range(ask.address, ask.address + len(old)), self.left_by(ask, old)))
+            start = self.start_of(ask)
+            self.cells.update(zip(range(start, start + len(old)), self.left_by(ask, old)))
         return Reply(False, old if carries else [])
 
     def permits(self, ask):
@@ -136,17 +143,18 @@ class Slave:
         return self.supports(ask.name, ask.size) and ask.address % (1 << ask.size) == 0 and holds(self.ranges, ask.address, ask.size)
 
     def writes(self, ask):
-        """The addresses of the bytes that a request may write."""
+        """Where the bytes stand that a request may write."""
         if self.kind == "device" or not self.permits(ask):
             return set()
-        return {ask.address + place for place, byte in enumerate(ask.data) if byte is not None}
+        start = self.start_of(ask)
+        return {start + place for place, byte in enumerate(ask.data) if byte is not None}
 
     def accept(self, ask):
         """A request is accepted that takes effect at some moment before its reply begins. Bytes that two requests may write at once are unknown
         from then on, and a request that another one meets expects no such byte."""
         writes = self.writes(ask)
         expected, place = self.served_next(ask)
-        new = Kept(ask, writes, expected, place)
+        new = Kept(ask, self.start_of(ask), writes, expected, place)
         for other in self.kept:
             new.lose(other.writes)
             other.lose(writes)

@@ -4,7 +4,7 @@ use Rattle.std.specs.List.{list_any}
 use Rattle.std.specs.Prelude.{option_map}
 use Rattle.std.proofs.lemmas.Bool.{cases_eq}
 use Rattle.tl_types.specs.Request.{Request}
-use Rattle.check_memory.specs.Partial.{Partial, permits, is_volatile, AreWithin}
+use Rattle.check_memory.specs.Partial.{Partial, permits, is_volatile, AreWithin, start_of}
 use Rattle.check_memory.specs.Pattern.{Pattern, pattern}
 use Rattle.check_memory.specs.declared.slave.Slave.{Slave}
 use Rattle.check_memory.specs.declared.slave.Slave.TheVariants.{Memory, Device}
@@ -163,7 +163,7 @@ new_alone : (ours : List (Option ℕ)) (truth : Partial) (kept : List Accepted) 
     → AreAlone truth (course_with course wide (Waiting ask)) wide ask (due_of (Memory (with_cells truth ours)) kept ask)
 new_alone ours truth kept course wide ask is legal place byte known other ask' there apart = ⊎_elim
     (λ (new : IsNew wide other ask ask'). absurd (apart new.0))
-    (λ old. none_there (λ x. may_write truth x (ask.address + place)) kept course other ask' is.asks
+    (λ old. none_there (λ x. may_write truth x (start_of truth ask + place)) kept course other ask' is.asks
     (beside_known truth ask (one_may_write (with_cells truth ours) kept) (pattern (with_cells truth ours) ask) place byte
     legal known).0 old.1)
     (asked_cases course wide ask other ask' there)
@@ -178,7 +178,7 @@ old_alone ours truth kept course wide ask w entry is there waits legal place byt
     let parts = beside_known truth entry.ask (may_write (with_cells truth ours) ask) entry.due place byte legal known in
     ⊎_elim
     (λ (new : IsNew wide other ask ask').
-    let P : Request → Type 0 = λ x. may_write truth x (entry.ask.address + place) ≡ false in subst P new.1 parts.0)
+    let P : Request → Type 0 = λ x. may_write truth x (start_of truth entry.ask + place) ≡ false in subst P new.1 parts.0)
     (λ old. is.below.dues w entry entry.ask there waits legal place byte parts.1 other ask' old.1 apart)
     (asked_cases course wide ask other ask' asked)
 

@@ -1,7 +1,7 @@
 -- What is kept says no more than the truth, once a request is accepted: slaves of any kind.
 use Rattle.std.proofs.Common.{◌≡◌, ◌∙◌, ⊎_elim, ℕ, ◌+◌, Bool, true, false, List, map, Option, Some, None, refl, sym, ap, subst}
 use Rattle.tl_types.specs.Request.{Request}
-use Rattle.check_memory.specs.Partial.{Partial, permits}
+use Rattle.check_memory.specs.Partial.{Partial, permits, start_of}
 use Rattle.check_memory.specs.Pattern.{Pattern, FitsPattern, pattern, device_pattern}
 use Rattle.check_memory.specs.Slave.{expected_of}
 use Rattle.check_memory.specs.declared.slave.Slave.{Slave}
@@ -46,8 +46,8 @@ new_fits ours truth kept course wide ask is = by_cases (permits truth ask) refl
             kept = λ place byte known.
                 let parts = beside_known memory ask (one_may_write memory kept) (pattern memory ask) place byte legal known in
                 pattern_more truth ask ours truth.cells place byte legal s
-                (λ here. (is.below.known (ask.address + place) byte here).there
-                (λ other ask' waits. none_there (λ x. may_write truth x (ask.address + place)) kept course other ask' is.asks
+                (λ here. (is.below.known (start_of memory ask + place) byte here).there
+                (λ other ask' waits. none_there (λ x. may_write truth x (start_of memory ask + place)) kept course other ask' is.asks
                 parts.0 (ap asked_of waits)))
                 parts.1;
           };

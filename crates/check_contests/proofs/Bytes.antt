@@ -16,7 +16,7 @@ use Rattle.tl_ops.specs.Window.{operand_of, combine_arith, combine_byte, combine
 use Rattle.check_memory.specs.Known.{known, all_known}
 use Rattle.check_memory.specs.Cells.{clear_cell, put_cells, combined, combined_logic, new_cells}
 use Rattle.check_memory.specs.Laws.{IsLawfulAsk}
-use Rattle.check_memory.specs.Partial.{Partial, takes_bytes, is_volatile, AreWithin}
+use Rattle.check_memory.specs.Partial.{Partial, takes_bytes, is_volatile, AreWithin, start_of, placed}
 use Rattle.check_memory.proofs.Legal.{takes_legal}
 use Rattle.check_memory.proofs.Unknown.{known_where, length-unknown_where}
 use Rattle.check_contests.specs.Moments.{AreBytes}
@@ -147,10 +147,10 @@ small_after memory ask cells clears within lawful small small' a byte is = by_ca
 
     new : Stands memory ask cells → AreBytes (new_of memory ask cells)
     new s =
-        let room : ask.address + 2 ^ ask.size ≤ length (visible_in memory cells) =
+        let room : (start_of memory ask) + 2 ^ ask.size ≤ length (visible_in memory cells) =
         omega (arith, s.room, length-unknown_where (is_volatile memory) cells) in
-        rw clears (small_new ask.op (window ask (visible_in memory cells)) ask.bytes
-        (small_window ask (visible_in memory cells) room small) small')
+        rw clears (small_new ask.op (window (placed memory ask) (visible_in memory cells)) ask.bytes
+        (small_window (placed memory ask) (visible_in memory cells) room small) small')
 
     by_cases : (takes : Bool) → takes_bytes memory ask ≡ takes → byte < 256
     by_cases true taken =
@@ -159,6 +159,6 @@ small_after memory ask cells clears within lawful small small' a byte is = by_ca
         (λ beside. before (sym (after_out memory ask cells a s taken beside) ∙ known.1))
         (λ place. new s place.0 byte (sym (after_in memory ask cells place.0 s taken place.1)
         ∙ sym (ap (λ n. get_or (cells_after memory ask cells) n None) place.2) ∙ known.1))
-        (where_is ask a)
+        (where_is (placed memory ask) a)
     by_cases false untaken =
         before (sym (ap (λ cs. get_or cs a None) (after_untaken memory ask cells untaken)) ∙ known.1)

@@ -6,7 +6,7 @@ use Rattle.std.proofs.lemmas.List.Folds.{list_any_at}
 use Rattle.std.proofs.lemmas.List.FromFn.{length-range_with_len, get_or-range_with_len}
 use Rattle.tl_types.specs.Request.{Request}
 use Rattle.check_memory.specs.Cells.{is_atomic}
-use Rattle.check_memory.specs.Partial.{Partial, permits}
+use Rattle.check_memory.specs.Partial.{Partial, permits, start_of, placed}
 use Rattle.check_contests.specs.Writes.{writes, may_write, combines, meets, leave_unknown}
 use Rattle.check_contests.proofs.Effect.{place_in, written_in}
 
@@ -20,13 +20,13 @@ both memory ask other a = may_write memory ask a && may_write memory other a
 pub meets_at : (memory : Partial) (ask other : Request) (a : ℕ) → may_write memory ask a ≡ true
     → may_write memory other a ≡ true → meets memory ask other ≡ true
 meets_at memory ask other a may may' =
-    let parts = and_parts (permits memory ask) (writes ask.op ask a) may in
-    let place = place_in ask a (written_in ask.op ask a parts.1) in
-    let at : get_or (range_with_len ask.address (2 ^ ask.size)) place.0 0 ≡ a =
-    get_or-range_with_len ask.address (2 ^ ask.size) place.0 0 place.1 ∙ sym place.2 in
+    let parts = and_parts (permits memory ask) (writes ask.op (placed memory ask) a) may in
+    let place = place_in (placed memory ask) a (written_in ask.op (placed memory ask) a parts.1) in
+    let at : get_or (range_with_len (start_of memory ask) (2 ^ ask.size)) place.0 0 ≡ a =
+    get_or-range_with_len (start_of memory ask) (2 ^ ask.size) place.0 0 place.1 ∙ sym place.2 in
     let P : ℕ → Type 0 = λ n. both memory ask other n ≡ true in
-    list_any_at (both memory ask other) (range_with_len ask.address (2 ^ ask.size)) place.0 0
-    (omega (arith, length-range_with_len ask.address (2 ^ ask.size), place.1))
+    list_any_at (both memory ask other) (range_with_len (start_of memory ask) (2 ^ ask.size)) place.0 0
+    (omega (arith, length-range_with_len (start_of memory ask) (2 ^ ask.size), place.1))
     (subst P (sym at) (and_from (may_write memory ask a) (may_write memory other a) may may'))
 
 -- a byte that both may write is left unknown

@@ -11,7 +11,7 @@ use Rattle.tl_ops.specs.declared.kind.Kind.{Kind}
 use Rattle.tl_ops.specs.declared.kind.Kind.TheVariants.{ClearRegs}
 use Rattle.check_memory.specs.Known.{replaced}
 use Rattle.check_memory.specs.Cells.{put_at, put_cells, new_cells, is_atomic, unknown_where}
-use Rattle.check_memory.specs.Partial.{Partial, permits, takes_bytes, is_volatile, after_partial, AreWithin}
+use Rattle.check_memory.specs.Partial.{Partial, permits, takes_bytes, is_volatile, after_partial, AreWithin, start_of, placed}
 use Rattle.check_memory.specs.Laws.{IsLawfulAsk}
 use Rattle.check_memory.proofs.Legal.{takes_legal}
 use Rattle.check_memory.proofs.PagePlaces.{length-new_cells}
@@ -41,12 +41,11 @@ abbrev pub cells_after : Partial → Request → List (Option ℕ) → List (Opt
 cells_after memory ask cells = (after_partial (with_cells memory cells) ask).cells
 
 -- ---- where a request stands
-
 -- its window lies in the address space
 pub inside : (memory : Partial) (ask : Request) (cells : List (Option ℕ)) → AreWithin memory.ranges (length cells)
-    → permits memory ask ≡ true → ask.address + 2 ^ ask.size ≤ length cells
+    → permits memory ask ≡ true → (start_of memory ask) + 2 ^ ask.size ≤ length cells
 inside memory ask cells within is =
-    within_if_held memory.ranges (length cells) ask.address (2 ^ ask.size) within (held_if_permitted memory ask is)
+    within_if_held memory.ranges (length cells) (start_of memory ask) (2 ^ ask.size) within (held_if_permitted memory ask is)
 
 abbrev pub window : Request → List (Option ℕ) → List (Option ℕ)
 window ask cells = take (2 ^ ask.size) (drop ask.address cells)
@@ -80,10 +79,10 @@ new_long kind (Intent _) size old given counted wide = wide
 -- ---- the bytes after it
 
 abbrev pub new_of : Partial → Request → List (Option ℕ) → List (Option ℕ)
-new_of memory ask cells = new_cells memory.kind ask.op (window ask (visible_in memory cells)) ask.bytes
+new_of memory ask cells = new_cells memory.kind ask.op (window (placed memory ask) (visible_in memory cells)) ask.bytes
 
 after_taken : (memory : Partial) (ask : Request) (cells : List (Option ℕ)) → takes_bytes memory ask ≡ true
-    → cells_after memory ask cells ≡ replaced cells ask.address (new_of memory ask cells)
+    → cells_after memory ask cells ≡ replaced cells (start_of memory ask) (new_of memory ask cells)
 after_taken memory ask cells is = rw (is, cells_after) refl
 
 pub after_untaken : (memory : Partial) (ask : Request) (cells : List (Option ℕ)) → takes_bytes memory ask ≡ false
@@ -92,20 +91,20 @@ after_untaken memory ask cells is = rw (is, cells_after) refl
 
 -- what a legal request needs to be looked at byte by byte
 pub record Stands (memory : Partial) (ask : Request) (cells : List (Option ℕ)) : Type 0 where
-  pub room : ask.address + 2 ^ ask.size ≤ length cells
-  pub wide : length (window ask (visible_in memory cells)) ≡ 2 ^ ask.size
+  pub room : (start_of memory ask) + 2 ^ ask.size ≤ length cells
+  pub wide : length (window (placed memory ask) (visible_in memory cells)) ≡ 2 ^ ask.size
   pub long : length (new_of memory ask cells) ≡ 2 ^ ask.size
 
 pub stands : (memory : Partial) (ask : Request) (cells : List (Option ℕ)) → AreWithin memory.ranges (length cells)
     → IsLawfulAsk ask → permits memory ask ≡ true → Stands memory ask cells
 stands memory ask cells within lawful is =
-    let room : ask.address + 2 ^ ask.size ≤ length cells = inside memory ask cells within is in
-    let wide : length (window ask (visible_in memory cells)) ≡ 2 ^ ask.size =
-    window_long ask (visible_in memory cells) (omega (arith, room, length-unknown_where (is_volatile memory) cells)) in
+    let room : (start_of memory ask) + 2 ^ ask.size ≤ length cells = inside memory ask cells within is in
+    let wide : length (window (placed memory ask) (visible_in memory cells)) ≡ 2 ^ ask.size =
+    window_long (placed memory ask) (visible_in memory cells) (omega (arith, room, length-unknown_where (is_volatile memory) cells)) in
     record {
       room = room;
       wide = wide;
-      long = new_long memory.kind ask.op ask.size (window ask (visible_in memory cells)) ask.bytes lawful.counted wide;
+      long = new_long memory.kind ask.op ask.size (window (placed memory ask) (visible_in memory cells)) ask.bytes lawful.counted wide;
     }
 
 pub length-cells_after : (memory : Partial) (ask : Request) (cells : List (Option ℕ))
@@ -116,24 +115,24 @@ length-cells_after memory ask cells within lawful = by_cases (takes_bytes memory
     by_cases true is =
         let s = stands memory ask cells within lawful (takes_legal memory ask is) in
         ap length (after_taken memory ask cells is)
-        ∙ length-replaced cells (new_of memory ask cells) ask.address (omega (arith, s.room, s.long))
+        ∙ length-replaced cells (new_of memory ask cells) (start_of memory ask) (omega (arith, s.room, s.long))
     by_cases false is = ap length (after_untaken memory ask cells is)
 
 pub after_in : (memory : Partial) (ask : Request) (cells : List (Option ℕ)) (k : ℕ)
     → Stands memory ask cells → takes_bytes memory ask ≡ true → k < 2 ^ ask.size
-    → get_or (cells_after memory ask cells) (ask.address + k) None ≡ get_or (new_of memory ask cells) k None
+    → get_or (cells_after memory ask cells) (start_of memory ask + k) None ≡ get_or (new_of memory ask cells) k None
 after_in memory ask cells k s is below =
-    ap (λ cs. get_or cs (ask.address + k) None) (after_taken memory ask cells is)
-    ∙ get_or-replaced_in cells (new_of memory ask cells) ask.address k (omega (arith, s.room, s.long))
+    ap (λ cs. get_or cs (start_of memory ask + k) None) (after_taken memory ask cells is)
+    ∙ get_or-replaced_in cells (new_of memory ask cells) (start_of memory ask) k (omega (arith, s.room, s.long))
     (omega (arith, s.long, below))
 
 pub after_out : (memory : Partial) (ask : Request) (cells : List (Option ℕ)) (a : ℕ)
-    → Stands memory ask cells → takes_bytes memory ask ≡ true → (a < ask.address) ⊎ (ask.address + 2 ^ ask.size ≤ a)
+    → Stands memory ask cells → takes_bytes memory ask ≡ true → (a < (start_of memory ask)) ⊎ (start_of memory ask + 2 ^ ask.size ≤ a)
     → get_or (cells_after memory ask cells) a None ≡ get_or cells a None
 after_out memory ask cells a s is beside =
-    let P : ℕ → Type 0 = λ n. (a < ask.address) ⊎ (ask.address + n ≤ a) in
+    let P : ℕ → Type 0 = λ n. (a < (start_of memory ask)) ⊎ (start_of memory ask + n ≤ a) in
     ap (λ cs. get_or cs a None) (after_taken memory ask cells is)
-    ∙ get_or-replaced_out cells (new_of memory ask cells) ask.address a (omega (arith, s.room, s.long))
+    ∙ get_or-replaced_out cells (new_of memory ask cells) (start_of memory ask) a (omega (arith, s.room, s.long))
     (subst P (sym s.long) beside)
 
 -- ---- a byte that it may not write
@@ -223,17 +222,17 @@ stays memory ask cells a within lawful small none = by_cases (takes_bytes memory
         → get_or (visible_in memory (cells_after memory ask cells)) a None ≡ get_or (visible_in memory cells) a None
     as_seen is = seen_then ∙ ap hidden (is ∙ seen_now) ∙ sym (hidden_twice volatile (get_or cells a None)) ∙ sym seen_now
 
-    here : Stands memory ask cells → takes_bytes memory ask ≡ true → writes ask.op ask a ≡ false
-        → (k : ℕ) × (k < 2 ^ ask.size) × (a ≡ ask.address + k)
+    here : Stands memory ask cells → takes_bytes memory ask ≡ true → writes ask.op (placed memory ask) a ≡ false
+        → (k : ℕ) × (k < 2 ^ ask.size) × (a ≡ (start_of memory ask) + k)
         → get_or (cells_after memory ask cells) a None ≡ get_or (visible_in memory cells) a None
     here s is none' place =
         let old = visible_in memory cells in
-        let window_at : get_or (window ask old) place.0 None ≡ get_or old a None =
-        get_or-window ask old place.0 place.1 ∙ ap (λ n. get_or old n None) (sym place.2) in
-        let P : ℕ → Type 0 = λ n. writes ask.op ask n ≡ false in
+        let window_at : get_or (window (placed memory ask) old) place.0 None ≡ get_or old a None =
+        get_or-window (placed memory ask) old place.0 place.1 ∙ ap (λ n. get_or old n None) (sym place.2) in
+        let P : ℕ → Type 0 = λ n. writes ask.op (placed memory ask) n ≡ false in
         ap (λ n. get_or (cells_after memory ask cells) n None) place.2
         ∙ after_in memory ask cells place.0 s is place.1
-        ∙ new_stays memory.kind ask.op ask (window ask old) place.0 place.1 lawful.counted s.wide
+        ∙ new_stays memory.kind ask.op (placed memory ask) (window (placed memory ask) old) place.0 place.1 lawful.counted s.wide
         (λ clears byte known. small clears byte (sym window_at ∙ known)) (subst P place.2 none')
         ∙ window_at
 
@@ -242,9 +241,9 @@ stays memory ask cells a within lawful small none = by_cases (takes_bytes memory
     by_cases true is =
         let legal = takes_legal memory ask is in
         let s = stands memory ask cells within lawful legal in
-        let none' : writes ask.op ask a ≡ false = rw legal at none in
+        let none' : writes ask.op (placed memory ask) a ≡ false = rw legal at none in
         ⊎_elim (λ beside. same (after_out memory ask cells a s is beside)) (λ place. as_seen (here s is none' place))
-        (where_is ask a)
+        (where_is (placed memory ask) a)
     by_cases false is = same (ap (λ cs. get_or cs a None) (after_untaken memory ask cells is))
 
 -- ---- a byte that it may write
@@ -328,14 +327,14 @@ pub leaves_more : (memory : Partial) (ask : Request) (less more : List (Option �
     → get_or (visible_in memory (cells_after memory ask more)) a None ≡ Some byte
 leaves_more memory ask less more a byte within same lawful may kept is = by_cases (is_atomic ask.op) refl
   where
-    parts : (permits memory ask ≡ true) × (writes ask.op ask a ≡ true)
-    parts = and_parts (permits memory ask) (writes ask.op ask a) may
+    parts : (permits memory ask ≡ true) × (writes ask.op (placed memory ask) a ≡ true)
+    parts = and_parts (permits memory ask) (writes ask.op (placed memory ask) a) may
 
     legal : permits memory ask ≡ true
     legal = parts.0
 
     takes : takes_bytes memory ask ≡ true
-    takes = and_from (permits memory ask) (carries_bytes ask.op) legal (written_carries ask.op ask a parts.1)
+    takes = and_from (permits memory ask) (carries_bytes ask.op) legal (written_carries ask.op (placed memory ask) a parts.1)
 
     s : Stands memory ask less
     s = stands memory ask less within lawful legal
@@ -343,8 +342,8 @@ leaves_more memory ask less more a byte within same lawful may kept is = by_case
     s' : Stands memory ask more
     s' = let P : ℕ → Type 0 = λ n. AreWithin memory.ranges n in stands memory ask more (subst P same within) lawful legal
 
-    place : (k : ℕ) × (k < 2 ^ ask.size) × (a ≡ ask.address + k)
-    place = place_in ask a (written_in ask.op ask a parts.1)
+    place : (k : ℕ) × (k < 2 ^ ask.size) × (a ≡ (start_of memory ask) + k)
+    place = place_in (placed memory ask) a (written_in ask.op (placed memory ask) a parts.1)
 
     old : List (Option ℕ)
     old = visible_in memory less
@@ -365,25 +364,25 @@ leaves_more memory ask less more a byte within same lawful may kept is = by_case
         (ap (λ n. get_or (cells_after memory ask more) n None) place.2
         ∙ after_in memory ask more place.0 s' takes place.1 ∙ left)
 
-    through : (k b : ℕ) → k < 2 ^ ask.size → Matters memory ask a (ask.address + k)
-        → get_or (window ask old) k None ≡ Some b → get_or (window ask old') k None ≡ Some b
-    through k b below matters there = get_or-window ask old' k below
-        ∙ kept (ask.address + k) b matters (sym (get_or-window ask old k below) ∙ there)
+    through : (k b : ℕ) → k < 2 ^ ask.size → Matters memory ask a (start_of memory ask + k)
+        → get_or (window (placed memory ask) old) k None ≡ Some b → get_or (window (placed memory ask) old') k None ≡ Some b
+    through k b below matters there = get_or-window (placed memory ask) old' k below
+        ∙ kept (start_of memory ask + k) b matters (sym (get_or-window (placed memory ask) old k below) ∙ there)
 
     not_both : is_atomic ask.op ≡ true → is_atomic ask.op ≡ false → {A : Type 0} → A
     not_both one other = let e : true ≡ false = sym one ∙ other in cc
 
     by_cases : (atomic : Bool) → is_atomic ask.op ≡ atomic
         → get_or (visible_in memory (cells_after memory ask more)) a None ≡ Some byte
-    by_cases true atomic = back (atomic-more memory.kind ask.op (window ask old) (window ask old') ask.bytes place.0 byte
+    by_cases true atomic = back (atomic-more memory.kind ask.op (window (placed memory ask) old) (window (placed memory ask) old') ask.bytes place.0 byte
         atomic (s.wide ∙ sym s'.wide)
         (λ k b there.
-        let below : k < 2 ^ ask.size = omega (arith, there_if_known (window ask old) k b there, s.wide) in
+        let below : k < 2 ^ ask.size = omega (arith, there_if_known (window (placed memory ask) old) k b there, s.wide) in
         through k b below (
-          and_from _ _ legal (atomic_writes ask.op ask (ask.address + k) atomic (in_here ask k below)),
+          and_from _ _ legal (atomic_writes ask.op (placed memory ask) (start_of memory ask + k) atomic (in_here (placed memory ask) k below)),
           λ put. not_both atomic put,
         ) there) is')
-    by_cases false atomic = back (new_more memory.kind ask.op ask (window ask old) (window ask old') place.0 byte place.1
+    by_cases false atomic = back (new_more memory.kind ask.op (placed memory ask) (window (placed memory ask) old) (window (placed memory ask) old') place.0 byte place.1
         lawful.counted s.wide s'.wide atomic
         (λ b there. through place.0 b place.1
         (let P : ℕ → Type 0 = λ n. may_write memory ask n ≡ true in subst P place.2 may, λ _. sym place.2) there) is')

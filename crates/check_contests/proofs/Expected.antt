@@ -5,7 +5,7 @@ use Rattle.tl_types.specs.Request.{Request}
 use Rattle.tl_types.specs.declared.operation.ReplyOp.{ReplyOp}
 use Rattle.tl_types.specs.declared.operation.ReplyOp.TheVariants.{AccessAck, AccessAckData, HintAck}
 use Rattle.check_memory.specs.Known.{IsBelow, known}
-use Rattle.check_memory.specs.Partial.{Partial, permits}
+use Rattle.check_memory.specs.Partial.{Partial, permits, start_of, placed}
 use Rattle.check_memory.specs.Pattern.{Pattern, FitsPattern, pattern, shown_cells}
 use Rattle.check_memory.proofs.Unknown.{known_where, length-unknown_where}
 use Rattle.check_contests.specs.Writes.{unknown_where}
@@ -49,7 +49,7 @@ fits_bytes due reply bytes fits below = record {
 -- ---- what is due beside others
 
 pub beside_legal : (memory : Partial) (ask : Request) (test : ℕ → Bool) (due : Pattern) → permits memory ask ≡ true
-    → due_beside memory ask test due ≡ record due { bytes = unknown_where (λ place. test (ask.address + place)) due.bytes }
+    → due_beside memory ask test due ≡ record due { bytes = unknown_where (λ place. test (start_of memory ask + place)) due.bytes }
 beside_legal memory ask test due is = rw (is, due_beside) refl
 
 pub beside_denied : (memory : Partial) (ask : Request) (test : ℕ → Bool) (due : Pattern) → permits memory ask ≡ false
@@ -61,7 +61,7 @@ pub beside_below : (memory : Partial) (ask : Request) (test : ℕ → Bool) (due
 beside_below memory ask test due = by_cases (permits memory ask) refl
   where
     rule : ℕ → Bool
-    rule place = test (ask.address + place)
+    rule place = test (start_of memory ask + place)
 
     by_cases : (p : Bool) → permits memory ask ≡ p → FitsPattern (due_beside memory ask test due) due
     by_cases true is = let P : Pattern → Type 0 = λ less. FitsPattern less due in
@@ -71,8 +71,8 @@ beside_below memory ask test due = by_cases (permits memory ask) refl
           source_is = refl;
           denied_is = λ flag is'. is';
           bytes_fit = record {
-            counted = sym (length-unknown_where (λ place. test (ask.address + place)) due.bytes);
-            kept = λ place byte is'. (known_where (λ place. test (ask.address + place)) due.bytes place byte is').1;
+            counted = sym (length-unknown_where (λ place. test (start_of memory ask + place)) due.bytes);
+            kept = λ place byte is'. (known_where (λ place. test (start_of memory ask + place)) due.bytes place byte is').1;
           };
         })
     by_cases false is = let P : Pattern → Type 0 = λ less. FitsPattern less due in
@@ -81,15 +81,15 @@ beside_below memory ask test due = by_cases (permits memory ask) refl
 -- what is known of it no other may write
 pub beside_known : (memory : Partial) (ask : Request) (test : ℕ → Bool) (due : Pattern) (place byte : ℕ)
     → permits memory ask ≡ true → get_or (due_beside memory ask test due).bytes place None ≡ Some byte
-    → (test (ask.address + place) ≡ false) × (get_or due.bytes place None ≡ Some byte)
+    → (test (start_of memory ask + place) ≡ false) × (get_or due.bytes place None ≡ Some byte)
 beside_known memory ask test due place byte is known =
-    known_where (λ place. test (ask.address + place)) due.bytes place byte
+    known_where (λ place. test (start_of memory ask + place)) due.bytes place byte
     (ap (λ (p : Pattern). get_or p.bytes place None) (sym (beside_legal memory ask test due is)) ∙ known)
 
 -- ---- what is expected of a memory
 
 abbrev shown : Partial → Request → List (Option ℕ) → List (Option ℕ)
-shown memory ask cells = shown_cells (reply_op_of ask.op) (window ask (visible_in memory cells))
+shown memory ask cells = shown_cells (reply_op_of ask.op) (window (placed memory ask) (visible_in memory cells))
 
 pub pattern_denied : (memory : Partial) (ask : Request) (less more : List (Option ℕ)) → permits memory ask ≡ false
     → pattern (with_cells memory less) ask ≡ pattern (with_cells memory more) ask
@@ -116,18 +116,18 @@ shown_more HintAck less more place byte kept is = cc
 -- a byte that is expected where less is known, and is seen as the same in what is known more
 pub pattern_more : (memory : Partial) (ask : Request) (less more : List (Option ℕ)) (place byte : ℕ)
     → permits memory ask ≡ true → Stands memory ask less
-    → (get_or (visible_in memory less) (ask.address + place) None ≡ Some byte
-    → get_or (visible_in memory more) (ask.address + place) None ≡ Some byte)
+    → (get_or (visible_in memory less) (start_of memory ask + place) None ≡ Some byte
+    → get_or (visible_in memory more) (start_of memory ask + place) None ≡ Some byte)
     → get_or (pattern (with_cells memory less) ask).bytes place None ≡ Some byte
     → get_or (pattern (with_cells memory more) ask).bytes place None ≡ Some byte
 pattern_more memory ask less more place byte is s kept known =
     let old = visible_in memory less in
     let old' = visible_in memory more in
     ap (λ (p : Pattern). get_or p.bytes place None) (pattern_legal memory ask more is)
-    ∙ shown_more (reply_op_of ask.op) (window ask old) (window ask old') place byte
+    ∙ shown_more (reply_op_of ask.op) (window (placed memory ask) old) (window (placed memory ask) old') place byte
     (λ here.
-    let below : place < 2 ^ ask.size = omega (arith, there_if_known (window ask old) place byte here, s.wide) in
-    get_or-window ask old' place below ∙ kept (sym (get_or-window ask old place below) ∙ here))
+    let below : place < 2 ^ ask.size = omega (arith, there_if_known (window (placed memory ask) old) place byte here, s.wide) in
+    get_or-window (placed memory ask) old' place below ∙ kept (sym (get_or-window (placed memory ask) old place below) ∙ here))
     (ap (λ (p : Pattern). get_or p.bytes place None) (sym (pattern_legal memory ask less is)) ∙ known)
 
 pub pattern_long : (memory : Partial) (ask : Request) (less more : List (Option ℕ)) → permits memory ask ≡ true
@@ -135,6 +135,6 @@ pub pattern_long : (memory : Partial) (ask : Request) (less more : List (Option 
     → length (pattern (with_cells memory less) ask).bytes ≡ length (pattern (with_cells memory more) ask).bytes
 pattern_long memory ask less more is s s' =
     ap (λ (p : Pattern). length p.bytes) (pattern_legal memory ask less is)
-    ∙ shown_long (reply_op_of ask.op) (window ask (visible_in memory less)) (window ask (visible_in memory more))
+    ∙ shown_long (reply_op_of ask.op) (window (placed memory ask) (visible_in memory less)) (window (placed memory ask) (visible_in memory more))
     (s.wide ∙ sym s'.wide)
     ∙ sym (ap (λ (p : Pattern). length p.bytes) (pattern_legal memory ask more is))

@@ -5,7 +5,7 @@ use Rattle.std.proofs.lemmas.Bool.{and_left, and_right}
 use Rattle.tl_types.specs.Operation.{carries_bytes}
 use Rattle.tl_types.specs.Request.{Request}
 use Rattle.check_memory.specs.Cells.{forgotten_cell, forgotten}
-use Rattle.check_memory.specs.Partial.{Partial, permits, block_of, takes_bytes, after_partial, after_forgetting}
+use Rattle.check_memory.specs.Partial.{Partial, permits, takes_bytes, after_partial, after_forgetting, start_of, placed}
 use Rattle.check_memory.proofs.Unknown.{unknown_none}
 use Rattle.check_contests.specs.Writes.{writes, may_write, leave_unknown, unknown_where}
 use Rattle.check_contests.specs.Contests.{Accepted, is_contested, memory_accepting}
@@ -86,20 +86,17 @@ forgotten-unknown test flags (suc start) (cell ∷ cells) here there =
 
 -- ---- the memory
 
-pub forgetting_is : (memory : Partial) (kept : List Accepted) (ask : Request) (flags : List Bool)
-    → takes_bytes memory ask ≡ true → Flagged (is_contested memory kept ask) flags (block_of ask.address)
-    → Unflagged (is_contested memory kept ask) flags (block_of ask.address)
-    → after_forgetting memory ask flags ≡ memory_accepting memory kept ask
-forgetting_is memory kept ask flags takes here there =
+pub forgetting_is : (memory : Partial) (kept : List Accepted) (ask : Request) (first : ℕ) (flags : List Bool)
+    → takes_bytes memory ask ≡ true → Flagged (is_contested memory kept ask) flags first
+    → Unflagged (is_contested memory kept ask) flags first
+    → after_forgetting memory ask first flags ≡ memory_accepting memory kept ask
+forgetting_is memory kept ask first flags takes here there =
     forgets takes
     ∙ ap (λ (cells : List (Option ℕ)). record (after_partial memory ask) { cells = cells })
-    (forgotten-unknown (is_contested memory kept ask) flags (block_of ask.address) (after_partial memory ask).cells
-    here there)
+    (forgotten-unknown (is_contested memory kept ask) flags first (after_partial memory ask).cells here there)
   where
-    forgets : takes_bytes memory ask ≡ true → after_forgetting memory ask flags
-        ≡ record (after_partial memory ask) {
-          cells = forgotten flags (block_of ask.address) (after_partial memory ask).cells;
-        }
+    forgets : takes_bytes memory ask ≡ true → after_forgetting memory ask first flags
+        ≡ record (after_partial memory ask) { cells = forgotten flags first (after_partial memory ask).cells }
     forgets is = rw (is, after_forgetting) refl
 
 -- one that carries no bytes, or is denied, contests nothing
@@ -107,10 +104,10 @@ pub carrying_leaves : (memory : Partial) (ask other : Request) (a : ℕ) → car
     → leave_unknown memory ask other a ≡ false
 carrying_leaves memory ask other a none =
     unmet_leaves memory ask other a
-    (any_none (λ b. may_write memory ask b && may_write memory other b) (range_with_len ask.address (2 ^ ask.size))
+    (any_none (λ b. may_write memory ask b && may_write memory other b) (range_with_len (start_of memory ask) (2 ^ ask.size))
     (λ b. and_left (may_write memory ask b) (may_write memory other b)
-    (and_right (permits memory ask) (writes ask.op ask b)
-    (carries_none ask.op ask b none))))
+    (and_right (permits memory ask) (writes ask.op (placed memory ask) b)
+    (carries_none ask.op (placed memory ask) b none))))
 
 pub not_taken : (memory : Partial) (kept : List Accepted) (ask : Request) → carries_bytes ask.op ≡ false
     → after_partial memory ask ≡ memory_accepting memory kept ask

@@ -5,7 +5,7 @@ use Rattle.std.proofs.lemmas.Bool.{eq-eqb, ne_eqb, eqb-false}
 use Rattle.std.proofs.lemmas.List.{take_all}
 use Rattle.std.proofs.lemmas.List.Folds.{list_any_more}
 use Rattle.tl_types.specs.Request.{Request}
-use Rattle.check_memory.specs.Partial.{Partial, permits}
+use Rattle.check_memory.specs.Partial.{Partial, permits, start_of}
 use Rattle.check_memory.specs.Pattern.{Pattern}
 use Rattle.check_memory.proofs.Unknown.{unknown-same, unknown-twice}
 use Rattle.check_contests.specs.Writes.{may_write, unknown_where}
@@ -97,12 +97,12 @@ hide_more memory ask kept place entry due below is = by_cases (permits memory as
     by_cases true legal =
         beside_legal memory ask (may_write memory entry.ask) (due_beside memory ask before due) legal
         ∙ ap (λ (p : Pattern). record p {
-          bytes = unknown_where (λ k. may_write memory entry.ask (ask.address + k)) p.bytes;
+          bytes = unknown_where (λ k. may_write memory entry.ask (start_of memory ask + k)) p.bytes;
         }) (beside_legal memory ask before due legal)
         ∙ ap (λ (bytes : List (Option ℕ)). record due { bytes = bytes })
-        (unknown-twice (λ k. before (ask.address + k)) (λ k. may_write memory entry.ask (ask.address + k)) due.bytes
-        ∙ unknown-same (λ k. before (ask.address + k) || may_write memory entry.ask (ask.address + k))
-        (λ k. after (ask.address + k)) due.bytes (λ k. same (ask.address + k)))
+        (unknown-twice (λ k. before (start_of memory ask + k)) (λ k. may_write memory entry.ask (start_of memory ask + k)) due.bytes
+        ∙ unknown-same (λ k. before (start_of memory ask + k) || may_write memory entry.ask (start_of memory ask + k))
+        (λ k. after (start_of memory ask + k)) due.bytes (λ k. same (start_of memory ask + k)))
         ∙ sym (beside_legal memory ask after due legal)
     by_cases false denied =
         beside_denied memory ask (may_write memory entry.ask) (due_beside memory ask before due) denied

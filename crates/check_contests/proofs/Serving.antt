@@ -5,7 +5,7 @@ use Rattle.std.proofs.lemmas.Bool.{cases_eq}
 use Rattle.tl_types.specs.Request.{Request}
 use Rattle.tl_ops.specs.declared.kind.Kind.TheVariants.{ClearRegs}
 use Rattle.check_memory.specs.Cells.{is_atomic}
-use Rattle.check_memory.specs.Partial.{Partial, permits, visible, after_partial, AreWithin}
+use Rattle.check_memory.specs.Partial.{Partial, permits, visible, after_partial, AreWithin, start_of}
 use Rattle.check_memory.specs.Pattern.{Pattern, FitsPattern, pattern}
 use Rattle.check_memory.specs.Slave.{expected_of}
 use Rattle.check_memory.specs.declared.slave.Slave.{Slave}
@@ -175,8 +175,8 @@ memory_fits ours truth kept course wide ask is w entry ask' apart waits there fi
             counted = sym (pattern_long truth ask' truth.cells left legal s s') ∙ fits.bytes_fit.counted;
             kept = λ place byte known.
                 pattern_more truth ask' truth.cells left place byte legal s
-                (λ here. stays truth ask truth.cells (ask'.address + place) is.below.within lawful
-                (small_true truth is.below.bytes (ask'.address + place))
+                (λ here. stays truth ask truth.cells (start_of truth ask' + place) is.below.within lawful
+                (small_true truth is.below.bytes (start_of truth ask' + place))
                 (is.below.dues w entry ask' there waits legal place byte known wide ask (ap asked_of is.waits)
                 (λ same. apart (sym same)))
                 ∙ here)

@@ -9,7 +9,7 @@ use Rattle.tl_types.specs.Operation.{reply_op_of}
 use Rattle.tl_types.specs.Request.{Request}
 use Rattle.tl_types.specs.declared.operation.ReplyOp.{ReplyOp}
 use Rattle.tl_types.specs.declared.operation.ReplyOp.TheVariants.{AccessAck, AccessAckData, HintAck}
-use Rattle.check_memory.specs.Partial.{Partial, permits, visible, after_partial}
+use Rattle.check_memory.specs.Partial.{Partial, permits, visible, after_partial, start_of, placed}
 use Rattle.check_memory.specs.Pattern.{Pattern, pattern, shown_cells}
 use Rattle.check_memory.specs.Slave.{expected_of}
 use Rattle.check_memory.specs.declared.slave.Slave.{Slave}
@@ -36,34 +36,34 @@ any_none_of P test (item ∷ items) none all =
 
 -- what is due stays, if no byte of it is named
 pub due_stays : (memory : Partial) (ask : Request) (test : ℕ → Bool) (due : Pattern)
-    → ((k : ℕ) → k < length due.bytes → test (ask.address + k) ≡ false) → due_beside memory ask test due ≡ due
+    → ((k : ℕ) → k < length due.bytes → test (start_of memory ask + k) ≡ false) → due_beside memory ask test due ≡ due
 due_stays memory ask test due none = by_cases (permits memory ask) refl
   where
     by_cases : (p : Bool) → permits memory ask ≡ p → due_beside memory ask test due ≡ due
     by_cases true is = beside_legal memory ask test due is
         ∙ ap (λ (bytes : List (Option ℕ)). record due { bytes = bytes })
-        (unknown_none (λ k. test (ask.address + k)) due.bytes none)
+        (unknown_none (λ k. test (start_of memory ask + k)) due.bytes none)
     by_cases false is = beside_denied memory ask test due is
 
 -- ---- two requests
 
-may_in : (memory : Partial) (ask : Request) (a : ℕ) → may_write memory ask a ≡ true → in_window ask a ≡ true
-may_in memory ask a may = written_in ask.op ask a (and_parts (permits memory ask) (writes ask.op ask a) may).1
+may_in : (memory : Partial) (ask : Request) (a : ℕ) → may_write memory ask a ≡ true → in_window (placed memory ask) a ≡ true
+may_in memory ask a may = written_in ask.op (placed memory ask) a (and_parts (permits memory ask) (writes ask.op (placed memory ask) a) may).1
 
 -- of two uncontested requests, neither may write a byte in the window of the other
 not_by_other : (memory : Partial) (ask other : Request) (a : ℕ) → AreUncontested memory ask other
-    → in_window ask a ≡ true → may_write memory other a ≡ false
+    → in_window (placed memory ask) a ≡ true → may_write memory other a ≡ false
 not_by_other memory ask other a un here = false_from_ne_true (may_write memory other a) (λ may.
     not_both may (un a here (may_in memory other a may)).1)
 
 not_by_ask : (memory : Partial) (ask other : Request) (a : ℕ) → AreUncontested memory ask other
-    → in_window other a ≡ true → may_write memory ask a ≡ false
+    → in_window (placed memory other) a ≡ true → may_write memory ask a ≡ false
 not_by_ask memory ask other a un there = false_from_ne_true (may_write memory ask a) (λ may.
     not_both may (un a (may_in memory ask a may) there).0)
 
 not_met : (memory : Partial) (ask other : Request) → AreUncontested memory ask other → meets memory ask other ≡ false
 not_met memory ask other un =
-    any_none (λ a. may_write memory ask a && may_write memory other a) (range_with_len ask.address (2 ^ ask.size))
+    any_none (λ a. may_write memory ask a && may_write memory other a) (range_with_len (start_of memory ask) (2 ^ ask.size))
     (λ a. false_from_ne_true (may_write memory ask a && may_write memory other a) (λ both.
     let parts = and_parts (may_write memory ask a) (may_write memory other a) both in
     not_both parts.1 (not_by_other memory ask other a un (may_in memory ask a parts.0))))
@@ -85,8 +85,8 @@ shown_short HintAck n cells short = omega arith
 expected_short : (memory : Partial) (ask : Request) → permits memory ask ≡ true
     → length (pattern memory ask).bytes ≤ 2 ^ ask.size
 expected_short memory ask is =
-    rw (is, pattern) (shown_short (reply_op_of ask.op) (2 ^ ask.size) (take (2 ^ ask.size) (drop ask.address (visible memory)))
-    (omega (arith, length-take (2 ^ ask.size) (drop ask.address (visible memory)))))
+    rw (is, pattern) (shown_short (reply_op_of ask.op) (2 ^ ask.size) (take (2 ^ ask.size) (drop (start_of memory ask) (visible memory)))
+    (omega (arith, length-take (2 ^ ask.size) (drop (start_of memory ask) (visible memory)))))
 
 due_is : (memory : Partial) (kept : List Accepted) (ask : Request)
     → All (λ (entry : Accepted). IsBeside memory ask entry) kept
@@ -94,12 +94,12 @@ due_is : (memory : Partial) (kept : List Accepted) (ask : Request)
 due_is memory kept ask beside = by_cases (permits memory ask) refl
   where
     none : permits memory ask ≡ true → (k : ℕ) → k < length (pattern memory ask).bytes
-        → one_may_write memory kept (ask.address + k) ≡ false
+        → one_may_write memory kept (start_of memory ask + k) ≡ false
     none is k below =
         any_none_of (λ (e : Accepted). IsBeside memory ask e)
-        (λ (e : Accepted). may_write memory e.ask (ask.address + k)) kept
-        (λ entry un. not_by_other memory ask entry.ask (ask.address + k) un.uncontested
-        (in_here ask k (omega (arith, below, expected_short memory ask is)))) beside
+        (λ (e : Accepted). may_write memory e.ask (start_of memory ask + k)) kept
+        (λ entry un. not_by_other memory ask entry.ask (start_of memory ask + k) un.uncontested
+        (in_here (placed memory ask) k (omega (arith, below, expected_short memory ask is)))) beside
 
     by_cases : (p : Bool) → permits memory ask ≡ p → due_of (Memory memory) kept ask ≡ pattern memory ask
     by_cases true is = due_stays memory ask (one_may_write memory kept) (pattern memory ask) (none is)
@@ -124,8 +124,8 @@ kept_is memory ask (entry ∷ kept) beside =
     let first = All-head (λ (e : Accepted). IsBeside memory ask e) entry kept beside in
     let same : due_beside memory entry.ask (may_write memory ask) entry.due ≡ entry.due =
     due_stays memory entry.ask (may_write memory ask) entry.due
-    (λ k below. not_by_ask memory ask entry.ask (entry.ask.address + k) first.uncontested
-    (in_here entry.ask k (omega (arith, below, first.counted)))) in
+    (λ k below. not_by_ask memory ask entry.ask (start_of memory entry.ask + k) first.uncontested
+    (in_here (placed memory entry.ask) k (omega (arith, below, first.counted)))) in
     ap (λ (due : Pattern). record entry { due = due } ∷ map (entry_accepting (Memory memory) ask) kept) same
     ∙ ap (λ (rest : List Accepted). entry ∷ rest)
     (kept_is memory ask kept (All-tail (λ (e : Accepted). IsBeside memory ask e) entry kept beside))
@@ -154,14 +154,14 @@ uncontested_is_as_served memory kept wide index ask beside = record {
 -- ---- a denied request, and a device
 
 denied_writes : (memory : Partial) (ask : Request) (a : ℕ) → permits memory ask ≡ false → may_write memory ask a ≡ false
-denied_writes memory ask a is = and_left (permits memory ask) (writes ask.op ask a) is
+denied_writes memory ask a is = and_left (permits memory ask) (writes ask.op (placed memory ask) a) is
 
 pub denied_leaves : (memory : Partial) (ask other : Request) (a : ℕ) → permits memory ask ≡ false
     → leave_unknown memory ask other a ≡ false
 denied_leaves memory ask other a is =
     and_left (meets memory ask other)
     ((may_write memory ask a && may_write memory other a) || combines memory ask a || combines memory other a)
-    (any_none (λ b. may_write memory ask b && may_write memory other b) (range_with_len ask.address (2 ^ ask.size))
+    (any_none (λ b. may_write memory ask b && may_write memory other b) (range_with_len (start_of memory ask) (2 ^ ask.size))
     (λ b. and_left (may_write memory ask b) (may_write memory other b) (denied_writes memory ask b is)))
 
 denied_keeps : (memory : Partial) (ask : Request) (kept : List Accepted) → permits memory ask ≡ false
@@ -170,7 +170,7 @@ denied_keeps memory ask [] is = refl
 denied_keeps memory ask (entry ∷ kept) is =
     let same : due_beside memory entry.ask (may_write memory ask) entry.due ≡ entry.due =
     due_stays memory entry.ask (may_write memory ask) entry.due
-    (λ k below. denied_writes memory ask (entry.ask.address + k) is) in
+    (λ k below. denied_writes memory ask (start_of memory entry.ask + k) is) in
     ap (λ (due : Pattern). record entry { due = due } ∷ map (entry_accepting (Memory memory) ask) kept) same
     ∙ ap (λ (rest : List Accepted). entry ∷ rest) (denied_keeps memory ask kept is)
 

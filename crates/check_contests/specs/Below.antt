@@ -4,7 +4,7 @@ use Rattle.std.specs.Prelude.{◌≡◌, ℕ, ◌+◌, ◌≢◌, true, false, L
 use Rattle.tl_types.specs.Request.{Request}
 use Rattle.tl_ops.specs.declared.kind.Kind.TheVariants.{ClearRegs}
 use Rattle.check_memory.specs.Cells.{is_atomic}
-use Rattle.check_memory.specs.Partial.{Partial, permits, visible, after_partial, AreWithin}
+use Rattle.check_memory.specs.Partial.{Partial, start_of, permits, visible, after_partial, AreWithin}
 use Rattle.check_memory.specs.Pattern.{Pattern, FitsPattern}
 use Rattle.check_memory.specs.Slave.{expected_of}
 use Rattle.check_memory.specs.declared.slave.Slave.{Slave}
@@ -52,7 +52,7 @@ pub record IsKnownRightly (truth : Partial) (course : ℕ → Course) (address b
 abbrev pub AreAlone : Partial → (ℕ → Course) → ℕ → Request → Pattern → Type 0
 AreAlone truth course wide ask due =
     (place byte : ℕ) → slice_index_or due.bytes place None ≡ Some byte
-    → NoOtherMayWrite truth course wide (ask.address + place)
+    → NoOtherMayWrite truth course wide (start_of truth ask + place)
 
 -- the memory that is kept is the true one, but for its bytes; what is seen as known of these is right
 pub record IsMemoryBelow (ours truth : Partial) (kept : List Accepted) (course : ℕ → Course) : Type 0 where

@@ -3,7 +3,7 @@
 use Rattle.std.specs.Prelude.{ℕ, ◌+◌, Bool, if◌then◌else◌, ◌==◌, List, [], ◌∷◌, ◌++◌, map, Option, None, Some}
 use Rattle.std.specs.List.{list_any}
 use Rattle.tl_types.specs.Request.{Request}
-use Rattle.check_memory.specs.Partial.{Partial, permits, after_partial}
+use Rattle.check_memory.specs.Partial.{Partial, start_of, permits, after_partial}
 use Rattle.check_memory.specs.Pattern.{Pattern, pattern, device_pattern}
 use Rattle.check_memory.specs.declared.slave.Slave.{Slave}
 use Rattle.check_memory.specs.declared.slave.Slave.TheVariants.{Memory, Device}
@@ -28,7 +28,7 @@ is_contested memory kept ask address =
 abbrev pub due_beside : Partial → Request → (ℕ → Bool) → Pattern → Pattern
 due_beside memory ask test due =
     if permits memory ask then
-    record due { bytes = unknown_where (λ place. test (ask.address + place)) due.bytes }
+    record due { bytes = unknown_where (λ place. test (start_of memory ask + place)) due.bytes }
     else due
 
 -- ---- a request is accepted, beside those that are kept

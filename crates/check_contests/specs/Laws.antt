@@ -3,7 +3,7 @@ use Rattle.std.specs.Prelude.{◌≡◌, ℕ, ◌+◌, ◌%◌, ◌^◌, ◌≤�
 use Rattle.tl_types.specs.Request.{Request}
 use Rattle.tl_ops.specs.declared.kind.Kind.TheVariants.{ClearRegs}
 use Rattle.check_memory.specs.Known.{IsBelow}
-use Rattle.check_memory.specs.Partial.{Partial, permits, visible, AreWithin}
+use Rattle.check_memory.specs.Partial.{Partial, placed, permits, visible, AreWithin}
 use Rattle.check_memory.specs.Pattern.{Pattern, FitsPattern}
 use Rattle.check_memory.specs.Slave.{slave_after, expected_of}
 use Rattle.check_memory.specs.declared.slave.Slave.{Slave}
@@ -121,7 +121,7 @@ pub record IsAsServed (slave : Slave) (kept : List Accepted) (wide index : ℕ) 
 -- two requests have no byte in common that one of them may write
 abbrev pub AreUncontested : Partial → Request → Request → Type 0
 AreUncontested memory ask other =
-    (address : ℕ) → in_window ask address ≡ true → in_window other address ≡ true
+    (address : ℕ) → in_window (placed memory ask) address ≡ true → in_window (placed memory other) address ≡ true
     → (may_write memory ask address ≡ false) × (may_write memory other address ≡ false)
 
 -- what is due to one that is kept has no more bytes than its window

@@ -1,17 +1,18 @@
 //! The requests that a port has accepted and not yet answered, if nobody knows in which order they take effect.
 ghost use Rattle.std.specs.Prelude.{◌≡◌, ℕ, ◌<◌, [], length, slice_get, map, Some, None, true, IfOk, IfSome, OnOk, OnErr, option_map};
 ghost use Rattle.std.specs.List.{remove};
+ghost use Rattle.check_memory.specs.Partial.{takes_bytes};
 ghost use Rattle.check_memory.specs.Pattern.{pattern};
 ghost use Rattle.check_contests.specs.Contests.{due_beside, due_of, entry_accepting, kept_accepting, kept_answering, kept_of, memory_accepting, one_may_write, slave_accepting};
 
 use crate::accepted::Accepted;
 use crate::due::hide;
-use crate::flags::contested;
+use crate::flags::{NEAR_BYTES, mark_all, near};
 use check_cells::Pattern;
 use check_memory::{PartialMemory, Slave};
 use std::alloc::{AllocError, Global};
 use std::marker::Model;
-use tl_types::Ask;
+use tl_types::{Ask, MAX_BYTES};
 
 /// The requests that are accepted and not yet answered, in the order in which they were accepted.
 #[derive(Drop)]
@@ -37,6 +38,52 @@ fn hide_each(memory: &PartialMemory, kept: &[Accepted], ask: &Ask, due: &mut Pat
     }
 }
 
+/// Serves a legal request that carries bytes beside those kept, in a memory that is seen in one place: windows that have a
+/// byte in common lie in one block of as many bytes as the largest message has.
+fn serve_in_block(
+    alloc: Global,
+    memory: &mut PartialMemory,
+    kept: &[Accepted],
+    ask: &Ask,
+    due: &mut Pattern,
+) -> Result<(), AllocError>
+    requires takes { takes_bytes memory.old ask.now ≡ true }
+    requires alone { memory.old.mirrors ≡ [] }
+    ensures after { IfOk result (λ _. memory.new ≡ memory_accepting memory.old kept.now ask.now) }
+    ensures pattern { IfOk result (λ _. due.new ≡ pattern memory.old ask.now) }
+    ensures unchanged { OnErr result (memory.new ≡ memory.old) }
+    ensures due_unchanged { OnErr result (due.new ≡ due.old) }
+{
+    let block = ask.address() - ask.address() % MAX_BYTES as u64;
+    let _in_limit = ask.width();
+    let mut flags = [false; MAX_BYTES];
+    mark_all(memory, kept, ask, block, &mut flags);
+    memory.serve_and_forget(alloc, ask, block, &flags, due)
+}
+
+/// Serves a legal request that carries bytes beside those kept, in a memory whose windows stand anywhere.
+// apart, so that a memory in one place goes by short code
+#[inline(never)]
+fn serve_near(
+    alloc: Global,
+    memory: &mut PartialMemory,
+    kept: &[Accepted],
+    ask: &Ask,
+    due: &mut Pattern,
+) -> Result<(), AllocError>
+    requires takes { takes_bytes memory.old ask.now ≡ true }
+    ensures after { IfOk result (λ _. memory.new ≡ memory_accepting memory.old kept.now ask.now) }
+    ensures pattern { IfOk result (λ _. due.new ≡ pattern memory.old ask.now) }
+    ensures unchanged { OnErr result (memory.new ≡ memory.old) }
+    ensures due_unchanged { OnErr result (due.new ≡ due.old) }
+{
+    let first = near(memory.start(ask));
+    let _in_limit = ask.width();
+    let mut flags = [false; NEAR_BYTES];
+    mark_all(memory, kept, ask, first, &mut flags);
+    memory.serve_and_forget(alloc, ask, first, &flags, due)
+}
+
 /// Serves a request beside those kept: the memory is the one after it, without the bytes that are contested, and what is
 /// expected of it stands in the place of another pattern. If there is no memory for a page, nothing is changed.
 fn serve_contested(
@@ -52,8 +99,11 @@ fn serve_contested(
     ensures due_unchanged { OnErr result (due.new ≡ due.old) }
 {
     if ask.op().carries_bytes() && memory.permits(ask) {
-        let flags = contested(memory, kept, ask);
-        memory.serve_and_forget(alloc, ask, &flags, due)
+        if memory.is_mirrored() {
+            serve_near(alloc, memory, kept, ask, due)
+        } else {
+            serve_in_block(alloc, memory, kept, ask, due)
+        }
     } else {
         memory.serve_into(alloc, ask, due)
     }

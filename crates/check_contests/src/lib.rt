@@ -16,6 +16,7 @@ mod contests;
 mod due;
 mod flags;
 pub mod laws;
+mod placed;
 mod writes;
 
 pub use accepted::Accepted;

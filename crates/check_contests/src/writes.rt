@@ -3,10 +3,11 @@ ghost use Rattle.std.specs.Prelude.{◌≡◌, ◌↔◌, ℕ, ◌+◌, ◌^◌,
 ghost use Rattle.check_memory.specs.Cells.{is_atomic};
 ghost use Rattle.check_contests.specs.Writes.{in_window, writes};
 
-use tl_types::{Ask, AskOp, MAX_BYTES};
+use crate::placed::Placed;
+use tl_types::{AskOp, MAX_BYTES};
 
 /// The place in a request's window of the address so far after another one, if it is there.
-fn place_in(ask: &Ask, address: u64, after: usize) -> Option<usize>
+fn place_in(ask: &Placed, address: u64, after: usize) -> Option<usize>
     requires { after ≤ MAX_BYTES }
     ensures { MatchOption result (in_window ask.now (address + after) ≡ false) (λ place.
         (place < 2 ^ ask.now.size) × (ask.now.address + place ≡ address + after)) }
@@ -24,7 +25,7 @@ fn place_in(ask: &Ask, address: u64, after: usize) -> Option<usize>
 }
 
 /// Whether a request writes at a place of its window, if it is legal.
-pub fn writes_at(ask: &Ask, place: usize) -> bool
+pub fn writes_at(ask: &Placed, place: usize) -> bool
     requires { place < 2 ^ ask.now.size }
     ensures { result ≡ writes ask.now.op ask.now (ask.now.address + place) }
 {
@@ -36,7 +37,7 @@ pub fn writes_at(ask: &Ask, place: usize) -> bool
 }
 
 /// Whether a request writes at the address so far after another one, if it is legal.
-pub fn writes_after(ask: &Ask, address: u64, after: usize) -> bool
+pub fn writes_after(ask: &Placed, address: u64, after: usize) -> bool
     requires { after ≤ MAX_BYTES }
     ensures { result ≡ writes ask.now.op ask.now (address + after) }
 {
@@ -54,7 +55,7 @@ pub fn is_atomic_op(op: AskOp) -> bool
 }
 
 /// Whether so many addresses from one on and a request's window have one in common.
-pub fn is_near(ask: &Ask, address: u64, count: usize) -> bool
+pub fn is_near(ask: &Placed, address: u64, count: usize) -> bool
     ensures near { IsTrue result ↔ ((place : ℕ) × (place < count) × (in_window ask.now (address + place) ≡ true)) }
     ensures in_limit { 2 ^ ask.now.size ≤ MAX_BYTES }
 {

@@ -24,7 +24,7 @@ mod slave;
 pub use answer::Answer;
 pub use crossing::Crossing;
 pub use flight::Flight;
-pub use order::Order;
+pub use order::{Order, SideOrders};
 pub use place::FlightPlace;
 pub use side::Side;
 pub use slave::PortSlave;

@@ -1,4 +1,6 @@
 //! When a request takes effect.
+ghost use Rattle.std.specs.Prelude.{◌≡◌};
+ghost use Rattle.check_flight.specs.Order.{on_both};
 
 /// When a request takes effect at its port.
 #[derive(Debug, Clone, Copy, PartialEq, Eq)]
@@ -9,4 +11,23 @@ pub enum Order {
     Reply,
     /// At some moment between the two: nobody knows when.
     Any,
+}
+
+/// When requests take effect, as they are judged at the masters' links, and at the ports'.
+#[derive(Debug, Clone, Copy, PartialEq, Eq)]
+pub struct SideOrders {
+    pub masters: Order,
+    pub ports: Order,
+}
+
+impl SideOrders {
+    /// The same order on both sides.
+    pub fn both(order: Order) -> SideOrders
+        ensures { result ≡ on_both order }
+    {
+        SideOrders {
+            masters: order,
+            ports: order,
+        }
+    }
 }

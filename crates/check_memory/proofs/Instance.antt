@@ -12,7 +12,7 @@ use Rattle.tl_ops.specs.Store.{Store, legal, contains_window, window, with_windo
 use Rattle.tl_ops.specs.Window.{new_window}
 use Rattle.tl_ops.proofs.Kept.{StandsIn-from_legal, length-new_window}
 use Rattle.tl_ops.proofs.LaneLists.{middle, middle_replaced}
-use Rattle.check_memory.specs.Partial.{Partial, permits}
+use Rattle.check_memory.specs.Partial.{Partial, start_of, permits}
 use Rattle.check_memory.specs.Whole.{true_window, true_after, true_reply}
 use Rattle.check_memory.specs.Laws.{IsLawfulAsk, IsStore, one_range}
 
@@ -91,9 +91,10 @@ new_long kind Get old given long = refl
 new_long kind (Intent _) old given long = refl
 
 reply_same : (store : Store) (before beyond : List ℕ) (memory : Partial) (ask : Request) (p : Bool)
-    → legal store ask ≡ p → permits memory ask ≡ legal store ask → length before ≡ store.base
+    → legal store ask ≡ p → permits memory ask ≡ legal store ask → start_of memory ask ≡ ask.address
+    → length before ≡ store.base
     → true_reply memory (before ++ (store.bytes ++ beyond)) ask ≡ reply store ask
-reply_same store before beyond memory ask true is same at =
+reply_same store before beyond memory ask true is same here at =
     let shows : List ℕ → Response =
     λ bytes. record {
       op = reply_op_of ask.op;
@@ -103,14 +104,15 @@ reply_same store before beyond memory ask true is same at =
       bytes =
           shown (reply_op_of ask.op) bytes;
     } in
-    rw (same, is) (ap shows (window_same store before beyond ask at is))
-reply_same store before beyond memory ask false is same at = rw (same, is) refl
+    rw (same, is) (ap shows (ap (λ a. take (2 ^ ask.size) (drop a (before ++ (store.bytes ++ beyond)))) here
+    ∙ window_same store before beyond ask at is))
+reply_same store before beyond memory ask false is same here at = rw (same, is) refl
 
 after_same : (store : Store) (before beyond : List ℕ) (memory : Partial) (ask : Request) (p : Bool)
-    → legal store ask ≡ p → permits memory ask ≡ legal store ask → memory.kind ≡ store.kind → length before ≡ store.base
-    → IsLawfulAsk ask
+    → legal store ask ≡ p → permits memory ask ≡ legal store ask → start_of memory ask ≡ ask.address
+    → memory.kind ≡ store.kind → length before ≡ store.base → IsLawfulAsk ask
     → true_after memory (before ++ (store.bytes ++ beyond)) ask ≡ before ++ ((after store ask).bytes ++ beyond)
-after_same store before beyond memory ask true is same kind at lawful =
+after_same store before beyond memory ask true is same here kind at lawful =
     let stands = StandsIn-from_legal store ask is in
     let offset = ask.address - store.base in
     let old = window store ask in
@@ -123,10 +125,13 @@ after_same store before beyond memory ask true is same kind at lawful =
     (λ carries. counted_if ask.op ask.size (length ask.bytes) lawful.counted carries ∙ sym wide) in
     let made = ap (λ k. new_window k ask.op (true_window (before ++ (store.bytes ++ beyond)) ask) ask.bytes) kind
     ∙ ap (λ bytes. new_window store.kind ask.op bytes ask.bytes) (window_same store before beyond ask at is) in
-    rw (same, is) (ap (with_window (before ++ (store.bytes ++ beyond)) ask.address) made
+    let all = before ++ (store.bytes ++ beyond) in
+    rw (same, is) (ap (λ a. with_window all a
+    (new_window memory.kind ask.op (take (2 ^ ask.size) (drop a all)) ask.bytes)) here
+    ∙ ap (with_window all ask.address) made
     ∙ replaced_inside before store.bytes beyond new offset ask.address (omega (arith, at, stands.from))
     (omega (arith, long, wide, stands.inside)))
-after_same store before beyond memory ask false is same kind at lawful = rw (same, is) refl
+after_same store before beyond memory ask false is same here kind at lawful = rw (same, is) refl
 
 pub store_is_instance : (store : Store) (before beyond : List ℕ) (cells : List (Option ℕ)) (ask : Request)
     → length before ≡ store.base → IsLawfulAsk ask → IsStore store before beyond (one_range store cells) ask
@@ -134,6 +139,6 @@ store_is_instance store before beyond cells ask at lawful =
     let same = legal_same store cells ask in
     record {
       legal_is = same;
-      reply_is = reply_same store before beyond (one_range store cells) ask (legal store ask) refl same at;
-      after_is = after_same store before beyond (one_range store cells) ask (legal store ask) refl same refl at lawful;
+      reply_is = reply_same store before beyond (one_range store cells) ask (legal store ask) refl same refl at;
+      after_is = after_same store before beyond (one_range store cells) ask (legal store ask) refl same refl refl at lawful;
     }

@@ -136,6 +136,6 @@ takes_some memory ask is some = rw is (carried (carries_bytes ask.op) refl)
     carried true is = is
     carried false is = absurd (some (no_count ask.op ask.size is))
 
-pub forgets_nothing : (memory : Partial) (ask : Request) (flags : List Bool) → takes_bytes memory ask ≡ false
-    → memory ≡ after_forgetting memory ask flags
-forgets_nothing memory ask flags none = rw (none, after_forgetting, after_partial) refl
+pub forgets_nothing : (memory : Partial) (ask : Request) (first : ℕ) (flags : List Bool)
+    → takes_bytes memory ask ≡ false → memory ≡ after_forgetting memory ask first flags
+forgets_nothing memory ask first flags none = rw (none, after_forgetting, after_partial) refl

@@ -10,7 +10,7 @@ use Rattle.tl_ops.specs.declared.kind.Kind.{Kind}
 use Rattle.tl_map.specs.declared.range.Range.{Range}
 use Rattle.check_memory.specs.Known.{replaced}
 use Rattle.check_memory.specs.Cells.{new_cells, unknown_where, forgotten_cell, forgotten}
-use Rattle.check_memory.specs.Partial.{Partial, holds, permits, takes_bytes, visible, window_of, block_of, after_partial, after_forgetting, AreWithin}
+use Rattle.check_memory.specs.Partial.{Partial, first_of, start_in, start_of, holds, permits, takes_bytes, visible, window_of, after_partial, after_forgetting, AreWithin}
 use Rattle.check_memory.specs.Pattern.{Pattern, pattern, shown_cells}
 use Rattle.check_memory.proofs.Forgotten.{marked, length-marked, get_or-marked}
 use Rattle.check_memory.proofs.Legal.{replaced-same}
@@ -126,23 +126,34 @@ window_then cells now seen' start n inside wide is =
 -- ---- in a memory
 
 pub in_space : (memory : Partial) (ask : Request) → AreWithin memory.ranges (2 ^ 64) → permits memory ask ≡ true
-    → ask.address + 2 ^ ask.size ≤ 2 ^ 64
+    → (start_of memory ask) + 2 ^ ask.size ≤ 2 ^ 64
 in_space memory ask within is =
-    within_if_held memory.ranges (2 ^ 64) ask.address (2 ^ ask.size) within (held_if_permitted memory ask is)
+    within_if_held memory.ranges (2 ^ 64) (start_of memory ask) (2 ^ ask.size) within (held_if_permitted memory ask is)
 
--- cells that were read, and those of them hidden that are volatile
-pub seen_of : (memory : Partial) (ask : Request) (volatile : List Range) (cells read left : List (Option ℕ))
-    (address width : ℕ) → volatile ≡ memory.volatile → cells ≡ memory.cells → address ≡ ask.address
-    → width ≡ 2 ^ ask.size → read ≡ take width (drop address cells)
-    → left ≡ unknown_where (λ place. holds volatile (address + place) 1) read → left ≡ window_of memory ask
-seen_of memory ask volatile cells read left address width same same' at wide is hidden =
+-- bytes that were read, and those of them hidden that are volatile
+pub looked : (memory : Partial) (volatile : List Range) (cells read left : List (Option ℕ)) (start width : ℕ)
+    → volatile ≡ memory.volatile → cells ≡ memory.cells → read ≡ take width (drop start cells)
+    → left ≡ unknown_where (λ place. holds volatile (start + place) 1) read
+    → left ≡ take width (drop start (visible memory))
+looked memory volatile cells read left start width same same' is hidden =
     hidden
-    ∙ ap (unknown_where (λ place. holds volatile (address + place) 1)) is
-    ∙ sym (window-unknown (λ place. holds volatile place 1) cells address width)
-    ∙ ap (λ (ranges : List Range). take width (drop address (unknown_where (λ place. holds ranges place 1) cells))) same
-    ∙ ap (λ cs. take width (drop address (unknown_where (λ place. holds memory.volatile place 1) cs))) same'
-    ∙ ap (λ n. take width (drop n (visible memory))) at
-    ∙ ap (λ n. take n (drop ask.address (visible memory))) wide
+    ∙ ap (unknown_where (λ place. holds volatile (start + place) 1)) is
+    ∙ sym (window-unknown (λ place. holds volatile place 1) cells start width)
+    ∙ ap (λ (ranges : List Range). take width (drop start (unknown_where (λ place. holds ranges place 1) cells))) same
+    ∙ ap (λ cs. take width (drop start (unknown_where (λ place. holds memory.volatile place 1) cs))) same'
+
+-- so many bytes from where its window stands are all of it
+pub all_looked : (memory : Partial) (ask : Request) (left : List (Option ℕ)) (start width : ℕ)
+    → start ≡ start_of memory ask → width ≡ 2 ^ ask.size → left ≡ take width (drop start (visible memory))
+    → left ≡ window_of memory ask
+all_looked memory ask left start width at wide is =
+    is ∙ ap (λ n. take width (drop n (visible memory))) at
+    ∙ ap (λ n. take n (drop (start_of memory ask) (visible memory))) wide
+
+-- a memory that is seen in one place has a window where its address says
+pub unmoved : (memory : Partial) (ask : Request) → memory.mirrors ≡ [] → ask.address ≡ start_of memory ask
+unmoved memory ask alone =
+    sym (ap (λ bases. start_in (first_of memory.ranges) bases ask.address (2 ^ ask.size)) alone)
 
 shown_carried : (op : ReplyOp) (cells : List (Option ℕ)) → reply_carries_bytes op ≡ true → cells ≡ shown_cells op cells
 shown_carried AccessAck cells carries = cc
@@ -194,42 +205,52 @@ answered memory ask cells is carries same =
 
 -- what is seen of pages that hold the cells of a memory
 pub window_is : (memory : Partial) (ask : Request) (volatile : List Range) (pages : List (Option ℕ))
-    → volatile ≡ memory.volatile → pages ≡ memory.cells
+    → memory.mirrors ≡ [] → volatile ≡ memory.volatile → pages ≡ memory.cells
     → take (2 ^ ask.size) (drop ask.address (unknown_where (λ place. holds volatile place 1) pages))
     ≡ window_of memory ask
-window_is memory ask volatile pages same same' =
-    ap (λ (ranges : List Range).
-    take (2 ^ ask.size) (drop ask.address (unknown_where (λ place. holds ranges place 1) pages))) same
-    ∙ ap (λ cells. take (2 ^ ask.size) (drop ask.address (unknown_where (λ place. holds memory.volatile place 1) cells)))
+window_is memory ask volatile pages alone same same' =
+    ap (λ a. take (2 ^ ask.size) (drop a (unknown_where (λ place. holds volatile place 1) pages)))
+    (unmoved memory ask alone)
+    ∙ ap (λ (ranges : List Range).
+    take (2 ^ ask.size) (drop (start_of memory ask) (unknown_where (λ place. holds ranges place 1) pages))) same
+    ∙ ap (λ cells. take (2 ^ ask.size) (drop (start_of memory ask) (unknown_where (λ place. holds memory.volatile place 1) cells)))
     same'
+
+-- the memory after a request of which this was left
+pub left_is : (memory : Partial) (ask : Request) (start : ℕ) (pages old new now : List (Option ℕ)) (kind : Kind)
+    → takes_bytes memory ask ≡ true → start ≡ start_of memory ask → kind ≡ memory.kind → pages ≡ memory.cells
+    → old ≡ window_of memory ask → new ≡ new_cells kind ask.op old ask.bytes → now ≡ replaced pages start new
+    → record memory { cells = now } ≡ after_partial memory ask
+left_is memory ask start pages old new now kind takes at kinds same window left is =
+    ap (λ (cells : List (Option ℕ)). record memory { cells = cells })
+    (is ∙ ap (replaced pages start) (left
+    ∙ ap (λ cells. new_cells kind ask.op cells ask.bytes) window
+    ∙ ap (λ k. new_cells k ask.op (window_of memory ask) ask.bytes) kinds)
+    ∙ ap (λ n. replaced pages n (new_cells memory.kind ask.op (window_of memory ask) ask.bytes)) at
+    ∙ ap (λ cells. replaced cells (start_of memory ask) (new_cells memory.kind ask.op (window_of memory ask) ask.bytes)) same)
+    ∙ sym (taken memory ask takes)
 
 -- the memory after a request that was served in pages
 pub served_is : (memory : Partial) (ask : Request) (kind : Kind) (volatile : List Range) (pages now : List (Option ℕ))
-    → takes_bytes memory ask ≡ true → kind ≡ memory.kind → volatile ≡ memory.volatile → pages ≡ memory.cells
+    → takes_bytes memory ask ≡ true → memory.mirrors ≡ [] → kind ≡ memory.kind → volatile ≡ memory.volatile
+    → pages ≡ memory.cells
     → now ≡ replaced pages ask.address (new_cells kind ask.op
     (take (2 ^ ask.size) (drop ask.address (unknown_where (λ place. holds volatile place 1) pages))) ask.bytes)
     → record memory { cells = now } ≡ after_partial memory ask
-served_is memory ask kind volatile pages now takes kinds same same' is =
-    ap (λ (cells : List (Option ℕ)). record memory { cells = cells })
-    (is
-    ∙ ap (λ old. replaced pages ask.address (new_cells kind ask.op old ask.bytes))
-    (window_is memory ask volatile pages same same')
-    ∙ ap (λ k. replaced pages ask.address (new_cells k ask.op (window_of memory ask) ask.bytes)) kinds
-    ∙ ap (λ cells. replaced cells ask.address (new_cells memory.kind ask.op (window_of memory ask) ask.bytes)) same')
-    ∙ sym (taken memory ask takes)
+served_is memory ask kind volatile pages now takes alone kinds same same' is =
+    let old = take (2 ^ ask.size) (drop ask.address (unknown_where (λ place. holds volatile place 1) pages)) in
+    left_is memory ask ask.address pages old (new_cells kind ask.op old ask.bytes) now kind takes
+    (unmoved memory ask alone) kinds same' (window_is memory ask volatile pages alone same same') refl is
 
 -- and of which bytes were forgotten then
-pub forgot_is : (memory : Partial) (ask : Request) (flags : List Bool) (block : ℕ) (now left : List (Option ℕ))
+pub forgot_is : (memory : Partial) (ask : Request) (flags : List Bool) (first : ℕ) (now left : List (Option ℕ))
     → takes_bytes memory ask ≡ true → record memory { cells = now } ≡ after_partial memory ask
-    → block ≡ block_of ask.address → left ≡ forgotten flags block now
-    → record memory { cells = left } ≡ after_forgetting memory ask flags
-forgot_is memory ask flags block now left takes served at is =
-    ap (λ (cells : List (Option ℕ)). record memory { cells = cells }) (is ∙ ap (λ b. forgotten flags b now) at)
-    ∙ ap (λ (m : Partial). record m { cells = forgotten flags (block_of ask.address) m.cells }) served
+    → left ≡ forgotten flags first now → record memory { cells = left } ≡ after_forgetting memory ask first flags
+forgot_is memory ask flags first now left takes served is =
+    ap (λ (cells : List (Option ℕ)). record memory { cells = cells }) is
+    ∙ ap (λ (m : Partial). record m { cells = forgotten flags first m.cells }) served
     ∙ sym (taking takes)
   where
-    taking : takes_bytes memory ask ≡ true → after_forgetting memory ask flags
-        ≡ record (after_partial memory ask) {
-          cells = forgotten flags (block_of ask.address) (after_partial memory ask).cells;
-        }
+    taking : takes_bytes memory ask ≡ true → after_forgetting memory ask first flags
+        ≡ record (after_partial memory ask) { cells = forgotten flags first (after_partial memory ask).cells }
     taking is' = rw (is', after_forgetting) refl

@@ -21,7 +21,7 @@ use Rattle.tl_ops.proofs.Kept.{length-new_window}
 use Rattle.tl_map.specs.declared.range.Range.{Range}
 use Rattle.check_memory.specs.Known.{IsBelow, known, all_known, replaced}
 use Rattle.check_memory.specs.Cells.{put_cell, clear_cell, put_cells, combined, combined_logic, new_cells, unknown_where}
-use Rattle.check_memory.specs.Partial.{Partial, holds, permits, takes_bytes, is_volatile, visible, window_of, after_partial, AreWithin}
+use Rattle.check_memory.specs.Partial.{Partial, start_of, placed, holds, permits, takes_bytes, is_volatile, visible, window_of, after_partial, AreWithin}
 use Rattle.check_memory.specs.Pattern.{shown_cells}
 use Rattle.check_memory.specs.Whole.{true_window, true_after}
 use Rattle.check_memory.specs.Laws.{IsLawfulAsk, IsSound, AreSameButVolatile}
@@ -145,7 +145,7 @@ within_if_held (range ∷ ranges) count address width within is =
     (holds ranges address width) is)
 
 pub held_if_permitted : (memory : Partial) (ask : Request) → permits memory ask ≡ true
-    → holds memory.ranges ask.address (2 ^ ask.size) ≡ true
+    → holds memory.ranges (start_of memory ask) (2 ^ ask.size) ≡ true
 held_if_permitted memory ask is = search rules
 
 counted_if : (op : AskOp) (size n : ℕ) → n ≡ byte_count op size → carries_bytes op ≡ true → n ≡ 2 ^ size
@@ -153,16 +153,16 @@ counted_if op size n is carries = rw carries at is
 
 -- a legal request that carries bytes has as many as its window
 pub window_long : (memory : Partial) (bytes : List ℕ) (ask : Request) → AreWithin memory.ranges (length bytes)
-    → permits memory ask ≡ true → length (true_window bytes ask) ≡ 2 ^ ask.size
+    → permits memory ask ≡ true → length (true_window bytes (placed memory ask)) ≡ 2 ^ ask.size
 window_long memory bytes ask within is =
-    let inside : ask.address + 2 ^ ask.size ≤ length bytes =
-    within_if_held memory.ranges (length bytes) ask.address (2 ^ ask.size) within
+    let inside : (start_of memory ask) + 2 ^ ask.size ≤ length bytes =
+    within_if_held memory.ranges (length bytes) (start_of memory ask) (2 ^ ask.size) within
     (held_if_permitted memory ask is) in
-    length-take-le (2 ^ ask.size) (drop ask.address bytes) (omega (arith, length-drop ask.address bytes, inside))
+    length-take-le (2 ^ ask.size) (drop (start_of memory ask) bytes) (omega (arith, length-drop (start_of memory ask) bytes, inside))
 
 pub given_long : (memory : Partial) (bytes : List ℕ) (ask : Request) → AreWithin memory.ranges (length bytes)
     → IsLawfulAsk ask → permits memory ask ≡ true → carries_bytes ask.op ≡ true
-    → length ask.bytes ≡ length (true_window bytes ask)
+    → length ask.bytes ≡ length (true_window bytes (placed memory ask))
 given_long memory bytes ask within lawful is carries =
     counted_if ask.op ask.size (length ask.bytes) lawful.counted carries ∙ sym (window_long memory bytes ask within is)
 
@@ -194,19 +194,19 @@ pub true_same : (memory : Partial) (bytes : List ℕ) (ask : Request) → takes_
 true_same memory bytes ask none = by_cases (permits memory ask) refl
   where
     by_cases : (p : Bool) → permits memory ask ≡ p → true_after memory bytes ask ≡ bytes
-    by_cases true is = rw is (ap (with_window bytes ask.address)
-        (kept_window memory.kind ask.op (true_window bytes ask) ask.bytes (not_taken memory ask is none))
-        ∙ replaced-same bytes ask.address (2 ^ ask.size))
+    by_cases true is = rw is (ap (with_window bytes (start_of memory ask))
+        (kept_window memory.kind ask.op (true_window bytes (placed memory ask)) ask.bytes (not_taken memory ask is none))
+        ∙ replaced-same bytes (start_of memory ask) (2 ^ ask.size))
     by_cases false is = rw is refl
 
 pub true_taken : (memory : Partial) (bytes : List ℕ) (ask : Request) → permits memory ask ≡ true
     → true_after memory bytes ask
-    ≡ with_window bytes ask.address (new_window memory.kind ask.op (true_window bytes ask) ask.bytes)
+    ≡ with_window bytes (start_of memory ask) (new_window memory.kind ask.op (true_window bytes (placed memory ask)) ask.bytes)
 true_taken memory bytes ask is = rw is refl
 
 pub taken : (memory : Partial) (ask : Request) → takes_bytes memory ask ≡ true
     → after_partial memory ask ≡ record memory {
-      cells = replaced memory.cells ask.address (new_cells memory.kind ask.op (window_of memory ask) ask.bytes);
+      cells = replaced memory.cells (start_of memory ask) (new_cells memory.kind ask.op (window_of memory ask) ask.bytes);
     }
 taken memory ask is = rw (is, after_partial) refl
 
@@ -214,10 +214,10 @@ pub untaken : (memory : Partial) (ask : Request) → takes_bytes memory ask ≡ 
 untaken memory ask is = rw (is, after_partial) refl
 
 told_window : (memory : Partial) (bytes : List ℕ) (ask : Request) → Told (visible memory) bytes
-    → Told (window_of memory ask) (true_window bytes ask)
+    → Told (window_of memory ask) (true_window bytes (placed memory ask))
 told_window memory bytes ask told =
-    told-take (2 ^ ask.size) (drop ask.address (visible memory)) (drop ask.address bytes)
-    (told-drop ask.address (visible memory) bytes told)
+    told-take (2 ^ ask.size) (drop (start_of memory ask) (visible memory)) (drop (start_of memory ask) bytes)
+    (told-drop (start_of memory ask) (visible memory) bytes told)
 
 told-after : (memory : Partial) (bytes : List ℕ) (ask : Request) (takes : Bool) → takes_bytes memory ask ≡ takes
     → AreWithin memory.ranges (length bytes) → IsLawfulAsk ask → Told (visible memory) bytes
@@ -225,18 +225,18 @@ told-after : (memory : Partial) (bytes : List ℕ) (ask : Request) (takes : Bool
 told-after memory bytes ask true is within lawful told =
     let legal = takes_legal memory ask is in
     let new = new_cells memory.kind ask.op (window_of memory ask) ask.bytes in
-    let new' = new_window memory.kind ask.op (true_window bytes ask) ask.bytes in
+    let new' = new_window memory.kind ask.op (true_window bytes (placed memory ask)) ask.bytes in
     let given = given_long memory bytes ask within lawful legal in
     let told' : Told new new' =
-    told-new memory.kind ask.op (window_of memory ask) (true_window bytes ask) ask.bytes (told_window memory bytes ask told)
+    told-new memory.kind ask.op (window_of memory ask) (true_window bytes (placed memory ask)) ask.bytes (told_window memory bytes ask told)
     given in
-    let wide : length (true_window bytes ask) ≡ 2 ^ ask.size = window_long memory bytes ask within legal in
+    let wide : length (true_window bytes (placed memory ask)) ≡ 2 ^ ask.size = window_long memory bytes ask within legal in
     let long : length new ≡ 2 ^ ask.size =
     sym (told-length new new' told')
-    ∙ length-new_window memory.kind ask.op (true_window bytes ask) ask.bytes (given (takes_carries memory ask is)) ∙ wide in
-    let inside : ask.address + 2 ^ ask.size ≤ length bytes =
-    within_if_held memory.ranges (length bytes) ask.address (2 ^ ask.size) within (held_if_permitted memory ask legal) in
-    let fits : ask.address + length new ≤ length memory.cells =
+    ∙ length-new_window memory.kind ask.op (true_window bytes (placed memory ask)) ask.bytes (given (takes_carries memory ask is)) ∙ wide in
+    let inside : (start_of memory ask) + 2 ^ ask.size ≤ length bytes =
+    within_if_held memory.ranges (length bytes) (start_of memory ask) (2 ^ ask.size) within (held_if_permitted memory ask legal) in
+    let fits : (start_of memory ask) + length new ≤ length memory.cells =
     omega (
       arith,
       inside,
@@ -244,14 +244,14 @@ told-after memory bytes ask true is within lawful told =
       told-length (visible memory) bytes told,
       length-unknown_where (is_volatile memory) memory.cells,
     ) in
-    let all : Told (unknown_where (is_volatile memory) (replaced memory.cells ask.address new))
-    (with_window bytes ask.address new') =
-    subst (λ (cells : List (Option ℕ)). Told cells (with_window bytes ask.address new'))
-    (sym (unknown-replaced (is_volatile memory) memory.cells new ask.address fits))
-    (told-unknown (is_volatile memory) (replaced (visible memory) ask.address new) (with_window bytes ask.address new')
-    (told-replaced (visible memory) bytes ask.address new new' told told')) in
+    let all : Told (unknown_where (is_volatile memory) (replaced memory.cells (start_of memory ask) new))
+    (with_window bytes (start_of memory ask) new') =
+    subst (λ (cells : List (Option ℕ)). Told cells (with_window bytes (start_of memory ask) new'))
+    (sym (unknown-replaced (is_volatile memory) memory.cells new (start_of memory ask) fits))
+    (told-unknown (is_volatile memory) (replaced (visible memory) (start_of memory ask) new) (with_window bytes (start_of memory ask) new')
+    (told-replaced (visible memory) bytes (start_of memory ask) new new' told told')) in
     subst (λ (m : Partial). Told (visible m) (true_after memory bytes ask)) (sym (taken memory ask is))
-    (subst (λ (bs : List ℕ). Told (unknown_where (is_volatile memory) (replaced memory.cells ask.address new)) bs)
+    (subst (λ (bs : List ℕ). Told (unknown_where (is_volatile memory) (replaced memory.cells (start_of memory ask) new)) bs)
     (sym (true_taken memory bytes ask legal)) all)
 told-after memory bytes ask false is within lawful told =
     subst (λ (m : Partial). Told (visible m) (true_after memory bytes ask)) (sym (untaken memory ask is))
@@ -268,7 +268,7 @@ partial_is_sound memory bytes ask within lawful below =
         source_is = refl;
         denied_is = λ flag is. is;
         bytes_fit = below-shown (reply_op_of ask.op) _ _
-            (told-chosen (permits memory ask) (window_of memory ask) (true_window bytes ask)
+            (told-chosen (permits memory ask) (window_of memory ask) (true_window bytes (placed memory ask))
             (replicate (2 ^ ask.size) 0) (told_window memory bytes ask told));
       };
       stays_below = below_from_told (visible (after_partial memory ask)) (true_after memory bytes ask)

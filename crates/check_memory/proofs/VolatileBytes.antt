@@ -12,7 +12,7 @@ use Rattle.tl_ops.specs.declared.kind.Kind.{Kind}
 use Rattle.tl_ops.specs.Window.{combine_arith, combine_logic}
 use Rattle.check_memory.specs.Known.{known, all_known, replaced}
 use Rattle.check_memory.specs.Cells.{combined, new_cells, is_atomic, is_swap}
-use Rattle.check_memory.specs.Partial.{Partial, permits, takes_bytes, is_volatile, visible, window_of, after_partial, AreWithin}
+use Rattle.check_memory.specs.Partial.{Partial, start_of, permits, takes_bytes, is_volatile, visible, window_of, after_partial, AreWithin}
 use Rattle.check_memory.specs.Pattern.{pattern, shown_cells}
 use Rattle.check_memory.specs.Laws.{HasVolatile}
 use Rattle.check_memory.proofs.Replaced.{get_or-replaced_in}
@@ -23,10 +23,10 @@ use Rattle.check_memory.proofs.Unknown.{get_or-unknown, length-unknown_where}
 seen_none : (memory : Partial) (ask : Request) (place : ℕ) → HasVolatile memory ask place
     → get_or (window_of memory ask) place None ≡ None
 seen_none memory ask place has =
-    get_or-take (2 ^ ask.size) (drop ask.address (visible memory)) place None has.in_window
-    ∙ get_or-drop ask.address (visible memory) place None
-    ∙ get_or-unknown (is_volatile memory) memory.cells (ask.address + place)
-    ∙ ap (λ (b : Bool). if b then None else get_or memory.cells (ask.address + place) None) has.volatile
+    get_or-take (2 ^ ask.size) (drop (start_of memory ask) (visible memory)) place None has.in_window
+    ∙ get_or-drop (start_of memory ask) (visible memory) place None
+    ∙ get_or-unknown (is_volatile memory) memory.cells ((start_of memory ask) + place)
+    ∙ ap (λ (b : Bool). if b then None else get_or memory.cells ((start_of memory ask) + place) None) has.volatile
 
 shown_none : (op : ReplyOp) (cells : List (Option ℕ)) (place : ℕ) → get_or cells place None ≡ None
     → get_or (shown_cells op cells) place None ≡ None
@@ -88,23 +88,23 @@ none_either false cell none = none
 
 pub window_lost : (memory : Partial) (ask : Request) (place other : ℕ) → HasVolatile memory ask place
     → AreWithin memory.ranges (length memory.cells) → is_atomic ask.op ≡ true → is_swap ask.op ≡ false
-    → other < 2 ^ ask.size → get_or (visible (after_partial memory ask)) (ask.address + other) None ≡ None
+    → other < 2 ^ ask.size → get_or (visible (after_partial memory ask)) ((start_of memory ask) + other) None ≡ None
 window_lost memory ask place other has within atomic swap below =
     let old = window_of memory ask in
     let new = new_cells memory.kind ask.op old ask.bytes in
-    let room : ask.address + 2 ^ ask.size ≤ length memory.cells =
-    within_if_held memory.ranges (length memory.cells) ask.address (2 ^ ask.size) within
+    let room : (start_of memory ask) + 2 ^ ask.size ≤ length memory.cells =
+    within_if_held memory.ranges (length memory.cells) (start_of memory ask) (2 ^ ask.size) within
     (held_if_permitted memory ask has.legal) in
     let wide : length old ≡ 2 ^ ask.size =
-    length-take-le (2 ^ ask.size) (drop ask.address (visible memory))
-    (omega (arith, room, length-drop ask.address (visible memory), length-unknown_where (is_volatile memory) memory.cells)) in
+    length-take-le (2 ^ ask.size) (drop (start_of memory ask) (visible memory))
+    (omega (arith, room, length-drop (start_of memory ask) (visible memory), length-unknown_where (is_volatile memory) memory.cells)) in
     let lost : all_known old ≡ false =
     not_all old place (omega (arith, wide, has.in_window)) (seen_none memory ask place has) in
     let left : new ≡ replicate (length old) None = left_none memory.kind ask.op old ask.bytes atomic swap lost in
     let long : length new ≡ 2 ^ ask.size = ap length left ∙ length-replicate {A = Option ℕ} (length old) None ∙ wide in
-    let there : get_or (replaced memory.cells ask.address new) (ask.address + other) None ≡ None =
-    get_or-replaced_in memory.cells new ask.address other (omega (arith, room, long)) (omega (arith, below, long))
+    let there : get_or (replaced memory.cells (start_of memory ask) new) ((start_of memory ask) + other) None ≡ None =
+    get_or-replaced_in memory.cells new (start_of memory ask) other (omega (arith, room, long)) (omega (arith, below, long))
     ∙ ap (λ (cells : List (Option ℕ)). get_or cells other None) left ∙ none_known (length old) other in
-    ap (λ (m : Partial). get_or (visible m) (ask.address + other) None) (taken memory ask (takes_it memory ask has.legal atomic))
-    ∙ get_or-unknown (is_volatile memory) (replaced memory.cells ask.address new) (ask.address + other)
-    ∙ none_either (is_volatile memory (ask.address + other)) _ there
+    ap (λ (m : Partial). get_or (visible m) ((start_of memory ask) + other) None) (taken memory ask (takes_it memory ask has.legal atomic))
+    ∙ get_or-unknown (is_volatile memory) (replaced memory.cells (start_of memory ask) new) ((start_of memory ask) + other)
+    ∙ none_either (is_volatile memory ((start_of memory ask) + other)) _ there

@@ -19,7 +19,7 @@ use Rattle.tl_ops.proofs.Kept.{length-new_window}
 use Rattle.tl_ops.proofs.LaneLists.{length-with_window}
 use Rattle.check_memory.specs.Known.{known, all_known, replaced}
 use Rattle.check_memory.specs.Cells.{put_cell, clear_cell, put_cells, combined, combined_logic, new_cells}
-use Rattle.check_memory.specs.Partial.{Partial, permits, takes_bytes, holds, is_volatile, visible, window_of, after_partial, AreWithin}
+use Rattle.check_memory.specs.Partial.{Partial, start_of, placed, permits, takes_bytes, holds, is_volatile, visible, window_of, after_partial, AreWithin}
 use Rattle.check_memory.specs.Pattern.{Pattern, pattern, shown_cells, seen_as}
 use Rattle.check_memory.specs.Whole.{whole, true_window, true_after, true_reply}
 use Rattle.check_memory.specs.Laws.{IsLawfulAsk, IsWhole}
@@ -88,11 +88,11 @@ visible-all memory none =
     unknown_none (is_volatile memory) memory.cells (λ place below. ap (λ ranges. holds ranges place 1) none)
 
 known-window : (memory : Partial) (bytes : List ℕ) (ask : Request) → memory.volatile ≡ []
-    → window_of (whole memory bytes) ask ≡ known (true_window bytes ask)
+    → window_of (whole memory bytes) ask ≡ known (true_window bytes (placed memory ask))
 known-window memory bytes ask none =
-    ap (λ cells. take (2 ^ ask.size) (drop ask.address cells)) (visible-all (whole memory bytes) none)
-    ∙ ap (take (2 ^ ask.size)) (drop-map (λ (b : ℕ). Some b) ask.address bytes)
-    ∙ take-map (λ (b : ℕ). Some b) (2 ^ ask.size) (drop ask.address bytes)
+    ap (λ cells. take (2 ^ ask.size) (drop (start_of memory ask) cells)) (visible-all (whole memory bytes) none)
+    ∙ ap (take (2 ^ ask.size)) (drop-map (λ (b : ℕ). Some b) (start_of memory ask) bytes)
+    ∙ take-map (λ (b : ℕ). Some b) (2 ^ ask.size) (drop (start_of memory ask) bytes)
 
 known-replaced : (bytes : List ℕ) (start : ℕ) (new : List ℕ)
     → replaced (known bytes) start (known new) ≡ known (with_window bytes start new)
@@ -122,7 +122,7 @@ whole_answers memory bytes ask none =
     let zeros = replicate {A = ℕ} (2 ^ ask.size) 0 in
     let op = reply_op_of ask.op in
     let chosen = known-chosen (permits memory ask) (window_of (whole memory bytes) ask)
-    (true_window bytes ask) zeros (known-window memory bytes ask none) in
+    (true_window bytes (placed memory ask)) zeros (known-window memory bytes ask none) in
     let with_bytes : List (Option ℕ) → Pattern =
     λ cells. record {
       op = op;
@@ -132,37 +132,37 @@ whole_answers memory bytes ask none =
       bytes = cells;
     } in
     ap with_bytes (ap (shown_cells op) chosen
-    ∙ known-shown op (if permits memory ask then true_window bytes ask else zeros))
+    ∙ known-shown op (if permits memory ask then true_window bytes (placed memory ask) else zeros))
 
 whole_leaves : (memory : Partial) (bytes : List ℕ) (ask : Request) (takes : Bool) → takes_bytes memory ask ≡ takes
     → memory.volatile ≡ [] → AreWithin memory.ranges (length bytes) → IsLawfulAsk ask
     → after_partial (whole memory bytes) ask ≡ whole memory (true_after memory bytes ask)
 whole_leaves memory bytes ask true is none within lawful =
     let legal = takes_legal memory ask is in
-    let new = new_window memory.kind ask.op (true_window bytes ask) ask.bytes in
+    let new = new_window memory.kind ask.op (true_window bytes (placed memory ask)) ask.bytes in
     let made : new_cells memory.kind ask.op (window_of (whole memory bytes) ask) ask.bytes ≡ known new =
     ap (λ cells. new_cells memory.kind ask.op cells ask.bytes) (known-window memory bytes ask none)
-    ∙ known-new memory.kind ask.op (true_window bytes ask) ask.bytes
+    ∙ known-new memory.kind ask.op (true_window bytes (placed memory ask)) ask.bytes
     (given_long memory bytes ask within lawful legal) in
     let left : List (Option ℕ) → Partial = λ cells. record memory { cells = cells } in
     taken (whole memory bytes) ask is
-    ∙ ap left (ap (replaced (known bytes) ask.address) made ∙ known-replaced bytes ask.address new)
+    ∙ ap left (ap (replaced (known bytes) (start_of memory ask)) made ∙ known-replaced bytes (start_of memory ask) new)
     ∙ ap (whole memory) (sym (true_taken memory bytes ask legal))
 whole_leaves memory bytes ask false is none within lawful =
     untaken (whole memory bytes) ask is ∙ ap (whole memory) (sym (true_same memory bytes ask is))
 
 -- a window after a request is as long as before
 new_long : (memory : Partial) (bytes : List ℕ) (ask : Request) (op : AskOp)
-    → (carries_bytes op ≡ true → length ask.bytes ≡ length (true_window bytes ask))
-    → length (new_window memory.kind op (true_window bytes ask) ask.bytes) ≡ length (true_window bytes ask)
+    → (carries_bytes op ≡ true → length ask.bytes ≡ length (true_window bytes (placed memory ask)))
+    → length (new_window memory.kind op (true_window bytes (placed memory ask)) ask.bytes) ≡ length (true_window bytes (placed memory ask))
 new_long memory bytes ask PutFull long =
-    length-new_window memory.kind PutFull (true_window bytes ask) ask.bytes (long refl)
+    length-new_window memory.kind PutFull (true_window bytes (placed memory ask)) ask.bytes (long refl)
 new_long memory bytes ask PutPartial long =
-    length-new_window memory.kind PutPartial (true_window bytes ask) ask.bytes (long refl)
+    length-new_window memory.kind PutPartial (true_window bytes (placed memory ask)) ask.bytes (long refl)
 new_long memory bytes ask (Arithmetic op) long =
-    length-new_window memory.kind (Arithmetic op) (true_window bytes ask) ask.bytes (long refl)
+    length-new_window memory.kind (Arithmetic op) (true_window bytes (placed memory ask)) ask.bytes (long refl)
 new_long memory bytes ask (Logical op) long =
-    length-new_window memory.kind (Logical op) (true_window bytes ask) ask.bytes (long refl)
+    length-new_window memory.kind (Logical op) (true_window bytes (placed memory ask)) ask.bytes (long refl)
 new_long memory bytes ask Get long = refl
 new_long memory bytes ask (Intent _) long = refl
 
@@ -170,12 +170,12 @@ whole_counted : (memory : Partial) (bytes : List ℕ) (ask : Request) (p : Bool)
     → AreWithin memory.ranges (length bytes) → IsLawfulAsk ask
     → length (true_after memory bytes ask) ≡ length bytes
 whole_counted memory bytes ask true is within lawful =
-    let inside : ask.address + 2 ^ ask.size ≤ length bytes =
-    within_if_held memory.ranges (length bytes) ask.address (2 ^ ask.size) within
+    let inside : (start_of memory ask) + 2 ^ ask.size ≤ length bytes =
+    within_if_held memory.ranges (length bytes) (start_of memory ask) (2 ^ ask.size) within
     (held_if_permitted memory ask is) in
-    let wide : length (true_window bytes ask) ≡ 2 ^ ask.size = window_long memory bytes ask within is in
+    let wide : length (true_window bytes (placed memory ask)) ≡ 2 ^ ask.size = window_long memory bytes ask within is in
     let long = new_long memory bytes ask ask.op (given_long memory bytes ask within lawful is) in
-    rw is (length-with_window bytes ask.address (new_window memory.kind ask.op (true_window bytes ask) ask.bytes)
+    rw is (length-with_window bytes (start_of memory ask) (new_window memory.kind ask.op (true_window bytes (placed memory ask)) ask.bytes)
     (omega (arith, inside, wide, long)))
 whole_counted memory bytes ask false is within lawful = rw is refl
 

@@ -5,7 +5,7 @@ use Rattle.tl_ops.specs.Store.{Store, legal, reply, after}
 use Rattle.tl_ops.specs.Support.{row_of_kind}
 use Rattle.check_memory.specs.Known.{IsBelow, known}
 use Rattle.check_memory.specs.Cells.{is_atomic, is_swap}
-use Rattle.check_memory.specs.Partial.{Partial, permits, is_volatile, visible, after_partial, AreWithin}
+use Rattle.check_memory.specs.Partial.{Partial, start_of, permits, is_volatile, visible, after_partial, AreWithin}
 use Rattle.check_memory.specs.Pattern.{Pattern, pattern, FitsPattern, seen_as}
 use Rattle.check_memory.specs.declared.slave.Slave.{Slave}
 use Rattle.check_memory.specs.Slave.{expected_of, MayReply}
@@ -54,7 +54,7 @@ VolatileBytesAreFree =
 pub record HasVolatile (memory : Partial) (ask : Request) (place : ℕ) : Type 0 where
   pub legal : permits memory ask ≡ true
   pub in_window : place < 2 ^ ask.size
-  pub volatile : is_volatile memory (ask.address + place) ≡ true
+  pub volatile : is_volatile memory (start_of memory ask + place) ≡ true
 
 -- no reply is expected to tell such a byte
 abbrev pub VolatileIsNeverTold : Type 0
@@ -67,10 +67,10 @@ abbrev pub AtomicOverVolatile : Type 0
 AtomicOverVolatile =
     (memory : Partial) (ask : Request) (place other : ℕ) → HasVolatile memory ask place
     → AreWithin memory.ranges (length memory.cells) → is_atomic ask.op ≡ true → is_swap ask.op ≡ false
-    → other < 2 ^ ask.size → slice_index_or (visible (after_partial memory ask)) (ask.address + other) None ≡ None
+    → other < 2 ^ ask.size → slice_index_or (visible (after_partial memory ask)) (start_of memory ask + other) None ≡ None
 
--- a memory in one range, whose sizes are its kind's row, and of which no byte changes by itself, is the store of tl_ops
--- between the bytes before it and beyond
+-- a memory in one range, which is seen there alone, whose sizes are its kind's row, and of which no byte changes by itself,
+-- is the store of tl_ops between the bytes before it and beyond
 pub record IsStore (store : Store) (before beyond : List ℕ) (memory : Partial) (ask : Request) : Type 0 where
   pub legal_is : permits memory ask ≡ legal store ask
   pub reply_is : true_reply memory (before ++ (store.bytes ++ beyond)) ask ≡ reply store ask
@@ -82,6 +82,7 @@ one_range store cells = record {
   kind = store.kind;
   sizes = row_of_kind store.kind;
   ranges = record { base = store.base; length = length store.bytes } ∷ [];
+  mirrors = [];
   volatile = [];
   cells = cells;
 }

@@ -1,5 +1,5 @@
 -- What stands at a port: a memory, or a device, which keeps nothing and decides for itself. This project's own.
-use Rattle.std.specs.Prelude.{List, Bool, false}
+use Rattle.std.specs.Prelude.{ℕ, List, Bool, false}
 use Rattle.tl_types.specs.Request.{Request}
 use Rattle.check_memory.specs.declared.slave.Slave.{Slave}
 use Rattle.check_memory.specs.declared.slave.Slave.TheVariants.{Memory, Device}
@@ -11,10 +11,11 @@ abbrev pub slave_after : Slave → Request → Slave
 slave_after (Memory memory) ask = Memory (after_partial memory ask)
 slave_after Device ask = Device
 
--- the slave after a request, of whose block each byte that is flagged is then unknown; a device has none to forget
-abbrev pub slave_after_forgetting : Slave → Request → List Bool → Slave
-slave_after_forgetting (Memory memory) ask flags = Memory (after_forgetting memory ask flags)
-slave_after_forgetting Device ask flags = Device
+-- the slave after a request, of which each byte that is flagged, from an address on, is then unknown; a device has none
+-- to forget
+abbrev pub slave_after_forgetting : Slave → Request → ℕ → List Bool → Slave
+slave_after_forgetting (Memory memory) ask first flags = Memory (after_forgetting memory ask first flags)
+slave_after_forgetting Device ask first flags = Device
 
 -- whether it takes the bytes of a request: a device keeps none
 abbrev pub slave_takes_bytes : Slave → Request → Bool

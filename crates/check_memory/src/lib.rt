@@ -16,6 +16,7 @@
 pub mod laws;
 mod memory;
 mod pages;
+mod place;
 mod range;
 mod sheet;
 mod sizes;

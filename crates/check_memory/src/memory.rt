@@ -1,14 +1,15 @@
 //! Memories of bytes that are known or unknown, which serve requests.
-ghost use Rattle.std.specs.Prelude.{◌≡◌, ℕ, ◌+◌, ◌*◌, ◌%◌, ◌^◌, ◌<◌, ◌≤◌, length, take, replicate, Some, true, IfOk, OnOk, OnErr};
+ghost use Rattle.std.specs.Prelude.{◌≡◌, ℕ, ◌+◌, ◌*◌, ◌/◌, ◌%◌, ◌^◌, ◌<◌, ◌≤◌, [], length, take, drop, replicate, Some, true, false, IsTrue, IfOk, OnOk, OnErr};
 ghost use Rattle.tl_types.specs.Operation.{reply_op_of};
 ghost use Rattle.tl_types.specs.Request.{IsLawfulRequest};
 ghost use Rattle.check_memory.specs.Known.{known as known_of};
-ghost use Rattle.check_memory.specs.Partial.{permits, takes_bytes, after_partial, after_forgetting, loaded, AreWithin, holds};
+ghost use Rattle.check_memory.specs.Partial.{permits, takes_bytes, after_partial, after_forgetting, loaded, start_of, visible, AreWithin, holds};
 ghost use Rattle.check_memory.specs.Pattern.{pattern, shown_cells};
 ghost use Rattle.check_memory.specs.Place.{fill_of, tabulate};
 
 use crate::pages::Pages;
-use crate::range::holds;
+use crate::place::{forget_bytes, hold, hold_flagged, read_bytes, serve_apart, write_bytes};
+use crate::range::{first_of, holds, start_in};
 use crate::sheet::PAGE_BYTES;
 use crate::sizes::Sizes;
 use crate::volatile::{hide, serve_in_page};
@@ -26,6 +27,7 @@ pub struct PartialMemory {
     kind: Kind,
     sizes: SizeTable,
     ranges: Vec<Range>,
+    mirrors: Vec<u64>,
     volatile: Vec<Range>,
     pages: Pages,
 }
@@ -42,6 +44,7 @@ impl Model for PartialMemory {
       kind = m.kind;
       sizes = m.sizes;
       ranges = m.ranges.items;
+      mirrors = m.mirrors.items;
       volatile = m.volatile.items;
       cells = paged_cells m.pages;
     } };
@@ -50,13 +53,14 @@ impl Model for PartialMemory {
 }
 
 impl PartialMemory {
-    /// A memory that nothing has written: its bytes are zero, or unknown. Those of the volatile ranges change by
-    /// themselves.
+    /// A memory that nothing has written: its bytes are zero, or unknown. Its first range is also seen from the addresses
+    /// `mirrors` on. The bytes of the volatile ranges change by themselves.
     pub fn new(
         alloc: Global,
         kind: Kind,
         sizes: Sizes,
         ranges: Vec<Range>,
+        mirrors: Vec<u64>,
         volatile: Vec<Range>,
         known: bool,
     ) -> PartialMemory
@@ -65,6 +69,7 @@ impl PartialMemory {
           kind = kind;
           sizes = sizes;
           ranges = ranges.items;
+          mirrors = mirrors.items;
           volatile = volatile.items;
           cells = tabulate (λ _. fill_of known) (2 ^ 64);
         } }
@@ -73,9 +78,37 @@ impl PartialMemory {
             kind,
             sizes: sizes.table(),
             ranges,
+            mirrors,
             volatile,
             pages: Pages::new(alloc, known),
         }
+    }
+
+    /// Whether it is seen at several places.
+    pub fn is_mirrored(&self) -> bool
+        ensures { result ≡ false → self.now.mirrors ≡ [] }
+    {
+        !self.mirrors.is_empty()
+    }
+
+    /// Where the bytes of a request's window stand.
+    pub fn start(&self, ask: &Ask) -> u64
+        ensures value { result ≡ start_of self.now ask.now }
+        ensures in_space { permits self.now ask.now ≡ true → result + 2 ^ ask.now.size ≤ 2 ^ 64 }
+    {
+        let _within = self.ranges.as_slice();
+        self.find_start(ask)
+    }
+
+    /// Where the bytes of a request's window stand.
+    fn find_start(&self, ask: &Ask) -> u64
+        ensures { result ≡ start_of self.now ask.now }
+    {
+        if self.mirrors.is_empty() {
+            return ask.address();
+        }
+        let first = first_of(self.ranges.as_slice());
+        start_in(first, &self.mirrors, ask.address(), ask.width() as u64)
     }
 
     /// Whether a request is legal here.
@@ -86,7 +119,7 @@ impl PartialMemory {
         let aligned = ask.address() % width == 0;
         self.sizes.allows(ask.op(), ask.size())
             && aligned
-            && holds(self.ranges.as_slice(), ask.address(), width)
+            && holds(self.ranges.as_slice(), self.start(ask), width)
     }
 
     /// Whether a request is legal here and carries bytes.
@@ -137,6 +170,9 @@ impl PartialMemory {
             self.answer_legal(ask, answer);
             return Ok(());
         }
+        if self.is_mirrored() {
+            return self.serve_placed(alloc, ask, 0, &[], answer);
+        }
         let at = self
             .pages
             .page_for(alloc, ask.address() / PAGE_BYTES as u64)?;
@@ -146,16 +182,18 @@ impl PartialMemory {
         Ok(())
     }
 
-    /// Serves a request as `serve_into` does, and then forgets each byte that is flagged of the block that holds the first
-    /// byte of the request. A request that is illegal, or carries no bytes, forgets nothing.
+    /// Serves a request as `serve_into` does, and then forgets each byte that is flagged, from an address on. A request
+    /// that is illegal, or carries no bytes, forgets nothing.
     pub fn serve_and_forget(
         &mut self,
         alloc: Global,
         ask: &Ask,
-        flags: &[bool; MAX_BYTES],
+        first: u64,
+        flags: &[bool],
         answer: &mut Pattern,
     ) -> Result<(), AllocError>
-        ensures after { IfOk result (λ _. self.new ≡ after_forgetting self.old ask.now flags.now) }
+        requires { first + length flags.now ≤ 2 ^ 64 }
+        ensures after { IfOk result (λ _. self.new ≡ after_forgetting self.old ask.now first flags.now) }
         ensures pattern { IfOk result (λ _. answer.new ≡ pattern self.old ask.now) }
         ensures takes { OnErr result (takes_bytes self.old ask.now ≡ true) }
         ensures unchanged { OnErr result (self.new ≡ self.old) }
@@ -165,15 +203,59 @@ impl PartialMemory {
             self.answer(ask, answer);
             return Ok(());
         }
+        if self.is_mirrored() || !is_in_page(ask.address(), first, flags) {
+            return self.serve_placed(alloc, ask, first, flags, answer);
+        }
         let at = self
             .pages
             .page_for(alloc, ask.address() / PAGE_BYTES as u64)?;
         answer.head(ask, Some(false));
         let cells = &mut answer.cells;
         serve_in_page(&mut self.pages, at, self.kind, &self.volatile, ask, cells);
-        let block = ask.address() - ask.address() % MAX_BYTES as u64;
-        self.pages.forget(at, block, flags);
+        self.pages.forget(at, first, flags);
         Ok(())
+    }
+
+    /// Serves a legal request that carries bytes, wherever its window stands, and forgets as `serve_and_forget` does.
+    // apart, so that a memory in one place goes by short code
+    #[inline(never)]
+    fn serve_placed(
+        &mut self,
+        alloc: Global,
+        ask: &Ask,
+        first: u64,
+        flags: &[bool],
+        answer: &mut Pattern,
+    ) -> Result<(), AllocError>
+        requires takes { takes_bytes self.old ask.now ≡ true }
+        requires in_space { first + length flags.now ≤ 2 ^ 64 }
+        ensures after { IfOk result (λ _. self.new ≡ after_forgetting self.old ask.now first flags.now) }
+        ensures pattern { IfOk result (λ _. answer.new ≡ pattern self.old ask.now) }
+        ensures unchanged { OnErr result (self.new ≡ self.old) }
+        ensures answer_unchanged { OnErr result (answer.new ≡ answer.old) }
+    {
+        let _lawful = ask.bytes();
+        let start = self.start(ask);
+        hold(&mut self.pages, alloc, start, ask.width())?;
+        hold_flagged(&mut self.pages, alloc, first, flags)?;
+        let mut cells = Cells::new();
+        self.look(start, ask.width(), &mut cells);
+        let new = serve_apart(alloc, self.kind, ask, &mut cells)?;
+        answer.head(ask, Some(false));
+        answer.cells = cells;
+        write_bytes(&mut self.pages, start, &new);
+        forget_bytes(&mut self.pages, first, flags);
+        Ok(())
+    }
+
+    /// What is seen of so many bytes from an address on.
+    fn look(&self, start: u64, width: usize, cells: &mut Cells)
+        requires limit { width ≤ MAX_BYTES }
+        requires in_space { start + width ≤ 2 ^ 64 }
+        ensures { cells.new ≡ take width (drop start (visible self.now)) }
+    {
+        read_bytes(&self.pages, start, width, cells);
+        hide(&self.volatile, start, cells);
     }
 
     /// What the answer to a request that is not served has to fit.
@@ -193,12 +275,14 @@ impl PartialMemory {
         ensures { answer.new ≡ pattern self.now ask.now }
     {
         answer.head(ask, Some(false));
-        if ask.op().reply_op().carries_bytes() {
+        if !ask.op().reply_op().carries_bytes() {
+            answer.cells.clear();
+        } else if self.is_mirrored() {
+            self.look(self.start(ask), ask.width(), &mut answer.cells);
+        } else {
             self.pages
                 .read(ask.address(), ask.width(), &mut answer.cells);
             hide(&self.volatile, ask.address(), &mut answer.cells);
-        } else {
-            answer.cells.clear();
         }
     }
 
@@ -237,6 +321,15 @@ impl PartialMemory {
     pub fn pages(&self) -> usize {
         self.pages.len()
     }
+}
+
+/// Whether the flags of bytes from one on are all of the page of an address.
+fn is_in_page(address: u64, first: u64, flags: &[bool]) -> bool
+    ensures page { IsTrue result → first / PAGE_BYTES ≡ address / PAGE_BYTES }
+    ensures inside { IsTrue result → first % PAGE_BYTES + length flags.now ≤ PAGE_BYTES }
+{
+    let page = PAGE_BYTES as u64;
+    first / page == address / page && flags.len() <= PAGE_BYTES - (first % page) as usize
 }
 
 /// What the answer to an illegal request has to fit.

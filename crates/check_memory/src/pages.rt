@@ -1,11 +1,11 @@
 //! The pages of a memory, which are made as they are written.
-ghost use Rattle.std.specs.Prelude.{◌≡◌, ℕ, ◌+◌, ◌*◌, ◌/◌, ◌%◌, ◌^◌, ◌<◌, ◌≤◌, [], length, take, drop, true, IfOk, IfSome, None};
+ghost use Rattle.std.specs.Prelude.{◌≡◌, ℕ, ◌+◌, ◌*◌, ◌/◌, ◌%◌, ◌^◌, ◌<◌, ◌≤◌, [], ◌∷◌, length, slice_index_or, take, drop, true, IfOk, IfSome, None};
 ghost use Rattle.tl_types.specs.Operation.{carries_bytes, reply_op_of};
 ghost use Rattle.tl_ops.specs.Cell.{FitsWords};
 ghost use Rattle.check_memory.specs.Known.{known, replaced};
 ghost use Rattle.check_memory.specs.Cells.{new_cells, forgotten};
 ghost use Rattle.check_memory.specs.Pattern.{shown_cells};
-ghost use Rattle.check_memory.specs.Paged.{paged_cells, IsAt};
+ghost use Rattle.check_memory.specs.Paged.{paged_cells, IsAt, HasPage, KeepsPages};
 
 use crate::sheet::PAGE_BYTES;
 use crate::slots::Slots;
@@ -74,6 +74,7 @@ impl Pages {
     /// The place of a page, which is made if there is none.
     pub fn page_for(&mut self, alloc: Global, number: u64) -> Result<usize, AllocError>
         ensures same { paged_cells self.new ≡ paged_cells self.old }
+        ensures kept { KeepsPages self.old.slots self.new.slots }
         ensures at { IfOk result (λ at. IsAt self.new.slots number at) }
     {
         if let Some(at) = self.find(number) {
@@ -87,6 +88,7 @@ impl Pages {
     fn add_page(&mut self, alloc: Global, number: u64) -> Result<usize, AllocError>
         requires { (at : ℕ) → IsAt self.old.slots number at → ⊥ }
         ensures same { paged_cells self.new ≡ paged_cells self.old }
+        ensures kept { KeepsPages self.old.slots self.new.slots }
         ensures at { IfOk result (λ at. IsAt self.new.slots number at) }
     {
         let at = self.slots.len();
@@ -147,6 +149,7 @@ impl Pages {
         requires at { IsAt self.old.slots (address / PAGE_BYTES) at }
         requires inside { address % PAGE_BYTES + length flags.now ≤ PAGE_BYTES }
         ensures after { paged_cells self.new ≡ forgotten flags.now address (paged_cells self.old) }
+        ensures kept { KeepsPages self.old.slots self.new.slots }
         ensures at { IsAt self.new.slots (address / PAGE_BYTES) at }
     {
         let start = (address % PAGE_BYTES as u64) as usize;
@@ -157,9 +160,34 @@ impl Pages {
     pub fn load(&mut self, at: usize, address: u64, bytes: &[u8])
         requires at { IsAt self.old.slots (address / PAGE_BYTES) at }
         requires inside { address % PAGE_BYTES + length bytes.now ≤ PAGE_BYTES }
-        ensures { paged_cells self.new ≡ replaced (paged_cells self.old) address (known bytes.now) }
+        ensures after { paged_cells self.new ≡ replaced (paged_cells self.old) address (known bytes.now) }
+        ensures kept { KeepsPages self.old.slots self.new.slots }
     {
         let start = (address % PAGE_BYTES as u64) as usize;
         self.slots.load(at, start, bytes);
+    }
+
+    /// The byte at an address.
+    pub fn byte(&self, address: u64) -> Option<u8>
+        ensures { result ≡ slice_index_or (paged_cells self.now) address None }
+    {
+        let mut cell = Cells::new();
+        self.read(address, 1, &mut cell);
+        cell.get(0)
+    }
+
+    /// Puts a byte, known or unknown, in a page that is there.
+    pub fn put(&mut self, address: u64, byte: Option<u8>)
+        requires { HasPage self.old.slots (address / PAGE_BYTES) }
+        ensures after { paged_cells self.new ≡ replaced (paged_cells self.old) address (byte ∷ []) }
+        ensures kept { KeepsPages self.old.slots self.new.slots }
+    {
+        let Some(at) = self.find(address / PAGE_BYTES as u64) else {
+            unreachable!();
+        };
+        match byte {
+            Some(byte) => self.load(at, address, &[byte]),
+            None => self.forget(at, address, &[true]),
+        }
     }
 }

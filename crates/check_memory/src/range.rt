@@ -1,6 +1,6 @@
 //! Where a port answers.
-ghost use Rattle.std.specs.Prelude.{◌≡◌, ◌↔◌, ◌≤◌, ◌+◌, ◌^◌, ◌&&◌, IsTrue, All, nat_le};
-ghost use Rattle.check_memory.specs.Partial.{AreWithin, holds};
+ghost use Rattle.std.specs.Prelude.{◌≡◌, ◌↔◌, ◌<◌, ◌≤◌, ◌+◌, ◌^◌, ◌&&◌, IsTrue, All, nat_le};
+ghost use Rattle.check_memory.specs.Partial.{AreWithin, first_of, holds, start_in};
 
 use tl_map::Range;
 
@@ -29,6 +29,34 @@ pub fn holds(ranges: &[Range], address: u64, width: u64) -> bool
         }
     }
     false
+}
+
+/// The first of the ranges.
+pub fn first_of(ranges: &[Range]) -> Range
+    ensures { result ≡ first_of ranges.now }
+{
+    if ranges.is_empty() {
+        return Range { base: 0, length: 0 };
+    }
+    ranges[0]
+}
+
+/// Where so many bytes from an address on stand, of a range that is also seen from other addresses on.
+pub fn start_in(range: Range, mirrors: &[u64], address: u64, width: u64) -> u64
+    requires some { 0 < width }
+    requires within { range.base + range.length ≤ 2 ^ 64 }
+    ensures { result ≡ start_in range mirrors.now address width }
+{
+    for base in mirrors {
+        let mirror = Range {
+            base: *base,
+            length: range.length,
+        };
+        if range_holds(&mirror, address, width) {
+            return range.base + (address - *base);
+        }
+    }
+    address
 }
 
 /// Whether all of these ranges end at or below the end of the address space.

@@ -1,11 +1,11 @@
 //! What stands at a port.
-ghost use Rattle.std.specs.Prelude.{◌≡◌, true, IfOk, OnErr};
+ghost use Rattle.std.specs.Prelude.{◌≡◌, ◌+◌, ◌^◌, ◌≤◌, length, true, IfOk, OnErr};
 ghost use Rattle.check_memory.specs.Slave.{slave_after, slave_after_forgetting, slave_takes_bytes, expected_of};
 
 use crate::memory::PartialMemory;
 use check_cells::Pattern;
 use std::alloc::{AllocError, Global};
-use tl_types::{Ask, MAX_BYTES};
+use tl_types::Ask;
 
 /// A slave, as the judge keeps it.
 #[derive(Drop)]
@@ -40,23 +40,25 @@ impl Slave {
         }
     }
 
-    /// Serves a request as `serve_into` does, and then forgets each byte that is flagged of the block that holds the first
-    /// byte of the request. A request that is illegal, or carries no bytes, forgets nothing.
+    /// Serves a request as `serve_into` does, and then forgets each byte that is flagged, from an address on. A request
+    /// that is illegal, or carries no bytes, forgets nothing.
     pub fn serve_and_forget(
         &mut self,
         alloc: Global,
         ask: &Ask,
-        flags: &[bool; MAX_BYTES],
+        first: u64,
+        flags: &[bool],
         answer: &mut Pattern,
     ) -> Result<(), AllocError>
-        ensures after { IfOk result (λ _. self.new ≡ slave_after_forgetting self.old ask.now flags.now) }
+        requires { first + length flags.now ≤ 2 ^ 64 }
+        ensures after { IfOk result (λ _. self.new ≡ slave_after_forgetting self.old ask.now first flags.now) }
         ensures expected { IfOk result (λ _. answer.new ≡ expected_of self.old ask.now) }
         ensures takes { OnErr result (slave_takes_bytes self.old ask.now ≡ true) }
         ensures unchanged { OnErr result (self.new ≡ self.old) }
         ensures answer_unchanged { OnErr result (answer.new ≡ answer.old) }
     {
         match self {
-            Slave::Memory(memory) => memory.serve_and_forget(alloc, ask, flags, answer),
+            Slave::Memory(memory) => memory.serve_and_forget(alloc, ask, first, flags, answer),
             Slave::Device => {
                 answer.expect_any(ask);
                 Ok(())

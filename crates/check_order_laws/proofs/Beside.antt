@@ -11,7 +11,7 @@ use Rattle.tl_types.specs.Request.{Request}
 use Rattle.tl_types.specs.declared.operation.ReplyOp.{ReplyOp}
 use Rattle.tl_types.specs.declared.operation.ReplyOp.TheVariants.{AccessAck, AccessAckData, HintAck}
 use Rattle.check_memory.specs.Known.{known}
-use Rattle.check_memory.specs.Partial.{Partial, permits, visible, window_of, after_partial}
+use Rattle.check_memory.specs.Partial.{Partial, start_of, permits, visible, window_of, after_partial}
 use Rattle.check_memory.specs.Pattern.{shown_cells}
 use Rattle.check_memory.specs.Slave.{slave_after, expected_of}
 use Rattle.check_memory.specs.declared.slave.Slave.{Slave}
@@ -73,7 +73,7 @@ expected_short (Memory memory) ask =
   where
     go : (legal : Bool)
         → length (if legal then window_of memory ask else known (replicate (2 ^ ask.size) 0)) ≤ 2 ^ ask.size
-    go true = omega (arith, length-take (2 ^ ask.size) (drop ask.address (visible memory)))
+    go true = omega (arith, length-take (2 ^ ask.size) (drop (start_of memory ask) (visible memory)))
     go false = omega (
       arith,
       length-map (replicate (2 ^ ask.size) 0) (λ (byte : ℕ). Some byte),

@@ -79,12 +79,12 @@ Reads from [] to = from ≡ to
 Reads from (row ∷ rows) to = (behind : TextPlace) × GivesRecord from row behind × Reads behind rows to
 
 -- where a text begins: on line 1, after a byte order mark
-abbrev pub start_of : List ℕ → TextPlace
-start_of text = record { line = 1; text = strip_bom text }
+abbrev pub text_start : List ℕ → TextPlace
+text_start text = record { line = 1; text = strip_bom text }
 
 -- these are all the records of a text
 pub record AreRows (text : List ℕ) (rows : List RecordRow) : Type 0 where
   pub last : TextPlace
   pub end : TextPlace
-  pub reads : Reads (start_of text) rows last
+  pub reads : Reads (text_start text) rows last
   pub ends : Ends last end

@@ -14,7 +14,7 @@ use Rattle.check_review.specs.declared.stop.Refusal.TheVariants as refusal
 use Rattle.check_review.specs.declared.tally.Tally.{Tally}
 use Rattle.check_review.proofs.Judging.{part_before, part_of_file, told_earlier}
 use Rattle.check_records.specs.Source.{Between, TextLeft}
-use Rattle.check_records.specs.Text.{Ends, TextPlace, start_of}
+use Rattle.check_records.specs.Text.{Ends, TextPlace, text_start}
 use Rattle.tl_streams.specs.Streams.{AppendsPart}
 use Rattle.check_sides.specs.Plan.{Plan}
 use Rattle.check_unanswered.specs.declared.request.Left.{Left as LeftOver}
@@ -335,12 +335,12 @@ covered_judged plan buses a b old mid new text answer result first tally start h
 -- is said of the start of what a reader gives
 pub told : (known : Option (List ℕ)) (a : TextLeft) (Q : TextPlace → Type 0) → Keeps (option_map strip_bom known) a.text
     → a.line ≡ 1
-    → IfSome a.text (λ text. Q (record { line = a.line; text = text })) → IfSome known (λ text. Q (start_of text))
+    → IfSome a.text (λ text. Q (record { line = a.line; text = text })) → IfSome known (λ text. Q (text_start text))
 told known a Q keeps line_is holds = go known a.text keeps holds
   where
     go : (known from : Option (List ℕ)) → Keeps (option_map strip_bom known) from
         → IfSome from (λ text. Q (record { line = a.line; text = text }))
-        → IfSome known (λ text. Q (start_of text))
+        → IfSome known (λ text. Q (text_start text))
     go None from keeps holds = tt
     go (Some text) None keeps holds = absurd keeps
     go (Some text) (Some from) keeps holds = rw (← line_is, ← keeps) holds
@@ -348,40 +348,40 @@ told known a Q keeps line_is holds = go known a.text keeps holds
 -- and so each clause
 module _ (asked trace : Bool) (plan : Plan) (buses : LinkBuses) (old new : Option (List ℕ)) (known : Option (List ℕ)) where
   pub says_verdict : (answer : Result Verdict CaptureFault)
-      → IfSome known (λ text. Says asked trace plan buses old new answer (start_of text))
-      → IfOk answer (λ v. IfSome known (λ text. IsVerdict asked plan buses (start_of text) v))
+      → IfSome known (λ text. Says asked trace plan buses old new answer (text_start text))
+      → IfOk answer (λ v. IfSome known (λ text. IsVerdict asked plan buses (text_start text) v))
   says_verdict (Ok v) says = go known says
     where
-      go : (known : Option (List ℕ)) → IfSome known (λ text. Says asked trace plan buses old new (Ok v) (start_of text))
-          → IfSome known (λ text. IsVerdict asked plan buses (start_of text) v)
+      go : (known : Option (List ℕ)) → IfSome known (λ text. Says asked trace plan buses old new (Ok v) (text_start text))
+          → IfSome known (λ text. IsVerdict asked plan buses (text_start text) v)
       go None says = tt
       go (Some text) says = says.verdict
   says_verdict (Err why) says = tt
 
   pub says_fault : (answer : Result Verdict CaptureFault)
-      → IfSome known (λ text. Says asked trace plan buses old new answer (start_of text))
-      → IfErr answer (λ why. IfSome known (λ text. IsFault plan buses (start_of text) why))
+      → IfSome known (λ text. Says asked trace plan buses old new answer (text_start text))
+      → IfErr answer (λ why. IfSome known (λ text. IsFault plan buses (text_start text) why))
   says_fault (Ok v) says = tt
   says_fault (Err why) says = go known says
     where
-      go : (known : Option (List ℕ)) → IfSome known (λ text. Says asked trace plan buses old new (Err why) (start_of text))
-          → IfSome known (λ text. IsFault plan buses (start_of text) why)
+      go : (known : Option (List ℕ)) → IfSome known (λ text. Says asked trace plan buses old new (Err why) (text_start text))
+          → IfSome known (λ text. IsFault plan buses (text_start text) why)
       go None says = tt
       go (Some text) says = says.fault
 
   pub says_written : (answer : Result Verdict CaptureFault)
-      → IfSome known (λ text. Says asked trace plan buses old new answer (start_of text))
-      → IfSome known (λ text. IsWritten asked trace plan buses (start_of text) old new answer)
+      → IfSome known (λ text. Says asked trace plan buses old new answer (text_start text))
+      → IfSome known (λ text. IsWritten asked trace plan buses (text_start text) old new answer)
   says_written answer says = go known says
     where
-      go : (known : Option (List ℕ)) → IfSome known (λ text. Says asked trace plan buses old new answer (start_of text))
-          → IfSome known (λ text. IsWritten asked trace plan buses (start_of text) old new answer)
+      go : (known : Option (List ℕ)) → IfSome known (λ text. Says asked trace plan buses old new answer (text_start text))
+          → IfSome known (λ text. IsWritten asked trace plan buses (text_start text) old new answer)
       go None says = tt
       go (Some text) says = says.written
 
 pub says_covered : (plan : Plan) (buses : LinkBuses) (tally : Tally) (known : Option (List ℕ))
-    (answer : Result Verdict CaptureFault) → IfSome known (λ text. IfOk answer (IsCovered plan buses (start_of text) tally))
-    → IfOk answer (λ v. IfSome known (λ text. IsCovered plan buses (start_of text) tally v))
+    (answer : Result Verdict CaptureFault) → IfSome known (λ text. IfOk answer (IsCovered plan buses (text_start text) tally))
+    → IfOk answer (λ v. IfSome known (λ text. IsCovered plan buses (text_start text) tally v))
 says_covered plan buses tally known (Err why) says = tt
 says_covered plan buses tally None (Ok v) says = tt
 says_covered plan buses tally (Some text) (Ok v) says = says

@@ -3,7 +3,7 @@ use Rattle.std.proofs.Common.{◌≡◌, ℕ, Bool, inl, List, Option, Some, Non
 use Rattle.std.specs.Result.{IsErrAnd}
 use Rattle.std.proofs.KnownBytes.{Appends-nil}
 use Rattle.check_records.specs.Source.{TextLeft}
-use Rattle.check_records.specs.Text.{IsTooLong, TextPlace, start_of}
+use Rattle.check_records.specs.Text.{IsTooLong, TextPlace, text_start}
 use Rattle.check_records.specs.declared.fault.RecordFault.{RecordFault}
 use Rattle.check_records.specs.declared.fault.RecordFault.TheVariants as record_fault
 use Rattle.check_sides.specs.Plan.{Plan}
@@ -62,15 +62,15 @@ module _ (asked trace : Bool) (plan : Plan) (buses : LinkBuses) (old : Option (L
 
   -- and so of the answer
   pub says_stopped : (known : Option (List ℕ)) (result : Result Verdict CaptureFault) (why : CaptureFault)
-      → IsErrAnd result (λ e. e ≡ why) → IfSome known (λ text. SaysOf why (start_of text))
-      → IfSome known (λ text. Says asked trace plan buses old old result (start_of text))
+      → IsErrAnd result (λ e. e ≡ why) → IfSome known (λ text. SaysOf why (text_start text))
+      → IfSome known (λ text. Says asked trace plan buses old old result (text_start text))
   says_stopped known (Ok v) why is says = absurd is
   says_stopped known (Err e) why is says =
-      subst (λ (w : CaptureFault). IfSome known (λ text. SaysOf w (start_of text))) (sym is) says
+      subst (λ (w : CaptureFault). IfSome known (λ text. SaysOf w (text_start text))) (sym is) says
 
   pub says_not_made : (known : Option (List ℕ)) (result : Result Verdict CaptureFault) (why : RecordFault)
       → IsErrAnd result (λ e. e ≡ of_record why) → ((line : ℕ) → why ≡ record_fault.TooLong line → ⊥)
-      → IfSome known (λ text. Says asked trace plan buses old old result (start_of text))
+      → IfSome known (λ text. Says asked trace plan buses old old result (text_start text))
   says_not_made known result why is none =
       says_stopped known result (of_record why) is
-      (if_known known (λ text. SaysOf (of_record why) (start_of text)) (λ text. not_made why (start_of text) none))
+      (if_known known (λ text. SaysOf (of_record why) (text_start text)) (λ text. not_made why (text_start text) none))

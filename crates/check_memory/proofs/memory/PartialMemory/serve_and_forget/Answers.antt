@@ -1,17 +1,17 @@
-use Rattle.std.proofs.Common.{◌≡◌, ◌∙◌, ◌-◌, ◌%◌, ◌^◌, ◌≤◌, List, true, refl, sym, subst, ap, rules}
+use Rattle.std.proofs.Common.{◌≡◌, ◌∙◌, ◌+◌, ◌^◌, ◌≤◌, List, true, sym, subst, ap, rules}
 use Rattle.tl_types.specs.Operation.{reply_op_of}
 use Rattle.tl_map.specs.declared.range.Range.{Range}
 use Rattle.tl_ops.specs.Support.{allows}
-use Rattle.check_memory.specs.Partial.{Partial, takes_bytes, block_of, after_partial, AreWithin}
+use Rattle.check_memory.specs.Partial.{Partial, takes_bytes, after_partial, AreWithin}
 use Rattle.check_memory.specs.Pattern.{Pattern, shown_cells}
 use Rattle.check_memory.specs.Paged.{paged_cells}
 use Rattle.check_memory.proofs.Legal.{allowed, small_size, aligned, fits_words, in_page, on_err, takes_legal, takes_count, forgets_nothing}
-use Rattle.check_memory.proofs.SeenWindows.{answered_legal, forgot_is, in_space, served_is, window_is}
+use Rattle.check_memory.proofs.SeenWindows.{answered_legal, forgot_is, in_space, served_is, unmoved, window_is}
 use Rattle.check_memory.proofs.memory.PartialMemory.serve_and_forget.Goals as goal
 
 pub returns-then-not-takes_bytes-clause-after : goal.returns-then-not-takes_bytes-clause-after
 returns-then-not-takes_bytes-clause-after c =
-    forgets_nothing c.args.self.now c.args.ask.now c.args.flags.now
+    forgets_nothing c.args.self.now c.args.ask.now c.args.first c.args.flags.now
     (sym c.takes_bytes.ensures.value ∙ search rules)
 
 pub returns-in_err-at-clause-takes : goal.returns-in_err-at-clause-takes
@@ -49,10 +49,12 @@ serve_in_page-requires-clause-inside c =
 pub serve_in_page-requires-clause-in_space : goal.serve_in_page-requires-clause-in_space
 serve_in_page-requires-clause-in_space c =
     let takes : takes_bytes c.args.self.now c.args.ask.now ≡ true = sym c.takes_bytes.ensures.value ∙ search rules in
-    in_space c.args.self.now c.args.ask.now
+    subst (λ n. n + 2 ^ c.args.ask.now.size ≤ 2 ^ 64)
+    (sym (unmoved c.args.self.now c.args.ask.now (c.is_mirrored.ensures c.if-is_mirrored.false)))
+    (in_space c.args.self.now c.args.ask.now
     (subst (λ (ranges : List Range). AreWithin ranges (2 ^ 64)) (ap (λ (m : Partial). m.ranges) c.self.view_is)
     c.self.invariant.0)
-    (takes_legal c.args.self.now c.args.ask.now takes)
+    (takes_legal c.args.self.now c.args.ask.now takes))
 
 pub returns-clause-after : goal.returns-clause-after
 returns-clause-after c =
@@ -63,15 +65,13 @@ returns-clause-after c =
     let left = paged_cells c.forget.new.self in
     let served : record memory { cells = now } ≡ after_partial memory ask =
     served_is memory ask c.self.inside.kind c.deref.result.now (paged_cells c.page_for.new.self) now takes
+    (c.is_mirrored.ensures c.if-is_mirrored.false)
     (ap (λ (m : Partial). m.kind) c.self.view_is)
     (c.deref.ensures.value ∙ ap (λ (m : Partial). m.volatile) c.self.view_is)
     (c.in_ok-at.ensures.same ∙ ap (λ (m : Partial). m.cells) c.self.view_is)
     c.serve_in_page.ensures.after in
-    let block : c.address-2.result - c.address-3.result % 256 ≡ block_of ask.address =
-    rw (c.address-2.ensures, c.address-3.ensures) refl in
     ap (λ (m : Partial). record m { cells = left }) c.self.view_is
-    ∙ forgot_is memory ask c.args.flags.now (c.address-2.result - c.address-3.result % 256) now left takes served block
-    c.forget.ensures.after
+    ∙ forgot_is memory ask c.args.flags.now c.args.first now left takes served c.forget.ensures.after
 
 pub returns-clause-pattern : goal.returns-clause-pattern
 returns-clause-pattern c =
@@ -83,5 +83,6 @@ returns-clause-pattern c =
     (c.serve_in_page.ensures.shown
     ∙ ap (shown_cells (reply_op_of ask.op))
     (window_is memory ask c.deref.result.now (paged_cells c.page_for.new.self)
+    (c.is_mirrored.ensures c.if-is_mirrored.false)
     (c.deref.ensures.value ∙ ap (λ (m : Partial). m.volatile) c.self.view_is)
     (c.in_ok-at.ensures.same ∙ ap (λ (m : Partial). m.cells) c.self.view_is)))

@@ -1,4 +1,4 @@
-use Rattle.std.proofs.Common.{◌≡◌, ◌∙◌, ◌^◌, ◌≤◌, List, length, sym, subst, ap, rules}
+use Rattle.std.proofs.Common.{◌≡◌, ◌∙◌, ◌+◌, ◌^◌, ◌≤◌, List, length, sym, subst, ap, rules}
 use Rattle.tl_map.specs.declared.range.Range.{Range}
 use Rattle.tl_types.specs.Operation.{byte_count, reply_op_of}
 use Rattle.tl_ops.specs.Support.{allows}
@@ -6,7 +6,7 @@ use Rattle.check_memory.specs.Partial.{Partial, AreWithin}
 use Rattle.check_memory.specs.Pattern.{Pattern, shown_cells}
 use Rattle.check_memory.specs.Paged.{paged_cells}
 use Rattle.check_memory.proofs.Legal.{allowed, small_size, aligned, fits_words, in_page, on_err, takes_some, unchanged}
-use Rattle.check_memory.proofs.SeenWindows.{answered_legal, in_space, served_is, window_is}
+use Rattle.check_memory.proofs.SeenWindows.{answered_legal, in_space, served_is, unmoved, window_is}
 use Rattle.check_memory.proofs.memory.PartialMemory.serve_legal.Goals as goal
 
 pub returns-then-is_empty-clause-after : goal.returns-then-is_empty-clause-after
@@ -44,10 +44,12 @@ serve_in_page-requires-clause-inside c =
 
 pub serve_in_page-requires-clause-in_space : goal.serve_in_page-requires-clause-in_space
 serve_in_page-requires-clause-in_space c =
-    in_space c.args.self.now c.args.ask.now
+    subst (λ n. n + 2 ^ c.args.ask.now.size ≤ 2 ^ 64)
+    (sym (unmoved c.args.self.now c.args.ask.now (c.is_mirrored.ensures c.if-is_mirrored.false)))
+    (in_space c.args.self.now c.args.ask.now
     (subst (λ (ranges : List Range). AreWithin ranges (2 ^ 64)) (ap (λ (m : Partial). m.ranges) c.self.view_is)
     c.self.invariant.0)
-    c.requires
+    c.requires)
 
 pub returns-clause-after : goal.returns-clause-after
 returns-clause-after c =
@@ -59,6 +61,7 @@ returns-clause-after c =
     let left = paged_cells c.serve_in_page.new.pages in
     ap (λ (m : Partial). record m { cells = left }) c.self.view_is
     ∙ served_is memory ask c.self.inside.kind c.deref.result.now (paged_cells c.page_for.new.self) left takes
+    (c.is_mirrored.ensures c.if-is_mirrored.false)
     (ap (λ (m : Partial). m.kind) c.self.view_is)
     (c.deref.ensures.value ∙ ap (λ (m : Partial). m.volatile) c.self.view_is)
     (c.in_ok-at.ensures.same ∙ ap (λ (m : Partial). m.cells) c.self.view_is)
@@ -73,5 +76,12 @@ returns-clause-pattern c =
     (c.serve_in_page.ensures.shown
     ∙ ap (shown_cells (reply_op_of ask.op))
     (window_is memory ask c.deref.result.now (paged_cells c.page_for.new.self)
+    (c.is_mirrored.ensures c.if-is_mirrored.false)
     (c.deref.ensures.value ∙ ap (λ (m : Partial). m.volatile) c.self.view_is)
     (c.in_ok-at.ensures.same ∙ ap (λ (m : Partial). m.cells) c.self.view_is)))
+
+pub serve_placed-requires-clause-takes : goal.serve_placed-requires-clause-takes
+serve_placed-requires-clause-takes c =
+    let some : length c.bytes.result.now ≡ 0 → ⊥ = search rules in
+    takes_some c.args.self.now c.args.ask.now c.requires
+    (λ none. some (ap length c.bytes.ensures.value ∙ c.bytes.ensures.lawful.counted ∙ none))

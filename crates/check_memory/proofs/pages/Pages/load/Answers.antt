@@ -30,8 +30,8 @@ invariant_of-self c =
     c.self.invariant here.0 refl
     (length-replaced slot.page cells start (omega (arith, whole, long, c.requires.inside)) ∙ whole))
 
-pub returns : goal.returns
-returns c =
+pub returns-clause-after : goal.returns-clause-after
+returns-clause-after c =
     let slots = c.self.inside.slots.slots in
     let slot = get_or slots c.args.at blank_slot in
     let start = c.args.address % 256 in
