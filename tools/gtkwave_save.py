@@ -96,12 +96,19 @@ def markers_of(explanation):
     return [*request, *[-1] * (HALF - len(request)), *writers, *[-1] * (MARKERS - HALF - len(writers))]
 
 
+def lines_of(of_link, table):
+    """The names of a link's clock and reset: its own clock has no reset but its own."""
+    if "clock" in of_link:
+        return of_link["clock"], of_link.get("link_reset")
+    return table.get("clock"), of_link.get("link_reset", table.get("reset"))
+
+
 def save_of(dump, table, links, explanation):
     """The text of the save file: the table is the system file's, and the links are the fault's, as p0, and that of the other side, if it lies
     between both."""
     of_links = [table["master" if link[0] == "m" else "port"][int(link[1:])] for link in links]
     variables = variables_of(dump)
-    names = [name for name in (table.get("clock"), table.get("reset")) if name]
+    names = [name for name in dict.fromkeys(line for of_link in of_links for line in lines_of(of_link, table)) if name]
     names += [name for of_link in of_links for name in signals_of(of_link, table, variables)]
     times = " ".join(str(time) for time in markers_of(explanation))
     lines = ["[*] tools/explain", f'[dumpfile] "{os.path.abspath(dump)}"', f"[timestart] {max(0, first_of(explanation) - 1)}",

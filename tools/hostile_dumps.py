@@ -19,7 +19,7 @@ FAULT = re.compile(
     r"tlvcd: (line \d+: (not a dump|no such identifier|bad value|value wider than its signal|time falls|cut in its header|the dump has a gap)"
     r"|((port|master) \d+: )?(no signal [^\n]+|two signals are called [^\n]+|[^\n]+ has \d+ bits, \d+ wanted)"
     r"|time (?P<time>\d+), [mp]\d+ [AD]: [ad]_[a-z]+ is unknown"
-    r"|the clock never rises|the reset is active at every (edge|beat)( \(reset_active = \"low\"\?\))?)\n")
+    r"|[^\n]+ never (rises|falls)|([^\n]+ is active at every edge|the reset is active at every beat)( \(reset_active = \"low\"\?\))?)\n")
 PIECES = [b"", b"0", b"1", b"x", b"z", b"#", b"b", b"!", b" ", b"\n", b"$end", b"$dumpoff\n", b"$dumpon\n", b"\0", b"\xff"]
 
 

@@ -2,6 +2,7 @@
 use Rattle.std.specs.Prelude.{◌≡◌, ◌≢◌, ℕ, ◌+◌, ◌<◌, ◌≤◌, ◌&&◌, nat_le, if◌then◌else◌, List, [], ◌∷◌, ◌++◌, drop, length, slice_index, slice_range, Option, None, Some, option_map, Result, Ok, Err}
 use Rattle.check_rows.specs.Column.{column_parts}
 use Rattle.check_rows.specs.Row.{SeenRow, row_of}
+use Rattle.check_samples.specs.EdgeFault.{edge_fault_view}
 use Rattle.check_samples.specs.Left.{End, RowsLeft}
 use Rattle.check_samples.specs.Left.End.{BeforeBeat, BeforeLine, Whole, WithoutEdges}
 use Rattle.check_text.specs.Buses.{LinkBuses}
@@ -40,7 +41,7 @@ AreRowLines buses number (row ∷ rows) text =
 -- how the rows of a dump end
 abbrev pub end_of : RowsEnd → End
 end_of ends.Whole = Whole
-end_of (ends.WithoutEdges why) = WithoutEdges why
+end_of (ends.WithoutEdges why) = WithoutEdges (edge_fault_view why)
 end_of (ends.BeforeBeat unknown) = BeforeBeat unknown
 end_of (ends.BeforeLine line mistake) = BeforeLine line mistake
 

@@ -16,6 +16,7 @@ use Rattle.check_review.specs.declared.stop.Refusal.TheVariants as refusal
 use Rattle.check_review.specs.declared.stop.Stop.{Stop}
 use Rattle.check_review.specs.declared.stop.Stop.TheVariants as stop
 use Rattle.check_review.specs.declared.tally.Tally.{Tally}
+use Rattle.check_samples.specs.EdgeFault.{edge_fault_view}
 use Rattle.check_samples.specs.Left.{End, RowsLeft}
 use Rattle.check_samples.specs.Left.End.{BeforeBeat, BeforeLine, Whole, WithoutEdges}
 use Rattle.check_sides.specs.Plan.{Plan}
@@ -86,7 +87,7 @@ IsReplayAnswer asked plan buses (Ok (Incomplete over)) rows rest end =
 IsReplayAnswer asked plan buses (Ok (Unlawful found)) rows rest end =
     IsMomentOver buses rows rest end × IsFirstUnlawful plan rows found
 IsReplayAnswer asked plan buses (Err (fault.Edges why)) rows rest end =
-    (rest ≡ []) × (end ≡ WithoutEdges why) × IsLawfulFile plan rows
+    (rest ≡ []) × (end ≡ WithoutEdges (edge_fault_view why)) × IsLawfulFile plan rows
 IsReplayAnswer asked plan buses (Err (fault.Unknown unknown)) rows rest end =
     (rest ≡ []) × (end ≡ BeforeBeat unknown) × (EndsLater end rows → IsLawfulFile plan rows)
 IsReplayAnswer asked plan buses (Err (fault.Dump line mistake)) rows rest end =

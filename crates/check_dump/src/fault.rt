@@ -5,7 +5,7 @@ use check_samples::{EdgeFault, UnknownBit};
 use check_vcd::Mistake;
 
 /// Why there is no verdict over the rows of a dump.
-#[derive(Debug, Clone, Copy, PartialEq, Eq)]
+#[derive(Debug, Drop)]
 pub enum ReplayFault {
     /// All of the dump was read, and its edges are none to take beats at.
     Edges(EdgeFault),

@@ -5,7 +5,7 @@ use check_vcd::Mistake;
 use std::io::Read;
 
 /// How the rows of a dump end.
-#[derive(Debug, Clone, Copy, PartialEq, Eq)]
+#[derive(Debug, Drop)]
 pub enum RowsEnd {
     /// All of the dump was read.
     Whole,

@@ -57,11 +57,11 @@ impl<D: Read + Drop> DumpLines<D> {
         }
     }
 
-    /// How the rows end, after the last line was read.
-    pub fn ended(&self) -> Option<RowsEnd>
-        ensures { result ≡ self.now.ended }
+    /// Takes out how the rows end, after the last line was read.
+    pub fn take_end(&mut self) -> Option<RowsEnd>
+        ensures { result ≡ self.old.ended }
     {
-        self.ended
+        self.ended.take()
     }
 
     /// Whether a part of a line is left that has no end.

@@ -171,13 +171,13 @@ fn answer_of(halt: Halt) -> Result<Verdict, ReplayFault>
 }
 
 /// The beat that ends the rows, if it is of the time of the latest one.
-fn beat_now(end: RowsEnd, latest: Option<u64>) -> Option<UnknownBit>
-    ensures now { IfSome result (λ unknown. (end ≡ RowsEnd.BeforeBeat unknown)
-        × ((rows : List SeenRow) → IsLatest latest rows → EndsLater (end_of end) rows → ⊥)) }
-    ensures later { result ≡ None → (rows : List SeenRow) → IsLatest latest rows → EndsLater (end_of end) rows }
+fn beat_now(end: &RowsEnd, latest: Option<u64>) -> Option<UnknownBit>
+    ensures now { IfSome result (λ unknown. (end.now ≡ RowsEnd.BeforeBeat unknown)
+        × ((rows : List SeenRow) → IsLatest latest rows → EndsLater (end_of end.now) rows → ⊥)) }
+    ensures later { result ≡ None → (rows : List SeenRow) → IsLatest latest rows → EndsLater (end_of end.now) rows }
 {
     match (end, latest) {
-        (RowsEnd::BeforeBeat(unknown), Some(time)) if unknown.time <= time => Some(unknown),
+        (RowsEnd::BeforeBeat(unknown), Some(time)) if unknown.time <= time => Some(*unknown),
         _ => None,
     }
 }
@@ -216,7 +216,7 @@ fn end_lines(
     ensures covered { is_covered judge.new ≡ is_covered judge.old }
     ensures ended { EndsReplay judge.old judge.new.tally end latest told.old.items told.new.items result }
 {
-    if let Some(unknown) = beat_now(end, latest) {
+    if let Some(unknown) = beat_now(&end, latest) {
         return Err(ReplayFault::Unknown(unknown));
     }
     match judge.end(alloc, told) {
@@ -251,7 +251,7 @@ fn judge_lines<D: Read + Drop, W: Write>(
     if lines.is_cut() {
         return Err(ReplayFault::Row(place.number, RowFault::Cut));
     }
-    match lines.ended() {
+    match lines.take_end() {
         Some(end) => end_lines(alloc, judge, end, place.latest, told),
         None => Err(ReplayFault::Read),
     }

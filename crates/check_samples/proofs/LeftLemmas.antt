@@ -9,13 +9,12 @@ use Rattle.check_vcd.specs.declared.fault.DumpFault.{DumpFault}
 use Rattle.check_vcd.specs.declared.fault.DumpFault.TheVariants as dump
 use Rattle.check_vcd.specs.declared.fault.Mistake.{Mistake}
 use Rattle.check_vcd.specs.declared.fault.Mistake.TheVariants.{Gap}
-use Rattle.check_samples.specs.Edges.{edge_fault}
+use Rattle.check_samples.specs.EdgeFault.{EdgeFault, edge_fault, edge_fault_view, some_crossed}
 use Rattle.check_samples.specs.Faults.{of_dump, of_sample}
 use Rattle.check_samples.specs.Left.{IsOver, RowsGoOn, Stops, end_by, end_in, end_of_edges, left_of}
 use Rattle.check_samples.specs.Rows.{Writes}
-use Rattle.check_samples.specs.Sampling.{IsJoined, Joins, LeadsToRows, Sampling, behind, edges_now, rows_from, rows_now}
+use Rattle.check_samples.specs.Sampling.{IsJoined, Joins, LeadsToRows, Sampling, behind, rows_from, rows_now, watched_now}
 use Rattle.std.specs.Result.{IfErr, IfOk, IsErrAnd}
-use Rattle.check_samples.specs.declared.edges.EdgeFault.{EdgeFault}
 use Rattle.check_samples.specs.declared.rows.Progress.{Progress}
 use Rattle.check_samples.specs.declared.rows.Progress.TheVariants.{More, Over}
 use Rattle.check_samples.specs.declared.rows.RowsFault.{RowsFault}
@@ -25,7 +24,7 @@ use Rattle.check_samples.specs.declared.sampler.SampleFault.TheVariants as sampl
 
 -- ---- one thing more happens
 
-ends-resumed : (s : Sampling) (line : ℕ) (rest : List Happens) → s.edges.crossed ≡ false
+ends-resumed : (s : Sampling) (line : ℕ) (rest : List Happens) → some_crossed s.watched ≡ false
     → end_in (Resumes line ∷ rest) s ≡ end_in rest s
 unfolding end_in
 ends-resumed s line rest none = rw none refl
@@ -63,7 +62,7 @@ goes-on (Some x) (Some y) old new t t' done next digits both leads is joined =
 
 -- a beat of the time that is over is none, or there is a gap
 gap-on : (s : Sampling) (t t' : List ℕ) (line : ℕ) (digits : List ℕ) (rest : List Happens) → t' ≡ t
-    → s.edges.crossed ≡ true → Stops (rows.Dump line Gap) t t' (left_of (Resumes line ∷ rest) s)
+    → some_crossed s.watched ≡ true → Stops (rows.Dump line Gap) t t' (left_of (Resumes line ∷ rest) s)
 unfolding rows_from end_in
 gap-on s t t' line digits rest same crossed = rw (crossed, same) (sym (append-nil t), refl)
 
@@ -91,7 +90,7 @@ stops-taking (Some x) (Some y) s new t t' fault next digits both leads joins =
 
 -- what is said of the edges of a dump of which nothing is left to happen
 abbrev pub edges-of : Sampling → Option EdgeFault
-edges-of s = edge_fault s.probes.clock.edge s.probes.reset (edges_now s)
+edges-of s = edge_fault (watched_now s)
 
 end-is : (s : Sampling) (t t' : List ℕ) (done : Unit {0}) (why : Option EdgeFault) → Writes (Ok done) t t' (rows_now s)
     → edges-of s ≡ why → (left_of [] s).end ≡ end_of_edges why
@@ -105,18 +104,24 @@ unfolding rows_from
 text-is s t t' done writes = writes.0
 
 -- nothing is left to happen
-pub ends : (a b : Option (List Happens)) (s : Sampling) (t t' : List ℕ) (done : Unit {0})
+pub ends : (a b : Option (List Happens)) (s other : Sampling) (t t' : List ℕ) (done : Unit {0})
     (answer : Result Progress RowsFault) → Both a b (λ from to. (from ≡ []) × (to ≡ []))
     → Writes (Ok done) t t' (rows_now s) → IsOver answer (edges-of s)
-    → IfOk answer (λ progress. Both (option_map (λ h. left_of h s) a) (option_map (λ h. left_of h s) b)
+    → IfOk answer (λ progress. Both (option_map (λ h. left_of h s) a) (option_map (λ h. left_of h other) b)
     (RowsGoOn progress t t'))
-ends a b s t t' done (Err why) both writes over = tt
-ends a b s t t' done (Ok More) both writes over = absurd over
-ends None b s t t' done (Ok Over) both writes over = tt
-ends (Some x) None s t t' done (Ok Over) both writes over = absurd both
-ends (Some x) (Some y) s t t' done (Ok Over) both writes over =
-    subst (λ h. RowsGoOn Over t t' (left_of h s) (left_of y s)) (sym both.0)
+ends a b s other t t' done (Err why) both writes over = tt
+ends a b s other t t' done (Ok More) both writes over = absurd over
+ends None b s other t t' done (Ok Over) both writes over = tt
+ends (Some x) None s other t t' done (Ok Over) both writes over = absurd both
+ends (Some x) (Some y) s other t t' done (Ok Over) both writes over =
+    subst (λ h. RowsGoOn Over t t' (left_of h s) (left_of y other)) (sym both.0)
     (text-is s t t' done writes, end-is s t t' done None writes over)
+
+-- what is said of the edges is so of the sampler before its rows were appended
+pub said-of : (answer : Result Progress RowsFault) (fault : Option EdgeFault) (old new : Sampling) → IsOver answer fault
+    → new ≡ old → fault ≡ edge_fault (watched_now new) → IsOver answer (edges-of old)
+said-of answer fault old new over same is =
+    subst (λ (s : Sampling). IsOver answer (edges-of s)) same (subst (λ (f : Option EdgeFault). IsOver answer f) is over)
 
 -- nothing is left to happen, and the edges are none to take beats at
 pub stops-over : (a b : Option (List Happens)) (s : Sampling) (t t' : List ℕ) (done : Unit {0})
@@ -128,11 +133,11 @@ stops-over None b s t t' done (Err why) both writes over = tt
 stops-over (Some x) None s t t' done (Err why) both writes over = absurd both
 stops-over (Some x) (Some y) s t t' done (Err (rows.Edges why)) both writes over =
     subst (λ h. Stops (rows.Edges why) t t' (left_of h s)) (sym both.0)
-    (text-is s t t' done writes, end-is s t t' done (Some why) writes over)
+    (text-is s t t' done writes, end-is s t t' done (Some (edge_fault_view why)) writes over)
 stops-over (Some x) (Some y) s t t' done (Err (rows.Unknown u)) both writes over = absurd over
 stops-over (Some x) (Some y) s t t' done (Err (rows.Dump l m)) both writes over = absurd over
 stops-over (Some x) (Some y) s t t' done (Err rows.Read) both writes over = absurd over
-stops-over (Some x) (Some y) s t t' done (Err rows.Memory) both writes over = absurd over
+stops-over (Some x) (Some y) s t t' done (Err rows.Memory) both writes over = tt
 
 -- a beat of the last time is none
 pub stops-ending : (a b : Option (List Happens)) (s : Sampling) (t t' : List ℕ) (fault : SampleFault)

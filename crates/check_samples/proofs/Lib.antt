@@ -2,4 +2,5 @@ pub mod ValueLemmas
 pub mod RowsLemmas
 pub mod TakeLemmas
 pub mod LeftLemmas
+pub mod WatchedLemmas
 pub mod BitLemmas

@@ -1,6 +1,7 @@
 -- What happens, and the rows that are left to come.
 use Rattle.std.proofs.Common.{◌≡◌, ℕ, true, false, List, ◌∷◌, ◌++◌, Some, Ok, Err, refl, ap, ◌∙◌, append_assoc}
 use Rattle.check_vcd.specs.Body.{Happens, At, Sets, Resumes}
+use Rattle.check_samples.specs.EdgeFault.{some_crossed}
 use Rattle.check_samples.specs.Rows.{Writes, and_then}
 use Rattle.check_samples.specs.Sampling.{LeadsToRows, Sampling, at_time, is_at, rows_from, rows_now, with_value}
 use Rattle.check_samples.specs.declared.sampler.SampleFault.{SampleFault}
@@ -58,7 +59,7 @@ takes-none start text old new time rest (Gap line) not writes = absurd writes
 takes-none start text old new time rest Memory not writes = tt
 
 -- changes are told again, and no beat had crossed
-pub takes-resume : (text : List ℕ) (old : Sampling) (line : ℕ) (rest : List Happens) → old.edges.crossed ≡ false
+pub takes-resume : (text : List ℕ) (old : Sampling) (line : ℕ) (rest : List Happens) → some_crossed old.watched ≡ false
     → LeadsToRows (Ok tt) text text (rows_from (Resumes line ∷ rest) old) (rows_from rest old)
 unfolding rows_from
 takes-resume text old line rest none = rw none (refl, refl)

@@ -1,9 +1,5 @@
--- What there was at the edges of the clock, and what that says of a whole dump. This project's own.
-use Rattle.std.specs.Prelude.{Bool, true, false, ◌||◌, ◌&&◌, not, Option, None, Some, is_none, if◌then◌else◌}
-use Rattle.check_samples.specs.declared.clock.Edge.{Edge}
-use Rattle.check_samples.specs.declared.clock.Edge.TheVariants.{Rising, Falling}
-use Rattle.check_samples.specs.declared.edges.EdgeFault.{EdgeFault}
-use Rattle.check_samples.specs.declared.edges.EdgeFault.TheVariants.{NeverRises, NeverFalls, ResetAtEdges, ResetAtBeats}
+-- What there was at the edges of a clock, and what that says of a whole dump. This project's own.
+use Rattle.std.specs.Prelude.{Bool, true, false, ◌||◌, ◌&&◌, not, Option, None, Some, is_none}
 use Rattle.check_samples.specs.declared.edges.Edges.{Edges}
 use Rattle.check_samples.specs.declared.edges.Needs.{Needs}
 use Rattle.check_samples.specs.declared.reset.Reset.{Reset}
@@ -31,17 +27,3 @@ needs_of reset edges = record { valid = edges.in_reset; ready = is_none reset ||
 abbrev pub is_low_of : Option Reset → Bool
 is_low_of None = true
 is_low_of (Some reset) = reset.is_low
-
--- a clock has no edge
-abbrev pub never_of : Edge → EdgeFault
-never_of Rising = NeverRises
-never_of Falling = NeverFalls
-
--- why the edges of a whole dump are none to take beats at: there is none; all are in reset; or no beat crossed, and in
--- reset valid and ready were 1
-abbrev pub edge_fault : Edge → Option Reset → Edges → Option EdgeFault
-edge_fault edge reset edges =
-    if not edges.any then Some (never_of edge)
-    else if not edges.outside then Some (ResetAtEdges (is_low_of reset))
-    else if edges.masked && not edges.crossed then Some (ResetAtBeats (is_low_of reset))
-    else None

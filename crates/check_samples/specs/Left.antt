@@ -4,11 +4,10 @@ use Rattle.check_vcd.specs.Body.{Happens, At, Sets, Resumes, Wrong}
 use Rattle.check_vcd.specs.Dump.{Dumping, happens_in}
 use Rattle.check_vcd.specs.declared.fault.Mistake.{Mistake}
 use Rattle.check_vcd.specs.declared.fault.Mistake.TheVariants.{Gap}
-use Rattle.check_samples.specs.Edges.{edge_fault}
+use Rattle.check_samples.specs.EdgeFault.{EdgeFault, edge_fault, edge_fault_view, some_crossed}
 use Rattle.check_samples.specs.Rows.{Rows}
-use Rattle.check_samples.specs.Sampling.{Sampling, at_time, edges_now, rows_from, with_value}
+use Rattle.check_samples.specs.Sampling.{Sampling, at_time, rows_from, watched_now, with_value}
 use Rattle.check_samples.specs.declared.channel.UnknownBit.{UnknownBit}
-use Rattle.check_samples.specs.declared.edges.EdgeFault.{EdgeFault}
 use Rattle.check_samples.specs.declared.rows.Progress.{Progress}
 use Rattle.check_samples.specs.declared.rows.Progress.TheVariants.{More, Over}
 use Rattle.check_samples.specs.declared.rows.RowsFault.{RowsFault}
@@ -29,10 +28,10 @@ end_of_edges (Some why) = WithoutEdges why
 
 -- how a dump ends in which this happens
 unfoldable pub end_in : List Happens → Sampling → End
-end_in [] s = end_of_edges (edge_fault s.probes.clock.edge s.probes.reset (edges_now s))
+end_in [] s = end_of_edges (edge_fault (watched_now s))
 end_in (At time ∷ happens) s = end_in happens (at_time s time)
 end_in (Sets slot digits ∷ happens) s = end_in happens (with_value s slot digits)
-end_in (Resumes line ∷ happens) s = if s.edges.crossed then BeforeLine line Gap else end_in happens s
+end_in (Resumes line ∷ happens) s = if some_crossed s.watched then BeforeLine line Gap else end_in happens s
 end_in (Wrong line mistake ∷ happens) s = BeforeLine line mistake
 
 -- a beat that is no row ends them before that
@@ -67,16 +66,16 @@ RowsGoOn Over old new from to = (new ≡ old ++ from.text) × (from.end ≡ Whol
 abbrev pub Stops : RowsFault → List ℕ → List ℕ → RowsLeft → Type 0
 Stops (fault.Unknown unknown) old new from = (new ≡ old ++ from.text) × (from.end ≡ BeforeBeat unknown)
 Stops (fault.Dump line mistake) old new from = (new ≡ old ++ from.text) × (from.end ≡ BeforeLine line mistake)
-Stops (fault.Edges why) old new from = (new ≡ old ++ from.text) × (from.end ≡ WithoutEdges why)
+Stops (fault.Edges why) old new from = (new ≡ old ++ from.text) × (from.end ≡ WithoutEdges (edge_fault_view why))
 Stops fault.Read old new from = new ≡ old
 Stops fault.Memory old new from = Unit {0}
 
--- all of a dump was read, and this is said of its edges
+-- all of a dump was read, and this is said of its edges; unless memory ran out
 abbrev pub IsOver : Result Progress RowsFault → Option EdgeFault → Type 0
 IsOver (Ok More) why = ⊥
 IsOver (Ok Over) why = why ≡ None
-IsOver (Err (fault.Edges one)) why = why ≡ Some one
+IsOver (Err (fault.Edges one)) why = why ≡ Some (edge_fault_view one)
 IsOver (Err (fault.Unknown unknown)) why = ⊥
 IsOver (Err (fault.Dump line mistake)) why = ⊥
 IsOver (Err fault.Read) why = ⊥
-IsOver (Err fault.Memory) why = ⊥
+IsOver (Err fault.Memory) why = Unit {0}

@@ -3,8 +3,10 @@ pub mod Digits
 pub mod Slot
 pub mod Values
 pub mod Row
-pub mod Rows
 pub mod Edges
+pub mod Domain
+pub mod EdgeFault
+pub mod Rows
 pub mod Sampling
 pub mod Left
 pub mod Faults

@@ -1,9 +1,10 @@
 -- The rows of a time: those of the beats that cross at an edge of the clock. This project's own.
-use Rattle.std.specs.Prelude.{◌≡◌, ℕ, ◌&&◌, Bool, false, not, List, [], ◌∷◌, ◌++◌, codes, Option, None, Some, Result, Ok, Err, if◌then◌else◌}
+use Rattle.std.specs.Prelude.{◌≡◌, ℕ, ◌==◌, ◌&&◌, Bool, false, not, List, [], ◌∷◌, ◌++◌, codes, map, Option, None, Some, option_and_then, slice_get, Result, Ok, Err, if◌then◌else◌}
 use Rattle.std.specs.List.{list_any}
 use Rattle.std.specs.Str.{bytes_eq}
 use Rattle.tl_text.specs.Reading.{◌>>=◌}
 use Rattle.check_samples.specs.Digits.{bits_of}
+use Rattle.check_samples.specs.Domain.{Domain, domain_view}
 use Rattle.check_samples.specs.Row.{ask_text, cells_of_ask, cells_of_reply, reply_text}
 use Rattle.check_samples.specs.declared.channel.BeatTaps.{BeatTaps}
 use Rattle.check_samples.specs.declared.channel.BeatTaps.TheVariants.{A, D}
@@ -35,9 +36,9 @@ crosses values channel = is_one (bits_of values channel.valid) && is_one (bits_o
 abbrev pub is_unsure : List ℕ → Bool
 is_unsure bits = not (is_zero bits) && not (is_one bits)
 
--- they are of some channel
-abbrev pub some_crosses : List (List ℕ) → List Channel → Bool
-some_crosses values channels = list_any (λ channel. crosses values channel) channels
+-- they are of some channel of the domain at this place
+abbrev pub some_crosses : ℕ → List (List ℕ) → List Channel → Bool
+some_crosses place values channels = list_any (λ channel. (channel.domain == place) && crosses values channel) channels
 
 -- the row of a channel's beat, or the first of its signals, data aside, with an unknown bit
 abbrev pub row_by : BeatTaps → ℕ → List (List ℕ) → Channel → Result (List ℕ) Signal
@@ -101,19 +102,30 @@ rows_at needs time values channel =
     if crosses values channel then row_alone time channel (row_at time values channel)
     else hand_alone time channel (unknown_hand needs values channel)
 
+-- what has to be known in each domain at a time, if its clock has an edge then outside of reset; of the one at a place
+abbrev pub Dues : Type 0
+Dues = List (Option Needs)
+
+abbrev pub due_at : Dues → ℕ → Option Needs
+due_at dues place = option_and_then (λ due. due) (slice_get dues place)
+
+-- the rows of a channel, if its clock has such an edge
+abbrev pub rows_due : Option Needs → ℕ → List (List ℕ) → Channel → Rows
+rows_due None time values channel = no_rows
+rows_due (Some needs) time values channel = rows_at needs time values channel
+
 -- the rows of the channels, in their order
-abbrev pub rows_of : Needs → ℕ → List (List ℕ) → List Channel → Rows
-rows_of needs time values [] = no_rows
-rows_of needs time values (channel ∷ channels) =
-    and_then (rows_at needs time values channel) (rows_of needs time values channels)
+abbrev pub rows_of : Dues → ℕ → List (List ℕ) → List Channel → Rows
+rows_of dues time values [] = no_rows
+rows_of dues time values (channel ∷ channels) =
+    and_then (rows_due (due_at dues channel.domain) time values channel) (rows_of dues time values channels)
 
 -- ---- the edges
 
--- what is looked at: the clock, the reset, the parts of values that are put together, and the channels in the order in
--- which their beats cross
+-- what is looked at: the domains, the parts of values that are put together, and the channels in the order in which their
+-- beats cross. Each channel has the domain at its place
 pub record Probes : Type 0 where
-  pub clock : Clock
-  pub reset : Option Reset
+  pub domains : List Domain
   pub joins : List Tap
   pub channels : List Channel
 
@@ -136,9 +148,9 @@ is_late Falling bits = is_zero bits
 abbrev pub ticks : List (List ℕ) → List (List ℕ) → Clock → Bool
 ticks before now clock = is_early clock.edge (bits_of before clock.tap) && is_late clock.edge (bits_of now clock.tap)
 
--- the clock ticks, and there was no reset
-abbrev pub has_edge : List (List ℕ) → List (List ℕ) → Probes → Bool
-has_edge before now probes = ticks before now probes.clock && not (is_active before probes.reset)
+-- the clock of a domain ticks, and its reset was not active
+abbrev pub has_edge : List (List ℕ) → List (List ℕ) → Domain → Bool
+has_edge before now domain = ticks before now domain.clock && not (is_active before domain.reset)
 
 -- ---- what calls answer
 
@@ -158,8 +170,7 @@ Writes (Err Memory) old new rows = Unit {0}
 
 abbrev pub view_of : code_probes.Probes → Probes
 view_of probes = record {
-  clock = probes.clock;
-  reset = probes.reset;
+  domains = map domain_view probes.domains.items;
   joins = probes.joins.items;
   channels = probes.channels.items;
 }

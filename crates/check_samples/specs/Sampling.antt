@@ -1,24 +1,43 @@
 -- The rows of what happens in a dump. This project's own.
-use Rattle.std.specs.Prelude.{◌≡◌, ℕ, ◌==◌, Bool, true, false, nat_lt, List, [], ◌∷◌, ◌++◌, length, Option, None, Some, Result, Ok, Err, ⊤, if◌then◌else◌}
+use Rattle.std.specs.Prelude.{◌≡◌, ℕ, ◌+◌, ◌==◌, Bool, true, false, nat_lt, List, [], ◌∷◌, ◌++◌, length, map, Option, None, Some, Result, Ok, Err, ⊤, if◌then◌else◌}
 use Rattle.check_vcd.specs.Body.{Happens, At, Sets, Resumes, Wrong}
 use Rattle.check_vcd.specs.declared.body.Event.{Event}
 use Rattle.check_vcd.specs.declared.body.Event.TheVariants as event
 use Rattle.check_samples.specs.Digits.{set_extended, with_joined}
+use Rattle.check_samples.specs.Domain.{Watched, unwatched}
+use Rattle.check_samples.specs.EdgeFault.{some_crossed}
 use Rattle.check_samples.specs.Edges.{needs_of, with_edge}
+use Rattle.check_samples.specs.declared.channel.Channel.{Channel}
 use Rattle.check_samples.specs.declared.edges.Edges.{Edges}
+use Rattle.check_samples.specs.declared.edges.Needs.{Needs}
 use Rattle.check_samples.specs.declared.sampler.SampleFault.{SampleFault}
 use Rattle.check_samples.specs.declared.sampler.SampleFault.TheVariants.{Unknown, Gap, Memory}
-use Rattle.check_samples.specs.Rows.{Probes, Rows, and_then, has_edge, is_active, no_rows, rows_of, some_crosses, ticks}
+use Rattle.check_samples.specs.declared.tap.Tap.{Tap}
+use Rattle.check_samples.specs.Rows.{Dues, Probes, Rows, and_then, has_edge, is_active, no_rows, rows_of, some_crosses, ticks}
 
--- what is looked at; the values before the present time, with what is put together of them; those at it, and how many bits
--- each has; the present time; and what there was at the edges of the times that are over
+-- the parts of values that are put together, and the channels; the values before the present time, with what is put
+-- together of them; those at it, and how many bits each has; the present time; and the domains, each with what there was at
+-- the edges of the times that are over
 pub record Sampling : Type 0 where
-  pub probes : Probes
+  pub joins : List Tap
+  pub channels : List Channel
   pub before : List (List ℕ)
   pub now : List (List ℕ)
   pub widths : List ℕ
   pub time : Option ℕ
-  pub edges : Edges
+  pub watched : List Watched
+
+-- before anything has happened, if this is looked at: with these values, and with those that count before the first time
+abbrev pub sampling_by : Probes → List (List ℕ) → List (List ℕ) → List ℕ → Sampling
+sampling_by probes before now widths = record {
+  joins = probes.joins;
+  channels = probes.channels;
+  before = before;
+  now = now;
+  widths = widths;
+  time = None;
+  watched = map unwatched probes.domains;
+}
 
 -- ---- what happens, one after the other
 
@@ -35,26 +54,32 @@ is_time (Some last) time = last == time
 abbrev pub is_at : Sampling → ℕ → Bool
 is_at s time = is_time s.time time
 
--- whether the clock ticks at the present time, in a reset too
-abbrev pub ticks_now : Sampling → Bool
-ticks_now s = ticks s.before s.now s.probes.clock
+-- what there was at the edges of the domain at a place, with that of the present time if its clock ticks at it, in a reset too
+abbrev pub edges_at : ℕ → List (List ℕ) → List (List ℕ) → List Channel → Watched → Edges
+edges_at place before now channels one =
+    if ticks before now one.domain.clock
+    then with_edge one.edges (is_active before one.domain.reset) (some_crosses place before channels)
+    else one.edges
 
--- what there was at the edges, with that of the present time if the clock ticks at it
-abbrev pub edges_when : Option ℕ → Sampling → Edges
-edges_when None s = s.edges
-edges_when (Some time) s =
-    if ticks_now s
-    then with_edge s.edges (is_active s.before s.probes.reset) (some_crosses s.before s.probes.channels)
-    else s.edges
+-- the same of domains, of which the first is at this place
+abbrev pub watched_from : ℕ → List (List ℕ) → List (List ℕ) → List Channel → List Watched → List Watched
+watched_from place before now channels [] = []
+watched_from place before now channels (one ∷ watched) =
+    record { domain = one.domain; edges = edges_at place before now channels one }
+    ∷ watched_from (place + 1) before now channels watched
 
-abbrev pub edges_now : Sampling → Edges
-edges_now s = edges_when s.time s
+abbrev pub watched_when : Option ℕ → Sampling → List Watched
+watched_when None s = s.watched
+watched_when (Some time) s = watched_from 0 s.before s.now s.channels s.watched
+
+abbrev pub watched_now : Sampling → List Watched
+watched_now s = watched_when s.time s
 
 -- a time begins, and the present one is over: what the values are, they were before it, and so was what is put together
 abbrev pub at_time : Sampling → ℕ → Sampling
 at_time s time =
     if is_at s time then s
-    else record s { before = with_joined s.probes.joins s.now; time = Some time; edges = edges_now s }
+    else record s { before = with_joined s.joins s.now; time = Some time; watched = watched_now s }
 
 -- what is so after one thing that happens
 abbrev pub behind : Happens → Sampling → Sampling
@@ -63,14 +88,18 @@ behind (Sets slot digits) s = with_value s slot digits
 behind (Resumes line) s = s
 behind (Wrong line mistake) s = s
 
--- the rows of the present time, if the clock ticks at it: with the values that were before it. What has to be known then
--- follows from the edges before
+-- what has to be known in a domain, if its clock has an edge outside of reset. That follows from the edges before
+abbrev pub needs_due : List (List ℕ) → List (List ℕ) → Watched → Option Needs
+needs_due before now one =
+    if has_edge before now one.domain then Some (needs_of one.domain.reset one.edges) else None
+
+abbrev pub dues_of : List (List ℕ) → List (List ℕ) → List Watched → Dues
+dues_of before now watched = map (needs_due before now) watched
+
+-- the rows of the present time: of the channels whose clock ticks at it, with the values that were before it
 abbrev pub rows_when : Option ℕ → Sampling → Rows
 rows_when None s = no_rows
-rows_when (Some time) s =
-    if has_edge s.before s.now s.probes
-    then rows_of (needs_of s.probes.reset s.edges) time s.before s.probes.channels
-    else no_rows
+rows_when (Some time) s = rows_of (dues_of s.before s.now s.watched) time s.before s.channels
 
 abbrev pub rows_now : Sampling → Rows
 rows_now s = rows_when s.time s
@@ -85,7 +114,7 @@ rows_from (At time ∷ happens) s =
     if is_at s time then rows_from happens s
     else and_then (rows_now s) (rows_from happens (at_time s time))
 rows_from (Sets slot digits ∷ happens) s = rows_from happens (with_value s slot digits)
-rows_from (Resumes line ∷ happens) s = if s.edges.crossed then no_rows else rows_from happens s
+rows_from (Resumes line ∷ happens) s = if some_crossed s.watched then no_rows else rows_from happens s
 rows_from (Wrong line mistake ∷ happens) s = no_rows
 
 -- ---- what calls answer
@@ -94,11 +123,11 @@ rows_from (Wrong line mistake ∷ happens) s = no_rows
 abbrev pub IsJoined : Event → Sampling → Type 0
 IsJoined (event.Time time) s = ⊤
 IsJoined (event.Change slot) s = ⊤
-IsJoined (event.Resume line) s = s.edges.crossed ≡ false
+IsJoined (event.Resume line) s = some_crossed s.watched ≡ false
 
 abbrev pub Joins : Result Unit SampleFault → Event → Sampling → Type 0
 Joins (Ok done) next s = IsJoined next s
-Joins (Err (Gap line)) next s = (next ≡ event.Resume line) × (s.edges.crossed ≡ true)
+Joins (Err (Gap line)) next s = (next ≡ event.Resume line) × (some_crossed s.watched ≡ true)
 Joins (Err (Unknown fault)) next s = ⊤
 Joins (Err Memory) next s = ⊤
 

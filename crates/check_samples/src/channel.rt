@@ -35,10 +35,11 @@ pub enum BeatTaps {
     D(ReplyTaps),
 }
 
-/// A channel of a link: where its valid and its ready are, and the signals of its beats.
+/// A channel of a link: the place of its domain, where its valid and its ready are, and the signals of its beats.
 #[derive(Debug, Clone, Copy, PartialEq, Eq)]
 pub struct Channel {
     pub link: Link,
+    pub domain: usize,
     pub valid: Tap,
     pub ready: Tap,
     pub beat: BeatTaps,

@@ -1,4 +1,4 @@
-//! The clock that is looked at.
+//! A clock that is looked at.
 use crate::tap::Tap;
 
 /// The edges of a clock at which beats cross.

@@ -1,12 +1,13 @@
 //! Beats in the values of a dump: a row of a capture for each that crosses a link.
 //!
 //! A [`Sampler`] takes what happens in a dump (`Event` of `check_vcd`) by [`Sampler::take`]. A row is made for each
-//! [`Channel`] whose valid and ready are both 1 at an edge of the clock outside of reset ([`Edge`]), with the values that
-//! signals had before the time of the edge, in the order of the channels. [`Sampler::push_rows`] makes the rows of the
+//! [`Channel`] whose valid and ready are both 1 at an edge of the clock of its [`Domain`] outside of that domain's reset
+//! ([`Edge`]), with the values that signals had before the time of the edge, in the order of the channels. [`Sampler::push_rows`] makes the rows of the
 //! last time. Both are pinned to one definition over the whole list of what happens, `rows_from`
 //! (`specs/Sampling.antt`); what a row says is in `specs/Row.antt`. [`Rows`] hands a sampler all that happens in a dump,
 //! and its model is the text of the rows that are left to come, and what they end with (`specs/Left.antt`). A whole dump
-//! whose clock has no edge ends with a fault, and so does one whose edges or beats all lie in reset (`specs/Edges.antt`).
+//! in which a clock has no edge ends with a fault, and so does one in which the edges of a clock, or all beats, lie in reset
+//! (`specs/EdgeFault.antt`).
 //!
 //! A value is kept in a slot of [`Values`], and a [`Tap`] says which of its digits are a signal. Parts of values are put
 //! together, whenever a time begins, in one more value behind those that are kept: there are the signals of several
@@ -15,7 +16,10 @@
 
 mod channel;
 mod clock;
+mod domain;
+mod edge_fault;
 mod edges;
+mod hands;
 mod reset;
 mod row;
 mod rows;
@@ -24,10 +28,13 @@ mod signal;
 mod slot;
 mod tap;
 mod values;
+mod watched;
 
 pub use channel::{AskTaps, BeatTaps, Channel, ReplyTaps, UnknownBit};
 pub use clock::{Clock, Edge};
-pub use edges::{EdgeFault, Edges, Needs};
+pub use domain::Domain;
+pub use edge_fault::EdgeFault;
+pub use edges::{Edges, Needs};
 pub use reset::Reset;
 pub use rows::{Progress, Rows, RowsFault};
 pub use sampler::{Probes, SampleFault, Sampler};

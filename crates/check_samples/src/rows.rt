@@ -1,17 +1,19 @@
 //! The rows of a dump, one thing that happens in it after the other.
-ghost use Rattle.std.specs.Prelude.{◌≡◌, IfErr, IfOk, IfSome};
+ghost use Rattle.std.specs.Prelude.{◌≡◌, IfErr, IfOk, IfSome, option_map};
 ghost use Rattle.check_vcd.specs.Words.{Both};
+ghost use Rattle.check_samples.specs.EdgeFault.{edge_fault_view};
 ghost use Rattle.check_samples.specs.Left.{IsOver, RowsGoOn, Stops, left_in};
 
 use crate::channel::UnknownBit;
-use crate::edges::EdgeFault;
+use crate::edge_fault::EdgeFault;
 use crate::sampler::{SampleFault, Sampler};
 use check_vcd::{Dump, DumpFault, Event, Mistake};
+use std::alloc::AllocError;
 use std::io::Read;
 use std::marker::Model;
 
 /// Why no more rows were made.
-#[derive(Debug, Clone, Copy, PartialEq, Eq)]
+#[derive(Debug, Drop)]
 pub enum RowsFault {
     /// A beat has an unknown bit.
     Unknown(UnknownBit),
@@ -34,6 +36,16 @@ impl From<SampleFault> for RowsFault {
             SampleFault::Gap(line) => RowsFault::Dump(line, Mistake::Gap),
             SampleFault::Memory => RowsFault::Memory,
         }
+    }
+}
+
+impl From<AllocError> for RowsFault {
+    ghost use Rattle.check_samples.specs.declared.rows.RowsFault.TheVariants.{Memory};
+
+    ghost from_gives = { λ _ fault. fault ≡ Memory };
+
+    fn from(_: AllocError) -> RowsFault {
+        RowsFault::Memory
     }
 }
 
@@ -78,7 +90,7 @@ impl<R: Read + Drop> Model for Rows<R> {
 
 /// What is answered at the end of a dump, if this is said of its edges.
 fn over(fault: Option<EdgeFault>) -> Result<Progress, RowsFault>
-    ensures { IsOver result fault }
+    ensures { IsOver result (option_map edge_fault_view fault) }
 {
     match fault {
         None => Ok(Progress::Over),
@@ -107,7 +119,7 @@ impl<R: Read + Drop> Rows<R> {
             }
             Ok(None) => {
                 self.sampler.push_rows(text)?;
-                over(self.sampler.edge_fault())
+                over(self.sampler.edge_fault()?)
             }
             Err(fault) => Err(RowsFault::from(fault)),
         }

@@ -5,8 +5,8 @@ use Rattle.check_beats.specs.Bus.{bus_bytes}
 use Rattle.check_beats.specs.declared.bus.Bus.{Bus}
 use Rattle.check_vcd.specs.Header.{Var}
 use Rattle.check_samples.specs.declared.signal.Signal.{Signal}
-use Rattle.check_signals.specs.Found.{LinkSources, NamesOf, signals_named, link_at, link_sources, links_from, named_before, names_at, numbered, owner_of, sources_of}
-use Rattle.check_signals.specs.Names.{SignalName}
+use Rattle.check_signals.specs.Found.{LinkSources, NamesOf, signals_named, link_at, link_sources, links_from, named_before, named_sources, names_at, numbered}
+use Rattle.check_signals.specs.Names.{LinkNames, SignalName}
 use Rattle.check_signals.specs.Source.{SearchFault, Finds, Source, fault_view}
 use Rattle.check_signals.specs.declared.signal_fault.SignalOwner.{SignalOwner}
 use Rattle.check_signals.specs.declared.signal_fault.SignalFault.{SignalFault}
@@ -35,30 +35,28 @@ module _ (vars : List Var) (is_port : Bool) (names : NamesOf) (n : ℕ) (bus : B
   others = each (link_sources vars) (numbered is_port names (n + 1) rest)
 
   -- what all links find, by the names of the first of them
-  by-names : (own : Option (List SignalName)) → names_at names n ≡ own
+  by-names : (own : Option LinkNames) → names_at names n ≡ own
       → with_front front (links_from vars is_port names n here) ≡ all
       → with_front front (each (link_sources vars)
       (named_before is_port n bus own (numbered is_port names (n + 1) rest))) ≡ all
   unfolding links_from
   by-names own has so_far =
       sym (ap (λ (buses : List Bus). with_front front (each (link_sources vars) (numbered is_port names n buses))) is
-      ∙ ap (λ (own : Option (List SignalName)). with_front front (each (link_sources vars)
+      ∙ ap (λ (own : Option LinkNames). with_front front (each (link_sources vars)
       (named_before is_port n bus own (numbered is_port names (n + 1) rest)))) has) ∙ so_far
 
   -- and by what these find
-  by-sources : (own : List SignalName) (found : Result (List (List Source)) SearchFault) → names_at names n ≡ Some own
-      → sources_of vars (owner_of (link_at is_port n)) (bus_bytes bus) own ≡ found
+  by-sources : (own : LinkNames) (found : Result LinkSources SearchFault) → names_at names n ≡ Some own
+      → named_sources vars (link_at is_port n) (bus_bytes bus) own ≡ found
       → with_front front (links_from vars is_port names n here) ≡ all
-      → with_front front ((found >>= (λ signals. Ok (record { link = link_at is_port n; signals = signals })))
-      >>= (λ one. others >>= (λ more. Ok (one ∷ more)))) ≡ all
+      → with_front front (found >>= (λ one. others >>= (λ more. Ok (one ∷ more)))) ≡ all
   unfolding others
   by-sources own found has finds so_far =
-      sym (ap (λ (found : Result (List (List Source)) SearchFault). with_front front
-      ((found >>= (λ signals. Ok (record { link = link_at is_port n; signals = signals })))
-      >>= (λ one. others >>= (λ more. Ok (one ∷ more))))) finds) ∙ by-names (Some own) has so_far
+      sym (ap (λ (found : Result LinkSources SearchFault). with_front front
+      (found >>= (λ one. others >>= (λ more. Ok (one ∷ more))))) finds) ∙ by-names (Some own) has so_far
 
-  pub link-fails : (own : List SignalName) (fault : SearchFault) → names_at names n ≡ Some own
-      → sources_of vars (owner_of (link_at is_port n)) (bus_bytes bus) own ≡ Err fault
+  pub link-fails : (own : LinkNames) (fault : SearchFault) → names_at names n ≡ Some own
+      → named_sources vars (link_at is_port n) (bus_bytes bus) own ≡ Err fault
       → with_front front (links_from vars is_port names n here) ≡ all → all ≡ Err fault
   link-fails own fault has finds so_far = sym (by-sources own (Err fault) has finds so_far)
 
@@ -67,17 +65,13 @@ module _ (vars : List Var) (is_port : Bool) (names : NamesOf) (n : ℕ) (bus : B
   unfolding links_from
   link-without has so_far = by-names None has so_far
 
-  pub link-found : (own : List SignalName) (signals : List (List Source)) → names_at names n ≡ Some own
-      → sources_of vars (owner_of (link_at is_port n)) (bus_bytes bus) own ≡ Ok signals
+  pub link-found : (own : LinkNames) (one : LinkSources) → names_at names n ≡ Some own
+      → named_sources vars (link_at is_port n) (bus_bytes bus) own ≡ Ok one
       → with_front front (links_from vars is_port names n here) ≡ all
-      → with_front (front ++ (record { link = link_at is_port n; signals = signals } ∷ []))
-      (links_from vars is_port names (n + 1) rest) ≡ all
+      → with_front (front ++ (one ∷ [])) (links_from vars is_port names (n + 1) rest) ≡ all
   unfolding links_from others
-  link-found own signals has finds so_far = sym (go others) ∙ by-sources own (Ok signals) has finds so_far
+  link-found own one has finds so_far = sym (go others) ∙ by-sources own (Ok one) has finds so_far
     where
-      one : LinkSources
-      one = record { link = link_at is_port n; signals = signals }
-
       go : (more : Result (List LinkSources) SearchFault)
           → with_front front (more >>= (λ more. Ok (one ∷ more))) ≡ with_front (front ++ (one ∷ [])) more
       go (Err fault) = refl

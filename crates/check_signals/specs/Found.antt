@@ -1,6 +1,6 @@
 -- Which signals of a dump are looked at, and what is kept of it. This project's own; the order of the channels within one
 -- time is that of captures.
-use Rattle.std.specs.Prelude.{◌≡◌, ℕ, ◌+◌, ◌==◌, ◌&&◌, Bool, true, false, List, [], ◌∷◌, ◌++◌, length, map, replicate, Option, None, Some, option_and_then, option_map, Result, Ok, Err, if◌then◌else◌, slice_get, Vec}
+use Rattle.std.specs.Prelude.{◌≡◌, ℕ, ◌+◌, ◌==◌, ◌&&◌, Bool, true, false, not, List, [], ◌∷◌, ◌++◌, filter, length, map, replicate, Option, None, Some, option_and_then, option_map, Result, Ok, Err, if◌then◌else◌, slice_get, unwrap_or, Vec}
 use Rattle.std.specs.Global.{Global}
 use Rattle.std.specs.List.{cons_option, flat_map, list_any, zip}
 use Rattle.std.specs.Str.{bytes_eq}
@@ -14,22 +14,24 @@ use Rattle.check_vcd.specs.Codes.{coded_in}
 use Rattle.check_vcd.specs.Dump.{with_slot}
 use Rattle.check_vcd.specs.Header.{Var}
 use Rattle.check_samples.specs.Digits.{unknown}
-use Rattle.check_samples.specs.Edges.{no_edges}
+use Rattle.check_samples.specs.Domain.{Domain}
 use Rattle.check_samples.specs.Rows.{Probes, view_of}
-use Rattle.check_samples.specs.Sampling.{Sampling}
+use Rattle.check_samples.specs.Sampling.{Sampling, sampling_by}
 use Rattle.check_samples.specs.Values.{all_before, all_now, all_widths}
 use Rattle.check_samples.specs.declared.channel.BeatTaps.TheVariants.{A, D}
 use Rattle.check_samples.specs.declared.channel.Channel.{Channel}
 use Rattle.check_samples.specs.declared.clock.Edge.{Edge}
+use Rattle.check_samples.specs.declared.clock.Edge.TheVariants.{Rising, Falling}
 use Rattle.check_samples.specs.declared.reset.Reset.{Reset}
 use Rattle.check_samples.specs.declared.signal.Signal.{Signal}
 use Rattle.check_samples.specs.declared.tap.Tap.{Tap}
-use Rattle.check_signals.specs.Names.{SignalName, SignalNames}
+use Rattle.check_signals.specs.Names.{ClockNames, LinkNames, SignalName, SignalNames, clock_view}
 use Rattle.check_signals.specs.Nets.{named_in, one_of}
 use Rattle.check_signals.specs.Parts.{all_parts, signal_parts, signals_view}
-use Rattle.check_signals.specs.Source.{SearchFault, Kept, Changing, Constant, Source, WantedSignal, parts_bits, source_view}
+use Rattle.check_signals.specs.Source.{SearchFault, Kept, Changing, Constant, Source, WantedSignal, left_out, parts_bits, source_view}
 use Rattle.check_signals.specs.Wanted.{wanted_of}
 use Rattle.check_signals.specs.declared.keys.TheConstants.{SIGNALS}
+use Rattle.check_signals.specs.declared.domains.ClockSources as code_domains
 use Rattle.check_signals.specs.declared.links.LinkSources as code_links
 use Rattle.check_signals.specs.declared.parts.LinkSignal.{LinkSignal}
 use Rattle.check_signals.specs.declared.resolve.Resolved as code_resolved
@@ -40,12 +42,24 @@ use Rattle.check_signals.specs.declared.wanted.Wanted.TheVariants.{AtMost}
 
 -- ---- what the names find
 
--- the clock and the reset have one bit
-abbrev pub system_asked : List ℕ → WantedSignal
-system_asked name = record { owner = owner.System; name = name; is_prefixed = false; wanted = AtMost 1 }
+-- a clock and a reset have one bit
+abbrev pub line_asked : SignalOwner → List ℕ → WantedSignal
+line_asked whose name = record { owner = whose; name = name; is_prefixed = false; wanted = AtMost 1 }
 
-abbrev pub system_source : List Var → List ℕ → Result Source SearchFault
-system_source vars name = named_in vars (system_asked name) >>= one_of (system_asked name)
+abbrev pub line_source : List Var → SignalOwner → List ℕ → Result Source SearchFault
+line_source vars whose name = named_in vars (line_asked whose name) >>= one_of (line_asked whose name)
+
+-- the names of a clock and of a reset, and what they find
+pub record ClockSources : Type 0 where
+  pub names : ClockNames
+  pub clock : Option Source
+  pub reset : Option Source
+
+unfoldable pub clock_sources : List Var → SignalOwner → ClockNames → Result ClockSources SearchFault
+clock_sources vars whose names = do
+  clock ← if_any (line_source vars whose) names.clock
+  reset ← if_any (line_source vars whose) names.reset
+  Ok (record { names = names; clock = clock; reset = reset })
 
 -- the parts of a signal of a link whose bus has so many bytes
 abbrev pub signal_by : SignalOwner → ℕ → Signal → LinkSignal
@@ -61,9 +75,10 @@ signals_named vars whose bus signals names = each (parts_by vars whose bus) (zip
 abbrev pub sources_of : List Var → SignalOwner → ℕ → List SignalName → Result (List (List Source)) SearchFault
 sources_of vars whose bus names = signals_named vars whose bus SIGNALS names
 
--- a link, and the parts of its signals that their names find
+-- a link, what the names of its own clock and reset find, and the parts of its signals that their names find
 pub record LinkSources : Type 0 where
   pub link : Link
+  pub clock : ClockSources
   pub signals : List (List Source)
 
 abbrev pub link_at : Bool → ℕ → Link
@@ -78,18 +93,18 @@ owner_of (link.Master number) = owner.Master number
 pub record NamedLink : Type 0 where
   pub link : Link
   pub bus : Bus
-  pub names : List SignalName
+  pub names : LinkNames
 
 -- the names of each port or of each master, if it has any
 abbrev pub NamesOf : Type 0
-NamesOf = List (Option (List SignalName))
+NamesOf = List (Option LinkNames)
 
 -- those of this number
-abbrev pub names_at : NamesOf → ℕ → Option (List SignalName)
+abbrev pub names_at : NamesOf → ℕ → Option LinkNames
 names_at names number = option_and_then (λ own. own) (slice_get names number)
 
 -- the link of this number and others, if it has names
-abbrev pub named_before : Bool → ℕ → Bus → Option (List SignalName) → List NamedLink → List NamedLink
+abbrev pub named_before : Bool → ℕ → Bus → Option LinkNames → List NamedLink → List NamedLink
 named_before is_port number bus None links = links
 named_before is_port number bus (Some names) links =
     record { link = link_at is_port number; bus = bus; names = names } ∷ links
@@ -100,18 +115,22 @@ numbered is_port names number [] = []
 numbered is_port names number (bus ∷ buses) =
     named_before is_port number bus (names_at names number) (numbered is_port names (number + 1) buses)
 
+-- what the names of a link find, or the first fault: its own clock and reset first
+unfoldable pub named_sources : List Var → Link → ℕ → LinkNames → Result LinkSources SearchFault
+named_sources vars link bus names = do
+  clock ← clock_sources vars (owner_of link) names.clock
+  signals ← sources_of vars (owner_of link) bus names.signals
+  Ok (record { link = link; clock = clock; signals = signals })
+
 abbrev pub link_sources : List Var → NamedLink → Result LinkSources SearchFault
-link_sources vars named =
-    sources_of vars (owner_of named.link) (bus_bytes named.bus) named.names
-    >>= (λ signals. Ok (record { link = named.link; signals = signals }))
+link_sources vars named = named_sources vars named.link (bus_bytes named.bus) named.names
 
 unfoldable pub links_from : List Var → Bool → NamesOf → ℕ → List Bus → Result (List LinkSources) SearchFault
 links_from vars is_port names number buses = each (link_sources vars) (numbered is_port names number buses)
 
--- what all names find: those of the clock, of the reset, and of the signals of each link
+-- what all names find: those of the system's clock and reset, and those of each link
 pub record FoundSources : Type 0 where
-  pub clock : Source
-  pub reset : Option Source
+  pub system : ClockSources
   pub ports : List LinkSources
   pub masters : List LinkSources
 
@@ -119,11 +138,10 @@ pub record FoundSources : Type 0 where
 -- links and the ports' have these buses
 unfoldable pub sources_in : List Var → List Bus → List Bus → SignalNames → Result FoundSources SearchFault
 sources_in vars of_masters of_ports names = do
-  clock ← system_source vars names.clock
-  reset ← if_any (system_source vars) names.reset
+  system ← clock_sources vars owner.System names.system
   ports ← links_from vars true names.ports 0 of_ports
   masters ← links_from vars false names.masters 0 of_masters
-  Ok (record { clock = clock; reset = reset; ports = ports; masters = masters })
+  Ok (record { system = system; ports = ports; masters = masters })
 
 -- ---- what is kept
 
@@ -143,16 +161,19 @@ distinct some [] = []
 distinct some (value ∷ values) =
     if is_kept some value then distinct some values else value ∷ distinct (some ++ (value ∷ [])) values
 
--- all parts of the signals of links; all sources of a system
-abbrev pub flat : List LinkSources → List Source
-flat links = flat_map (λ found. all_parts found.signals) links
+-- a clock and a reset, as far as there are any, before other sources
+abbrev pub with_lines : ClockSources → List Source → List Source
+with_lines own others = cons_option own.clock (cons_option own.reset others)
 
-abbrev pub all_by : Source → Option Source → List Source → List Source
-all_by clock None others = clock ∷ others
-all_by clock (Some reset) others = clock ∷ reset ∷ others
+-- all sources of a link, of links, and of a system
+abbrev pub of_link : LinkSources → List Source
+of_link found = with_lines found.clock (all_parts found.signals)
+
+abbrev pub flat : List LinkSources → List Source
+flat links = flat_map of_link links
 
 abbrev pub all_of : FoundSources → List Source
-all_of sources = all_by sources.clock sources.reset (flat sources.ports ++ flat sources.masters)
+all_of sources = with_lines sources.system (flat sources.ports ++ flat sources.masters)
 
 unfoldable pub values_kept : List Source → List Kept
 values_kept sources = distinct [] (map (λ source. source.kept) sources)
@@ -203,14 +224,103 @@ abbrev pub link_bits : List LinkSources → ℕ
 link_bits [] = 0
 link_bits (found ∷ links) = bits_in found.signals + link_bits links
 
+-- ---- the domains
+
+-- the clocks and resets of links are one domain if the same is said of them
+abbrev pub same_text : Option (List ℕ) → Option (List ℕ) → Bool
+same_text None None = true
+same_text None (Some other) = false
+same_text (Some one) None = false
+same_text (Some one) (Some other) = bytes_eq one other
+
+abbrev pub same_edge : Edge → Edge → Bool
+same_edge Rising Rising = true
+same_edge Rising Falling = false
+same_edge Falling Rising = false
+same_edge Falling Falling = true
+
+abbrev pub same_flag : Bool → Bool → Bool
+same_flag true other = other
+same_flag false other = not other
+
+abbrev pub same_clock : ClockNames → ClockNames → Bool
+same_clock one other =
+    (same_text one.clock other.clock && same_edge one.edge other.edge)
+    && (same_text one.reset other.reset && same_flag one.is_low other.is_low)
+
+-- the place of the one of which the same is said
+abbrev pub domain_place : List ClockSources → ClockNames → ℕ
+domain_place [] names = 0
+domain_place (other ∷ others) names = if same_clock other.names names then 0 else domain_place others names + 1
+
+-- those of links that are to stand behind some, each once
+abbrev pub clocks_known : List ClockSources → ClockNames → Bool
+clocks_known some names = list_any (λ other. same_clock other.names names) some
+
+abbrev pub clocks_of : List LinkSources → List ClockSources
+clocks_of links = map (λ found. found.clock) links
+
+unfoldable pub with_clocks : List ClockSources → List ClockSources → List ClockSources
+with_clocks some [] = some
+with_clocks some (own ∷ others) =
+    if clocks_known some own.names then with_clocks some others else with_clocks (some ++ (own ∷ [])) others
+
+-- a link that has the system's clock, edges and reset, and so no other
+abbrev pub has_system : ClockNames → ClockSources → Bool
+has_system system own =
+    same_clock own.names (record { clock = None; edge = system.edge; reset = None; is_low = system.is_low })
+
+-- the clocks and resets of all links, each once: the system's first, if a link has it, then those of ports and of masters in
+-- order
+abbrev pub clocks_of_links : ClockNames → List ClockSources → List ClockSources
+clocks_of_links system links = with_clocks (with_clocks [] (filter (has_system system) links)) links
+
+abbrev pub all_clocks : FoundSources → List ClockSources
+all_clocks sources = clocks_of_links sources.system.names (clocks_of sources.ports ++ clocks_of sources.masters)
+
+abbrev pub reset_by : List Kept → Bool → Option Source → Option Reset
+reset_by kept is_low None = None
+reset_by kept is_low (Some reset) = Some (record { tap = tap_by kept reset; is_low = is_low })
+
+-- the first of two, if there is one
+abbrev pub first_source : Option Source → Option Source → Option Source
+first_source None other = other
+first_source (Some source) other = Some source
+
+-- a link's own clock has no reset but its own
+abbrev pub own_domain : List Kept → Source → ClockSources → Domain
+own_domain kept clock own = record {
+  clock = record { tap = tap_by kept clock; edge = own.names.edge };
+  clock_name = own.names.clock;
+  reset = reset_by kept own.names.is_low own.reset;
+  reset_name = own.names.reset;
+}
+
+-- a link without one has the system's, and the system's reset if it has no other. A system whose links need a clock has one
+abbrev pub shared_domain : List Kept → ClockSources → ClockSources → Domain
+shared_domain kept system own = record {
+  clock = record { tap = tap_by kept (unwrap_or system.clock left_out); edge = own.names.edge };
+  clock_name = None;
+  reset = reset_by kept own.names.is_low (first_source own.reset system.reset);
+  reset_name = own.names.reset;
+}
+
+abbrev pub domain_by : List Kept → ClockSources → ClockSources → Option Source → Domain
+domain_by kept system own None = shared_domain kept system own
+domain_by kept system own (Some clock) = own_domain kept clock own
+
+abbrev pub domain_of : List Kept → ClockSources → ClockSources → Domain
+domain_of kept system own = domain_by kept system own own.clock
+
 -- ---- what is looked at
 
--- the channels of a link, by the taps of its signals in the order of their names
-abbrev pub channels_of_link : Link → List Tap → Option (Channel × Channel)
-channels_of_link link (a_valid ∷ a_ready ∷ a_opcode ∷ a_param ∷ a_size ∷ a_source ∷ a_address ∷ a_mask ∷ a_data
+-- the channels of a link, by the place of its domain and the taps of its signals in the order of their names
+abbrev pub channels_of_link : Link → ℕ → List Tap → Option (Channel × Channel)
+channels_of_link link domain (a_valid ∷ a_ready ∷ a_opcode ∷ a_param ∷ a_size ∷ a_source ∷ a_address ∷ a_mask ∷ a_data
     ∷ a_corrupt ∷ d_valid ∷ d_ready ∷ d_opcode ∷ d_param ∷ d_size ∷ d_source ∷ d_data ∷ d_denied ∷ d_corrupt ∷ []) = Some (
       record {
         link = link;
+        domain = domain;
         valid = a_valid;
         ready = a_ready;
         beat = A (record {
@@ -226,6 +336,7 @@ channels_of_link link (a_valid ∷ a_ready ∷ a_opcode ∷ a_param ∷ a_size �
       },
       record {
         link = link;
+        domain = domain;
         valid = d_valid;
         ready = d_ready;
         beat = D (record {
@@ -239,14 +350,14 @@ channels_of_link link (a_valid ∷ a_ready ∷ a_opcode ∷ a_param ∷ a_size �
         });
       },
     )
-channels_of_link link taps = None
+channels_of_link link domain taps = None
 
--- those of links; so many bits are put together of signals that stand before theirs
-abbrev pub channel_pairs : List Kept → ℕ → List LinkSources → List (Channel × Channel)
-channel_pairs kept before [] = []
-channel_pairs kept before (found ∷ links) =
-    cons_option (channels_of_link found.link (taps_from kept before found.signals))
-    (channel_pairs kept (before + bits_in found.signals) links)
+-- those of links, whose domains are these; so many bits are put together of signals that stand before theirs
+abbrev pub channel_pairs : List Kept → List ClockSources → ℕ → List LinkSources → List (Channel × Channel)
+channel_pairs kept clocks before [] = []
+channel_pairs kept clocks before (found ∷ links) =
+    cons_option (channels_of_link found.link (domain_place clocks found.clock.names) (taps_from kept before found.signals))
+    (channel_pairs kept clocks (before + bits_in found.signals) links)
 
 -- the order in which beats cross within one time
 abbrev pub in_order : List (Channel × Channel) → List (Channel × Channel) → List Channel
@@ -254,35 +365,29 @@ in_order ports masters =
     map (λ pair. pair.0) masters ++ map (λ pair. pair.0) ports ++ map (λ pair. pair.1) ports
     ++ map (λ pair. pair.1) masters
 
-abbrev pub reset_by : List Kept → Bool → Option Source → Option Reset
-reset_by kept is_low None = None
-reset_by kept is_low (Some reset) = Some (record { tap = tap_by kept reset; is_low = is_low })
-
 -- what is looked at, and the values that are kept, each in the slot of its place
 pub record Found : Type 0 where
   pub probes : Probes
   pub kept : List Kept
 
-abbrev pub found_by : List Kept → Edge → Bool → FoundSources → Found
-found_by kept edge is_low sources = record {
+abbrev pub found_by : List Kept → List ClockSources → FoundSources → Found
+found_by kept clocks sources = record {
   probes = record {
-    clock = record { tap = tap_by kept sources.clock; edge = edge };
-    reset = reset_by kept is_low sources.reset;
+    domains = map (domain_of kept sources.system) clocks;
     joins = link_joins kept sources.ports ++ link_joins kept sources.masters;
-    channels = in_order (channel_pairs kept 0 sources.ports)
-        (channel_pairs kept (link_bits sources.ports) sources.masters);
+    channels = in_order (channel_pairs kept clocks 0 sources.ports)
+        (channel_pairs kept clocks (link_bits sources.ports) sources.masters);
   };
   kept = kept;
 }
 
-abbrev pub found_of : Edge → Bool → FoundSources → Found
-found_of edge is_low sources = found_by (values_kept (all_of sources)) edge is_low sources
+abbrev pub found_of : FoundSources → Found
+found_of sources = found_by (values_kept (all_of sources)) (all_clocks sources) sources
 
 -- what the names of a system file find among the signals of a header, or the first fault, where the masters' links and
 -- the ports' have these buses
 unfoldable pub found_in : List Var → List Bus → List Bus → SignalNames → Result Found SearchFault
-found_in vars masters ports names =
-    sources_in vars masters ports names >>= (λ sources. Ok (found_of names.edge names.is_low sources))
+found_in vars masters ports names = sources_in vars masters ports names >>= (λ sources. Ok (found_of sources))
 
 -- ---- how a dump is read so
 
@@ -301,14 +406,9 @@ code_in (Constant digit width) = None
 
 -- before the body no value was before another, nothing was put together, and only constants are known
 abbrev pub sampling_of : Found → Sampling
-sampling_of found = record {
-  probes = found.probes;
-  before = map (λ value. unknown (width_in value)) found.kept ++ ([] ∷ []);
-  now = map digits_in found.kept;
-  widths = map width_in found.kept;
-  time = None;
-  edges = no_edges;
-}
+sampling_of found =
+    sampling_by found.probes (map (λ value. unknown (width_in value)) found.kept ++ ([] ∷ [])) (map digits_in found.kept)
+    (map width_in found.kept)
 
 -- identifiers have slots, each that of its place
 abbrev pub slot_one : Option (List ℕ) → ℕ → Find → Find
@@ -325,16 +425,23 @@ find_of vars found = slots_from (map code_in found.kept) 0 (coded_in vars)
 
 -- ---- what calls answer
 
+abbrev pub clocks_view : code_domains.ClockSources → ClockSources
+clocks_view own = record {
+  names = clock_view own.names.now;
+  clock = option_map source_view own.clock;
+  reset = option_map source_view own.reset;
+}
+
 abbrev pub link_sources_view : code_links.LinkSources → LinkSources
-link_sources_view found = record { link = found.link; signals = signals_view found.signals.items }
+link_sources_view found =
+    record { link = found.link; clock = clocks_view found.clock; signals = signals_view found.signals.items }
 
 abbrev pub links_view : Vec code_links.LinkSources Global → List LinkSources
 links_view links = map link_sources_view links.items
 
 abbrev pub sources_view : code_sources.Sources → FoundSources
 sources_view sources = record {
-  clock = source_view sources.clock;
-  reset = option_map source_view sources.reset;
+  system = clocks_view sources.system;
   ports = map link_sources_view sources.ports.items;
   masters = map link_sources_view sources.masters.items;
 }

@@ -5,10 +5,11 @@ ghost use Rattle.toml.specs.View.{table_view, view};
 ghost use Rattle.tl_text.specs.Reading.{each};
 ghost use Rattle.check_samples.specs.Signal.{signal_name as name_of_signal};
 ghost use Rattle.check_signals.specs.Key.{signal_key_name};
-ghost use Rattle.check_signals.specs.Names.{all_names as all_names_of, called as called_in, clock_by, edge_by, edge_in, have_signals, is_low_in, joined_names, link_by, link_in, link_of, link_view, links_in, lone_name, name_in, name_view, names_in, names_of_file, names_view, naming_in, part_name, some_names_in, wired as wired_in, wired_alone};
+ghost use Rattle.check_signals.specs.Names.{all_names as all_names_of, called as called_in, clock_checked, common_view, has_no_clock, have_signals, joined_names, link_by, link_in, link_of, link_view, links_in, lone_name, name_in, name_view, names_in, names_of_file, names_view, naming_in, need_clock, part_name, signals_view, some_names_in, wired as wired_in, wired_alone};
 ghost use Rattle.check_signals.specs.Prefixes.{manner_view, naming_view};
 ghost use Rattle.check_signals.specs.Values.{GivesNames, may_be_left_out, name_unless, optional_flag, optional_table, optional_text, signal_text_of as text_in, value_in};
 
+use crate::clocks::{ClockNames, clock_names};
 use crate::fault::{KeyFault, SignalKey};
 use crate::prefixes::{
     Manner, Naming, behind_each, is_no_name, name_behind, prefixes_if_any, said_in, table_of_names,
@@ -54,19 +55,26 @@ pub enum SignalName {
     Joined(Vec<Vec<u8>>),
 }
 
-/// The names of the signals of a link, in that order.
-pub type LinkNames = Vec<SignalName>;
+/// The names of a link that has signals: those of its own clock and reset, and those of its signals, in that order.
+#[derive(Debug, Drop)]
+pub struct LinkNames {
+    pub clock: ClockNames,
+    pub signals: Vec<SignalName>,
+}
 
-/// The names that a system file gives: of the clock and the reset, and of each link's signals if it has any; and which edges
-/// of the clock count.
+/// The names that a system file gives: of the system's clock and reset, and of each link that has signals.
 #[derive(Debug, Drop)]
 pub struct SignalNames {
-    pub clock: Vec<u8>,
-    pub edge: Edge,
-    pub reset: Option<Vec<u8>>,
-    pub is_low: bool,
+    pub system: ClockNames,
     pub ports: Vec<Option<LinkNames>>,
     pub masters: Vec<Option<LinkNames>>,
+}
+
+/// What a file says of all its links: of their clocks and resets, and how their signals are called.
+#[derive(Debug, Clone, Copy)]
+struct Common<'a> {
+    system: &'a ClockNames,
+    naming: Naming<'a>,
 }
 
 /// The value at a key, if it is there.
@@ -88,7 +96,7 @@ pub(crate) fn text_of(value: &Value, key: SignalKey) -> Result<&[u8], KeyFault>
 }
 
 /// The text at a key that may be absent.
-fn text_if_any(table: &Table, key: SignalKey) -> Result<Option<&[u8]>, KeyFault>
+pub(crate) fn text_if_any(table: &Table, key: SignalKey) -> Result<Option<&[u8]>, KeyFault>
     ensures { GivesNames (option_map (λ text. text.now)) result (optional_text key (table_view table.now)) }
 {
     match find_value(table, key) {
@@ -107,40 +115,6 @@ fn flag_if_any(table: &Table, key: SignalKey) -> Result<Option<bool>, KeyFault>
     match value.as_bool() {
         Some(flag) => Ok(Some(flag)),
         None => Err(KeyFault::WrongType(key)),
-    }
-}
-
-/// Whether the reset is active where it is 0.
-fn read_is_low(table: &Table) -> Result<bool, KeyFault>
-    ensures { GivesNames (λ low. low) result (is_low_in (table_view table.now)) }
-{
-    match text_if_any(table, SignalKey::ResetActive)? {
-        None | Some(b"high") => Ok(false),
-        Some(b"low") => Ok(true),
-        Some(_) => Err(KeyFault::OutOfRange(SignalKey::ResetActive)),
-    }
-}
-
-/// The edges that a word means.
-fn edge_called(word: &[u8]) -> Result<Edge, KeyFault>
-    ensures { GivesNames (λ edge. edge) result (edge_by (Some word.now)) }
-{
-    if word == b"rising".as_slice() {
-        Ok(Edge::Rising)
-    } else if word == b"falling".as_slice() {
-        Ok(Edge::Falling)
-    } else {
-        Err(KeyFault::OutOfRange(SignalKey::Edge))
-    }
-}
-
-/// The edges of the clock at which beats cross.
-fn read_edge(table: &Table) -> Result<Edge, KeyFault>
-    ensures { GivesNames (λ edge. edge) result (edge_in (table_view table.now)) }
-{
-    match text_if_any(table, SignalKey::Edge)? {
-        Some(word) => edge_called(word),
-        None => Ok(Edge::Rising),
     }
 }
 
@@ -285,7 +259,7 @@ fn names_of(
     manner: Manner<'_>,
     wires: Option<&Table>,
     signals: &[Signal],
-) -> Result<LinkNames, KeyFault>
+) -> Result<Vec<SignalName>, KeyFault>
     ensures { GivesNames (λ names. map name_view names.items) result
         (each (name_in (manner_view manner.entry) (option_map (λ wires. table_view wires.now) wires.entry))
         signals.now) }
@@ -302,7 +276,7 @@ fn all_names(
     alloc: Global,
     manner: Manner<'_>,
     wires: Option<&Table>,
-) -> Result<LinkNames, KeyFault>
+) -> Result<Vec<SignalName>, KeyFault>
     ensures { GivesNames (λ names. map name_view names.items) result
         (names_in (manner_view manner.entry) (option_map (λ wires. table_view wires.now) wires.entry)) }
 {
@@ -314,8 +288,8 @@ fn some_names(
     alloc: Global,
     manner: Manner<'_>,
     wires: Option<&Table>,
-) -> Result<Option<LinkNames>, KeyFault>
-    ensures { GivesNames link_view result
+) -> Result<Option<Vec<SignalName>>, KeyFault>
+    ensures { GivesNames signals_view result
         (some_names_in (manner_view manner.entry) (option_map (λ wires. table_view wires.now) wires.entry)) }
 {
     Ok(Some(all_names(alloc, manner, wires)?))
@@ -326,8 +300,8 @@ fn wired_alone(
     alloc: Global,
     wires: Option<&Table>,
     bits: bool,
-) -> Result<Option<LinkNames>, KeyFault>
-    ensures { GivesNames link_view result
+) -> Result<Option<Vec<SignalName>>, KeyFault>
+    ensures { GivesNames signals_view result
         (wired_alone (option_map (λ wires. table_view wires.now) wires.entry) bits) }
 {
     let manner = Manner {
@@ -346,8 +320,8 @@ fn names_if_any(
     prefixes: Option<&[&[u8]]>,
     wires: Option<&Table>,
     naming: Naming<'_>,
-) -> Result<Option<LinkNames>, KeyFault>
-    ensures { GivesNames link_view result
+) -> Result<Option<Vec<SignalName>>, KeyFault>
+    ensures { GivesNames signals_view result
         (link_by (option_map (λ prefixes. map (λ prefix. prefix.now) prefixes.now) prefixes.entry)
         (option_map (λ wires. table_view wires.now) wires.entry) (naming_view naming.entry)) }
 {
@@ -357,32 +331,37 @@ fn names_if_any(
     }
 }
 
-/// The names of the signals of the link that a table is of, if it gives any. It has the bundles of the whole file, if it
-/// does not say otherwise.
+/// The names of the link that a table is of, if it gives any of signals. It has the bundles of the whole file, if it does not
+/// say otherwise.
 #[tactic(auto, unfolding(crate::specs::Names::link_in))]
-fn link_names(alloc: Global, top: Naming<'_>, table: &Table) -> Result<Option<LinkNames>, KeyFault>
-    ensures { GivesNames link_view result (link_in (naming_view top.entry) (table_view table.now)) }
+fn link_names(alloc: Global, top: Common<'_>, table: &Table) -> Result<Option<LinkNames>, KeyFault>
+    ensures { GivesNames link_view result (link_in (common_view top.entry) (table_view table.now)) }
 {
     let prefixes = prefixes_if_any(alloc, table)?;
     let wires = table_if_any(table, SignalKey::Wires)?;
     let bits = flag_if_any(table, SignalKey::Bits)?;
+    let key = SignalKey::LinkReset;
+    let clock = clock_names(alloc, table, key, top.system.edge, top.system.is_low)?;
     let naming = Naming {
-        bits: bits.unwrap_or(top.bits),
-        names: top.names,
+        bits: bits.unwrap_or(top.naming.bits),
+        names: top.naming.names,
     };
-    names_if_any(alloc, prefixes.as_deref(), wires, naming)
+    match names_if_any(alloc, prefixes.as_deref(), wires, naming)? {
+        Some(signals) => Ok(Some(LinkNames { clock, signals })),
+        None => Ok(None),
+    }
 }
 
 /// The names of the signals of each link of a kind, of which there may be none.
 #[tactic(auto, using(crate::proofs::Views::array_laws), unfolding(crate::specs::Names::links_in))]
 fn links_at(
     alloc: Global,
-    top: Naming<'_>,
+    top: Common<'_>,
     table: &Table,
     key: SignalKey,
 ) -> Result<Vec<Option<LinkNames>>, KeyFault>
     ensures { GivesNames (λ links. map link_view links.items) result
-        (links_in (naming_view top.entry) key (table_view table.now)) }
+        (links_in (common_view top.entry) key (table_view table.now)) }
 {
     let Some(value) = find_value(table, key) else {
         return Ok(Vec::new(alloc));
@@ -396,12 +375,12 @@ fn links_at(
 #[tactic(auto, unfolding(crate::specs::Names::link_of))]
 fn links_of(
     alloc: Global,
-    top: Naming<'_>,
+    top: Common<'_>,
     values: &[Value],
     key: SignalKey,
 ) -> Result<Vec<Option<LinkNames>>, KeyFault>
     ensures { GivesNames (λ links. map link_view links.items) result
-        (each (link_of (naming_view top.entry) key) (map view values.now)) }
+        (each (link_of (common_view top.entry) key) (map view values.now)) }
 {
     let mut links = Vec::with_capacity(alloc, values.len())?;
     for value in values {
@@ -425,17 +404,40 @@ fn have_signals(links: &[Option<LinkNames>]) -> bool
     false
 }
 
-/// The name of the clock, which is asked for if some link has signals.
-fn clock_by(has_signals: bool, name: Option<&[u8]>) -> Result<&[u8], KeyFault>
-    ensures { GivesNames (λ text. text.now) result (clock_by has_signals (option_map (λ name. name.now) name.entry)) }
+/// Whether a link has signals, and no clock of its own.
+fn has_no_clock(link: &Option<LinkNames>) -> bool
+    ensures { result ≡ has_no_clock (link_view link.now) }
+{
+    match link {
+        Some(names) => names.clock.clock.is_none(),
+        None => false,
+    }
+}
+
+/// Whether some link of a kind has signals, and no clock of its own.
+fn need_clock(links: &[Option<LinkNames>]) -> bool
+    ensures { result ≡ need_clock (map link_view links.now) }
+{
+    for link in links {
+        if has_no_clock(link) {
+            return true;
+        }
+    }
+    false
+}
+
+/// Some link has to have signals, and then the system a clock, if one of them needs it.
+fn check_clock(has_signals: bool, needed: bool, clock: &Option<Vec<u8>>) -> Result<(), KeyFault>
+    ensures { GivesNames (λ done. done) result
+        (clock_checked has_signals needed (option_map (λ name. name.items) clock.now)) }
 {
     if !has_signals {
         return Err(KeyFault::NoSignals);
     }
-    match name {
-        Some(name) => Ok(name),
-        None => Err(KeyFault::Missing(SignalKey::Clock)),
+    if needed && clock.is_none() {
+        return Err(KeyFault::Missing(SignalKey::Clock));
     }
+    Ok(())
 }
 
 /// How the signals of all links are called.
@@ -455,22 +457,20 @@ fn naming_of(table: &Table) -> Result<Naming<'_>, KeyFault>
 fn names_of_table(alloc: Global, table: &Table) -> Result<SignalNames, KeyFault>
     ensures { GivesNames names_view result (all_names_of (table_view table.now)) }
 {
-    let clock = text_if_any(table, SignalKey::Clock)?;
-    let reset = match text_if_any(table, SignalKey::Reset)? {
-        Some(reset) => Some(Vec::from_slice(alloc, reset)?),
-        None => None,
+    let system = clock_names(alloc, table, SignalKey::Reset, Edge::Rising, false)?;
+    let top = Common {
+        system: &system,
+        naming: naming_of(table)?,
     };
-    let is_low = read_is_low(table)?;
-    let edge = read_edge(table)?;
-    let naming = naming_of(table)?;
-    let ports = links_at(alloc, naming, table, SignalKey::Port)?;
-    let masters = links_at(alloc, naming, table, SignalKey::Master)?;
-    let named = clock_by(have_signals(&ports) || have_signals(&masters), clock)?;
+    let ports = links_at(alloc, top, table, SignalKey::Port)?;
+    let masters = links_at(alloc, top, table, SignalKey::Master)?;
+    check_clock(
+        have_signals(&ports) || have_signals(&masters),
+        need_clock(&ports) || need_clock(&masters),
+        &system.clock,
+    )?;
     Ok(SignalNames {
-        clock: Vec::from_slice(alloc, named)?,
-        edge,
-        reset,
-        is_low,
+        system,
         ports,
         masters,
     })

@@ -1,7 +1,7 @@
 //! Where the signals of a crossbar are in a dump.
 //!
-//! [`read_names`] reads the names that a system file gives (`specs/Names.antt`): those of the clock and of the reset, and
-//! of the signals of each link, behind its prefixes (`specs/Prefixes.antt`) or by its wires. [`find_signals`] finds them
+//! [`read_names`] reads the names that a system file gives (`specs/Names.antt`): those of the system's clock and reset, and
+//! of each link: of its own clock and reset, and of its signals, behind its prefixes (`specs/Prefixes.antt`) or by its wires. [`find_signals`] finds them
 //! among the signals that a dump declares. What one name finds is in `specs/Source.antt`, with the wires that it means
 //! (`specs/Wires.antt`) and how many bits each signal has by the bus of its link (`specs/Wanted.antt`). Of a net that is
 //! declared bit by bit it is several parts (`specs/Nets.antt`), and of a wire that names several signals too
@@ -10,6 +10,8 @@
 //! Read on in `docs/CAPTURE.md`, "Your own design".
 #![tactic(auto)]
 
+mod clocks;
+mod domains;
 mod fault;
 mod kept;
 mod keys;
@@ -23,6 +25,7 @@ mod source;
 mod wanted;
 mod wires;
 
+pub use clocks::ClockNames;
 pub use fault::{KeyFault, SignalKey};
 pub use keys::{LinkNames, MAX_PARTS, SIGNALS, SignalName, SignalNames, read_names};
 pub use parts::LinkSignal;

@@ -2,11 +2,12 @@
 ghost use Rattle.std.specs.Prelude.{[], ◌≡◌, ◌+◌, ◌++◌, IfOk, OnOk, map, option_map};
 ghost use Rattle.check_beats.specs.Bus.{bus_bytes};
 ghost use Rattle.check_vcd.specs.Header.{var_view};
-ghost use Rattle.check_signals.specs.Found.{bits_in, channel_pairs, channels_of_link, in_order, joined_bits, joins_in, joins_of, link_at, link_bits, link_joins, link_sources_view, links_from, links_view, names_at, owner_of, signals_named, sources_of, tap_of, taps_from};
-ghost use Rattle.check_signals.specs.Names.{link_view, name_view};
+ghost use Rattle.check_signals.specs.Found.{bits_in, channel_pairs, channels_of_link, clocks_view, in_order, joined_bits, joins_in, joins_of, link_at, link_bits, link_joins, link_sources_view, links_from, links_view, named_sources, names_at, owner_of, signals_named, sources_of, tap_of, taps_from};
+ghost use Rattle.check_signals.specs.Names.{link_names_view, link_view, name_view};
 ghost use Rattle.check_signals.specs.Parts.{signals_view};
 ghost use Rattle.check_signals.specs.Source.{Finds, kept_view, source_view};
 
+use crate::domains::{ClockSources, clock_sources, domain_place};
 use crate::kept::{push_taps, tap_by};
 use crate::keys::{LinkNames, SIGNALS, SignalName};
 use crate::parts::{LinkSignal, Parts, parts_bits, signal_parts};
@@ -19,10 +20,11 @@ use check_vcd::Var;
 use check_watch::Link;
 use std::alloc::{AllocError, Global};
 
-/// A link, and the parts of its signals that their names find.
+/// A link, what the names of its own clock and reset find, and the parts of its signals that their names find.
 #[derive(Debug, Drop)]
 pub(crate) struct LinkSources<'a> {
     pub(crate) link: Link,
+    pub(crate) clock: ClockSources<'a>,
     pub(crate) signals: Vec<Parts<'a>>,
 }
 
@@ -95,10 +97,32 @@ fn sources_of<'a>(
 
 /// The names of the signals of the link of this number, if it has any.
 fn names_at(links: &[Option<LinkNames>], number: usize) -> Option<&LinkNames>
-    ensures { option_map (λ names. map name_view names.now.items) result
+    ensures { option_map (λ names. link_names_view names.now) result
         ≡ names_at (map link_view links.now) number }
 {
     links.get(number)?.as_ref()
+}
+
+/// What the names of a link find, or the first fault: its own clock and reset first.
+#[tactic(auto, unfolding(crate::specs::Found::named_sources))]
+fn named_sources<'a>(
+    alloc: Global,
+    vars: &'a [Var],
+    link: Link,
+    bus: Bus,
+    names: &'a LinkNames,
+) -> Result<LinkSources<'a>, SignalFault>
+    ensures { Finds link_sources_view result
+        (named_sources (map var_view vars.now) link (bus_bytes bus) (link_names_view names.now)) }
+{
+    let owner = owner_of(link);
+    let clock = clock_sources(alloc, vars, owner, &names.clock)?;
+    let signals = sources_of(alloc, vars, owner, bus, &names.signals)?;
+    Ok(LinkSources {
+        link,
+        clock,
+        signals,
+    })
 }
 
 /// What the names of the links of a kind find, or the first fault. The links are those that have these buses.
@@ -108,7 +132,7 @@ pub(crate) fn links_of<'a>(
     vars: &'a [Var],
     is_port: bool,
     buses: &[Bus],
-    links: &[Option<LinkNames>],
+    links: &'a [Option<LinkNames>],
 ) -> Result<Vec<LinkSources<'a>>, SignalFault>
     ensures { Finds links_view result
         (links_from (map var_view vars.now) is_port (map link_view links.now) 0 buses.now) }
@@ -117,16 +141,15 @@ pub(crate) fn links_of<'a>(
     for (number, bus) in buses.iter().enumerate() {
         if let Some(names) = names_at(links, number) {
             let link = link_at(is_port, number);
-            let signals = sources_of(alloc, vars, owner_of(link), *bus, names)?;
-            found.push(LinkSources { link, signals })?;
+            found.push(named_sources(alloc, vars, link, *bus, names)?)?;
         }
     }
     Ok(found)
 }
 
-/// The channels of a link whose signals are kept there, in the order of the names.
-fn channels_of_link(link: Link, taps: &[Tap]) -> Option<Pair>
-    ensures { result ≡ channels_of_link link taps.now }
+/// The channels of a link whose domain has this place, and whose signals are kept there, in the order of the names.
+fn channels_of_link(link: Link, domain: usize, taps: &[Tap]) -> Option<Pair>
+    ensures { result ≡ channels_of_link link domain taps.now }
 {
     let [
         a_valid,
@@ -154,6 +177,7 @@ fn channels_of_link(link: Link, taps: &[Tap]) -> Option<Pair>
     };
     let ask = Channel {
         link,
+        domain,
         valid: *a_valid,
         ready: *a_ready,
         beat: BeatTaps::A(AskTaps {
@@ -169,6 +193,7 @@ fn channels_of_link(link: Link, taps: &[Tap]) -> Option<Pair>
     };
     let reply = Channel {
         link,
+        domain,
         valid: *d_valid,
         ready: *d_ready,
         beat: BeatTaps::D(ReplyTaps {
@@ -245,15 +270,17 @@ fn taps_of(
     Ok(taps)
 }
 
-/// The channels of links. What their signals put together stands behind what is so already.
+/// The channels of links, whose domains are these. What their signals put together stands behind what is so already.
 pub(crate) fn channel_pairs(
     alloc: Global,
     kept: &[Kept<'_>],
+    clocks: &[ClockSources<'_>],
     joins: &mut Joins,
     links: &[LinkSources<'_>],
 ) -> Result<Vec<Pair>, AllocError>
     ensures pairs { IfOk result (λ pairs. pairs.items
-        ≡ channel_pairs (map kept_view kept.now) joins.old.bits (map link_sources_view links.now)) }
+        ≡ channel_pairs (map kept_view kept.now) (map clocks_view clocks.now) joins.old.bits
+        (map link_sources_view links.now)) }
     ensures taps { OnOk result (joins.new.taps.items
         ≡ joins.old.taps.items ++ link_joins (map kept_view kept.now) (map link_sources_view links.now)) }
     ensures bits { OnOk result (joins.new.bits ≡ joins.old.bits + link_bits (map link_sources_view links.now)) }
@@ -261,7 +288,8 @@ pub(crate) fn channel_pairs(
     let mut pairs = Vec::with_capacity(alloc, links.len())?;
     for link in links {
         let taps = taps_of(alloc, kept, joins, &link.signals)?;
-        if let Some(pair) = channels_of_link(link.link, &taps) {
+        let domain = domain_place(clocks, link.clock.names);
+        if let Some(pair) = channels_of_link(link.link, domain, &taps) {
             pairs.push(pair)?;
         }
     }

@@ -1,87 +1,76 @@
 //! Finds the signals that a system file names among those that a dump declares.
 ghost use Rattle.std.specs.Prelude.{◌≡◌, ◌≢◌, [], ◌++◌, ◌∷◌, Err, IfOk, MatchResult, OnOk, map, option_map};
-ghost use Rattle.tl_text.specs.Reading.{if_any};
 ghost use Rattle.check_vcd.specs.Header.{var_view};
 ghost use Rattle.check_samples.specs.Digits.{unknown};
 ghost use Rattle.check_samples.specs.Values.{all_before, all_now, all_widths, kept_before};
-ghost use Rattle.check_signals.specs.Found.{IsFound, IsResolved, all_of, code_in, codes_view, digits_in, flat, found_in, found_of, link_sources_view, reset_by, sources_in, sources_view, system_source, width_in};
+ghost use Rattle.check_signals.specs.Found.{IsFound, IsResolved, all_clocks, all_of, clocks_of, clocks_view, code_in, codes_view, digits_in, flat, found_in, found_of, link_sources_view, of_link, sources_in, sources_view, width_in, with_lines};
 ghost use Rattle.check_signals.specs.Names.{names_view};
 ghost use Rattle.check_signals.specs.Source.{Finds, fault_view, kept_view, source_view};
 ghost use Rattle.check_signals.specs.declared.signal_fault.SignalFault.TheVariants.{Memory};
 
-use crate::kept::{tap_by, values_kept};
+use crate::domains::{ClockSources, clock_sources, clocks_of_links, domains_of};
+use crate::kept::values_kept;
 use crate::keys::SignalNames;
 use crate::links::{Joins, LinkSources, channel_pairs, in_order, links_of};
-use crate::nets::{named_in, one_of};
 use crate::parts::push_parts;
 use crate::signal_fault::{SignalFault, SignalOwner};
-use crate::source::{Kept, Source, WantedSignal};
-use crate::wanted::Wanted;
+use crate::source::{Kept, Source};
 use check_rows::Buses;
-use check_samples::{Clock, Edge, Probes, Reset, Values};
+use check_samples::{Probes, Values};
 use check_vcd::Var;
 use std::alloc::{AllocError, Global};
 
-/// What the names of a system file find: those of the clock, of the reset, and of the signals of each link.
+/// What the names of a system file find: those of the system's clock and reset, and those of each link.
 #[derive(Drop)]
 struct Sources<'a> {
-    clock: Source<'a>,
-    reset: Option<Source<'a>>,
+    system: ClockSources<'a>,
     ports: Vec<LinkSources<'a>>,
     masters: Vec<LinkSources<'a>>,
 }
 
-/// What the name of the clock or of the reset finds.
-fn system_source<'a>(alloc: Global, vars: &'a [Var], name: &[u8]) -> Result<Source<'a>, SignalFault>
-    ensures { Finds source_view result (system_source (map var_view vars.now) name.now) }
-{
-    let asked = WantedSignal {
-        owner: SignalOwner::System,
-        name,
-        is_prefixed: false,
-        wanted: Wanted::AtMost(1),
-    };
-    let parts = named_in(alloc, vars, asked)?;
-    one_of(alloc, asked, &parts)
-}
-
-/// What the name of the reset finds, if there is one.
-fn reset_source<'a>(
-    alloc: Global,
-    vars: &'a [Var],
-    name: &Option<Vec<u8>>,
-) -> Result<Option<Source<'a>>, SignalFault>
-    ensures { Finds (option_map source_view) result
-        (if_any (system_source (map var_view vars.now)) (option_map (λ name. name.items) name.now)) }
-{
-    match name {
-        Some(name) => Ok(Some(system_source(alloc, vars, name)?)),
-        None => Ok(None),
-    }
-}
-
-/// What the names of a system file find, or the first fault: the clock, the reset, and then port by port and master by
-/// master the signals of its link.
+/// What the names of a system file find, or the first fault: the system's clock and reset, and then port by port and master
+/// by master those of its link and its signals.
 #[tactic(auto, unfolding(crate::specs::Found::sources_in))]
 fn sources_in<'a>(
     alloc: Global,
     vars: &'a [Var],
     buses: &Buses<'_>,
-    names: &SignalNames,
+    names: &'a SignalNames,
 ) -> Result<Sources<'a>, SignalFault>
     ensures { Finds sources_view result (sources_in (map var_view vars.now)
         buses.now.masters.now buses.now.ports.now (names_view names.now)) }
 {
-    let clock = system_source(alloc, vars, &names.clock)?;
-    let reset = reset_source(alloc, vars, &names.reset)?;
+    let system = clock_sources(alloc, vars, SignalOwner::System, &names.system)?;
     let ports = links_of(alloc, vars, true, buses.ports, &names.ports)?;
     let masters = links_of(alloc, vars, false, buses.masters, &names.masters)?;
     Ok(Sources {
-        clock,
-        reset,
+        system,
         ports,
         masters,
     })
+}
+
+/// Appends a clock and a reset, as far as there are any.
+fn push_lines<'a>(all: &mut Vec<Source<'a>>, own: ClockSources<'a>) -> Result<(), AllocError>
+    ensures { OnOk result (map source_view all.new.items
+        ≡ map source_view all.old.items ++ with_lines (clocks_view own.entry) []) }
+{
+    if let Some(clock) = own.clock {
+        all.push(clock)?;
+    }
+    if let Some(reset) = own.reset {
+        all.push(reset)?;
+    }
+    Ok(())
+}
+
+/// Appends the sources of a link.
+fn push_link<'a>(all: &mut Vec<Source<'a>>, link: &LinkSources<'a>) -> Result<(), AllocError>
+    ensures { OnOk result (map source_view all.new.items
+        ≡ map source_view all.old.items ++ of_link (link_sources_view link.now)) }
+{
+    push_lines(all, link.clock)?;
+    push_parts(all, &link.signals)
 }
 
 /// Appends the sources of links.
@@ -90,7 +79,7 @@ fn push_links<'a>(all: &mut Vec<Source<'a>>, links: &[LinkSources<'a>]) -> Resul
         ≡ map source_view all.old.items ++ flat (map link_sources_view links.now)) }
 {
     for link in links {
-        push_parts(all, &link.signals)?;
+        push_link(all, link)?;
     }
     Ok(())
 }
@@ -100,10 +89,7 @@ fn all_of<'a>(alloc: Global, sources: &Sources<'a>) -> Result<Vec<Source<'a>>, A
     ensures { IfOk result (λ all. map source_view all.items ≡ all_of (sources_view sources.now)) }
 {
     let mut all = Vec::new(alloc);
-    all.push(sources.clock)?;
-    if let Some(reset) = sources.reset {
-        all.push(reset)?;
-    }
+    push_lines(&mut all, sources.system)?;
     push_links(&mut all, &sources.ports)?;
     push_links(&mut all, &sources.masters)?;
     Ok(all)
@@ -155,41 +141,44 @@ pub struct Resolved {
     pub codes: Vec<Option<Vec<u8>>>,
 }
 
-/// Where the reset is kept, if there is one.
-fn reset_by(kept: &[Kept<'_>], reset: Option<Source<'_>>, is_low: bool) -> Option<Reset>
-    ensures { result ≡ reset_by (map kept_view kept.now) is_low (option_map source_view reset.entry) }
+/// The clocks and resets of links, each once.
+fn all_clocks<'a>(alloc: Global, sources: &Sources<'a>) -> Result<Vec<ClockSources<'a>>, AllocError>
+    ensures { IfOk result (λ clocks. map clocks_view clocks.items ≡ all_clocks (sources_view sources.now)) }
 {
-    match reset {
-        Some(reset) => Some(Reset {
-            tap: tap_by(kept, reset),
-            is_low,
-        }),
-        None => None,
+    let mut links = Vec::new(alloc);
+    push_own(&mut links, &sources.ports)?;
+    push_own(&mut links, &sources.masters)?;
+    clocks_of_links(alloc, sources.system.names, &links)
+}
+
+/// Appends the clocks and resets of links.
+fn push_own<'a>(
+    all: &mut Vec<ClockSources<'a>>,
+    links: &[LinkSources<'a>],
+) -> Result<(), AllocError>
+    ensures { OnOk result (map clocks_view all.new.items
+        ≡ map clocks_view all.old.items ++ clocks_of (map link_sources_view links.now)) }
+{
+    for link in links {
+        all.push(link.clock)?;
     }
+    Ok(())
 }
 
 /// What is looked at and kept of these sources.
-fn resolved_of(
-    alloc: Global,
-    edge: Edge,
-    is_low: bool,
-    sources: &Sources<'_>,
-) -> Result<Resolved, AllocError>
-    ensures { IfOk result (λ resolved. IsResolved resolved (found_of edge is_low (sources_view sources.now))) }
+fn resolved_of(alloc: Global, sources: &Sources<'_>) -> Result<Resolved, AllocError>
+    ensures { IfOk result (λ resolved. IsResolved resolved (found_of (sources_view sources.now))) }
 {
     let all = all_of(alloc, sources)?;
     let kept = values_kept(alloc, &all)?;
+    let clocks = all_clocks(alloc, sources)?;
     let mut joins = Joins::new(alloc);
-    let ports = channel_pairs(alloc, &kept, &mut joins, &sources.ports)?;
-    let masters = channel_pairs(alloc, &kept, &mut joins, &sources.masters)?;
+    let ports = channel_pairs(alloc, &kept, &clocks, &mut joins, &sources.ports)?;
+    let masters = channel_pairs(alloc, &kept, &clocks, &mut joins, &sources.masters)?;
     let values = values_of(alloc, &kept, joins.bits)?;
     Ok(Resolved {
         probes: Probes {
-            clock: Clock {
-                tap: tap_by(&kept, sources.clock),
-                edge,
-            },
-            reset: reset_by(&kept, sources.reset, is_low),
+            domains: domains_of(alloc, &kept, sources.system, &clocks)?,
             joins: joins.taps,
             channels: in_order(alloc, &ports, &masters)?,
         },
@@ -198,8 +187,8 @@ fn resolved_of(
     })
 }
 
-/// Finds the signals that a system file names among those that a dump declares: the clock, the reset, and then port by
-/// port and master by master those of its link. The links are those that have a bus, which says how many bits of mask
+/// Finds the signals that a system file names among those that a dump declares: the system's clock and reset, and then port
+/// by port and master by master those of its link. The links are those that have a bus, which says how many bits of mask
 /// and data they have.
 #[tactic(auto, unfolding(crate::specs::Found::found_in))]
 pub fn find_signals(
@@ -215,5 +204,5 @@ pub fn find_signals(
         ≡ Err (fault_view fault)) }
 {
     let sources = sources_in(alloc, vars, buses, names)?;
-    Ok(resolved_of(alloc, names.edge, names.is_low, &sources)?)
+    Ok(resolved_of(alloc, &sources)?)
 }

@@ -97,7 +97,7 @@ pub(crate) fn width_of(vars: &[Var], code: &[u8]) -> u64
 }
 
 /// A text that may be absent, copied.
-fn copy_if_any(alloc: Global, text: Option<&[u8]>) -> Result<Option<Vec<u8>>, AllocError>
+pub(crate) fn copy_if_any(alloc: Global, text: Option<&[u8]>) -> Result<Option<Vec<u8>>, AllocError>
     ensures { IfOk result (λ copy. option_map (λ copy. copy.items) copy ≡ option_map (λ text. text.now) text.entry) }
 {
     match text {

@@ -267,17 +267,18 @@ values-none wave =
 -- what a change leaves as it is
 pub record IsKept (after before : Sampling) : Type 0 where
   pub time : after.time ≡ before.time
-  pub probes : after.probes ≡ before.probes
+  pub joins : after.joins ≡ before.joins
+  pub channels : after.channels ≡ before.channels
   pub widths : after.widths ≡ before.widths
   pub earlier : after.before ≡ before.before
-  pub edges : after.edges ≡ before.edges
+  pub watched : after.watched ≡ before.watched
 
 pub value-kept : (s : Sampling) (slot : ℕ) (digits : List ℕ) → IsKept (with_value s slot digits) s
 value-kept s slot digits = go (nat_lt slot (length s.now))
   where
     go : (t : Bool) → IsKept (cond t (record s { now = set_extended s.widths s.now slot digits }) s) s
-    go true = record { time = refl; probes = refl; widths = refl; earlier = refl; edges = refl }
-    go false = record { time = refl; probes = refl; widths = refl; earlier = refl; edges = refl }
+    go true = record { time = refl; joins = refl; channels = refl; widths = refl; earlier = refl; watched = refl }
+    go false = record { time = refl; joins = refl; channels = refl; widths = refl; earlier = refl; watched = refl }
 
 -- and what it changes
 pub now-push : (wave : Wave) (past : List ValueChange) (s : Sampling) (change : ValueChange) → s.now ≡ values_after wave past

@@ -7,10 +7,7 @@ use Rattle.toml.specs.Data.{Data, Items, Members, as_array, get_member}
 use Rattle.toml.specs.Parse.{parse_document}
 use Rattle.tl_script.specs.Value.{list_of}
 use Rattle.tl_map.specs.declared.limits.TheConstants.{MAX_JUDGED_MASTERS, MAX_JUDGED_PORTS}
-use Rattle.check_signals.specs.Names.{SignalName, SignalNames, all_names, clock_by, have_signals, is_low_in, link_of, links_by, links_in, names_of_file, edge_in, naming_in}
-use Rattle.check_signals.specs.Prefixes.{Naming}
-use Rattle.check_samples.specs.declared.clock.Edge.{Edge}
-use Rattle.check_signals.specs.Values.{optional_text}
+use Rattle.check_signals.specs.Names.{Common, LinkNames, SignalNames, all_names, clock_checked, common_in, have_signals, link_of, links_by, links_in, names_of_file, need_clock}
 use Rattle.check_signals.specs.declared.fault.SignalKey.{SignalKey}
 use Rattle.check_signals.specs.declared.fault.SignalKey.TheVariants as key
 use Rattle.check_signals.specs.declared.fault.KeyFault.{KeyFault}
@@ -72,69 +69,50 @@ one-table file names parts named divided =
     go false true (Some members) x y = record { members = members; named = x; divided = y }
     go false false read x y = absurd (cc)
 
--- the links of each kind, by how the whole file calls their signals
+-- the links of each kind, by what the file says of all links
 record Links (members : Members) (names : SignalNames) : Type 0 where
-  naming : Naming
-  ports : links_in naming key.Port members ≡ Ok names.ports
-  masters : links_in naming key.Master members ≡ Ok names.masters
+  top : Common
+  ports : links_in top key.Port members ≡ Ok names.ports
+  masters : links_in top key.Master members ≡ Ok names.masters
 
 links-are : (members : Members) (names : SignalNames) → all_names members ≡ Ok names → Links members names
 unfolding all_names
-links-are members names is =
-    go (optional_text key.Clock members) (optional_text key.Reset members) (is_low_in members)
-    (edge_in members) (naming_in members) is
+links-are members names is = go (common_in members) is
   where
-    by : (c r : Option (List ℕ)) (l : Bool) (edge : Edge) (naming : Naming) (p m : Result (List (Option (List SignalName))) KeyFault)
-        → links_in naming key.Port members ≡ p → links_in naming key.Master members ≡ m
+    by : (top : Common) (p m : Result (List (Option LinkNames)) KeyFault)
+        → links_in top key.Port members ≡ p → links_in top key.Master members ≡ m
         → ◌>>=◌ p (λ of_ports. ◌>>=◌ m (λ of_masters.
-        ◌>>=◌ (clock_by (have_signals of_ports || have_signals of_masters) c)
-        (λ named. Ok (record {
-          clock = named;
-          edge = edge;
-          reset = r;
-          is_low = l;
-          ports = of_ports;
-          masters = of_masters;
-        })))) ≡ Ok names
+        ◌>>=◌ (clock_checked (have_signals of_ports || have_signals of_masters)
+        (need_clock of_ports || need_clock of_masters) top.system.clock)
+        (λ checked. Ok (record { system = top.system; ports = of_ports; masters = of_masters })))) ≡ Ok names
         → Links members names
-    by c r l edge naming (Err e) m x y w = absurd (cc)
-    by c r l edge naming (Ok p) (Err e) x y w = absurd (cc)
-    by c r l edge naming (Ok p) (Ok m) x y w = last (clock_by (have_signals p || have_signals m) c) w
+    by top (Err e) m x y w = absurd (cc)
+    by top (Ok p) (Err e) x y w = absurd (cc)
+    by top (Ok p) (Ok m) x y w =
+        last (clock_checked (have_signals p || have_signals m) (need_clock p || need_clock m) top.system.clock) w
       where
-        last : (n : Result (List ℕ) KeyFault)
-            → ◌>>=◌ n (λ named. Ok (record { clock = named; edge = edge; reset = r; is_low = l; ports = p; masters = m })) ≡ Ok names
+        last : (n : Result Unit KeyFault)
+            → ◌>>=◌ n (λ checked. Ok (record { system = top.system; ports = p; masters = m })) ≡ Ok names
             → Links members names
         last (Err e) z = absurd (cc)
-        last (Ok named) z =
-            let made : SignalNames = record { clock = named; edge = edge; reset = r; is_low = l; ports = p; masters = m } in
+        last (Ok checked) z =
+            let made : SignalNames = record { system = top.system; ports = p; masters = m } in
             let same : made ≡ names = cc in
             record {
-              naming = naming;
+              top = top;
               ports = x ∙ ap (λ (n : SignalNames). Ok n.ports) same;
               masters = y ∙ ap (λ (n : SignalNames). Ok n.masters) same;
             }
 
-    go : (c r : Result (Option (List ℕ)) KeyFault) (l : Result Bool KeyFault) (g : Result Edge KeyFault) (n : Result Naming KeyFault)
-        → ◌>>=◌ c (λ clock. ◌>>=◌ r (λ reset. ◌>>=◌ l (λ is_low. ◌>>=◌ g (λ edge. ◌>>=◌ n (λ naming.
-        ◌>>=◌ (links_in naming key.Port members) (λ of_ports.
-        ◌>>=◌ (links_in naming key.Master members) (λ of_masters.
-        ◌>>=◌ (clock_by (have_signals of_ports || have_signals of_masters) clock)
-        (λ named. Ok (record {
-          clock = named;
-          edge = edge;
-          reset = reset;
-          is_low = is_low;
-          ports = of_ports;
-          masters = of_masters;
-        }))))))))) ≡ Ok names
+    go : (c : Result Common KeyFault)
+        → ◌>>=◌ c (λ top. ◌>>=◌ (links_in top key.Port members) (λ of_ports.
+        ◌>>=◌ (links_in top key.Master members) (λ of_masters.
+        ◌>>=◌ (clock_checked (have_signals of_ports || have_signals of_masters)
+        (need_clock of_ports || need_clock of_masters) top.system.clock)
+        (λ checked. Ok (record { system = top.system; ports = of_ports; masters = of_masters }))))) ≡ Ok names
         → Links members names
-    go (Err e) r l g n w = absurd (cc)
-    go (Ok c) (Err e) l g n w = absurd (cc)
-    go (Ok c) (Ok r) (Err e) g n w = absurd (cc)
-    go (Ok c) (Ok r) (Ok l) (Err e) n w = absurd (cc)
-    go (Ok c) (Ok r) (Ok l) (Ok edge) (Err e) w = absurd (cc)
-    go (Ok c) (Ok r) (Ok l) (Ok edge) (Ok naming) w =
-        by c r l edge naming (links_in naming key.Port members) (links_in naming key.Master members) refl refl w
+    go (Err e) w = absurd (cc)
+    go (Ok top) w = by top (links_in top key.Port members) (links_in top key.Master members) refl refl w
 
 -- the parts of each kind
 record Divided (members : Members) (parts : Parts) : Type 0 where
@@ -178,7 +156,7 @@ parts-are members parts is = go (bus_in_table Eight members) (rules_in members) 
 -- ---- the values at a key
 
 -- as many links as the array at a key has values
-link-values : (top : Naming) (which : SignalKey) (value : Data) (links : List (Option (List SignalName)))
+link-values : (top : Common) (which : SignalKey) (value : Data) (links : List (Option LinkNames))
     → links_by top which (Some value) ≡ Ok links
     → (items : Items) × (as_array value ≡ Some items) × (length (list_of items) ≡ length links)
 link-values top which value links is = go (as_array value) refl is
@@ -218,7 +196,7 @@ few which most xs ys is = go (nat_lt most (length xs)) refl is
 
 -- ---- the counts
 
-ports-same : (bus : Bus) (top : Naming) (members : Members) (links : List (Option (List SignalName))) (of_ports : List Port)
+ports-same : (bus : Bus) (top : Common) (members : Members) (links : List (Option LinkNames)) (of_ports : List Port)
     → links_in top key.Port members ≡ Ok links → ports_of bus members ≡ Ok of_ports
     → (length links ≡ length of_ports) × (length of_ports ≤ MAX_JUDGED_PORTS)
 unfolding links_in ports_of port_tables
@@ -253,7 +231,7 @@ ports-same bus top members links of_ports named divided =
 abbrev counted : Data → Result (List Members) SystemFault
 counted value = tables_of part.Master value >>= one_up_to part.Master MAX_JUDGED_MASTERS
 
-masters-same : (bus : Bus) (top : Naming) (ports : List (Option (List ℕ))) (members : Members) (links : List (Option (List SignalName))) (of_masters : List Master)
+masters-same : (bus : Bus) (top : Common) (ports : List (Option (List ℕ))) (members : Members) (links : List (Option LinkNames)) (of_masters : List Master)
     → links_in top key.Master members ≡ Ok links → masters_of bus ports members ≡ Ok of_masters
     → (length links ≡ length of_masters) × (length of_masters ≤ MAX_JUDGED_MASTERS)
 unfolding links_in masters_of master_tables value_at
@@ -309,8 +287,8 @@ same-counts file names parts system is makes named =
     let table = one-table file names parts named is in
     let links = links-are table.members names table.named in
     let divided = parts-are table.members parts table.divided in
-    let of_ports = ports-same divided.bus links.naming table.members names.ports parts.ports links.ports divided.ports in
-    let of_masters = masters-same divided.bus links.naming (names_of_ports parts.ports) table.members names.masters parts.masters links.masters divided.masters in
+    let of_ports = ports-same divided.bus links.top table.members names.ports parts.ports links.ports divided.ports in
+    let of_masters = masters-same divided.bus links.top (names_of_ports parts.ports) table.members names.masters parts.masters links.masters divided.masters in
     let ports_are = ap (λ (xs : List Port). length xs) makes.ports in
     let masters_are = ap (λ (xs : List Master). length xs) makes.masters in
     record {

@@ -220,7 +220,7 @@ opened-fit (word ∷ words) h vars rest whole is =
 pub dump-rows : (masters ports : List Bus) (line : ℕ) (text : List ℕ) (vars : List Var) (words : List Word) (find : Find)
     (s : Sampling) → length masters < 2 ^ 64 → length ports < 2 ^ 64 → opening (dump_words text) blank ≡ Opened vars words → FindFits s.widths find
     → SamplingFits masters ports s
-    → HasRows masters ports s.probes.channels line (rows_from (happenings find words start) s).text
+    → HasRows masters ports s.channels line (rows_from (happenings find words start) s).text
 dump-rows masters ports line text vars words find s few_masters few_ports opened fit fits =
     readable-from masters ports few_masters few_ports (happenings find words start) s fits
     (happens-fit s.widths find fit words start (opened-fit (dump_words text) blank vars words (words-fit text) opened)

@@ -5,7 +5,8 @@ use Rattle.std.proofs.lemmas.List.Elements.{Contains-append_cases}
 use Rattle.std.proofs.lemmas.Option.{same_Some}
 use Rattle.std.proofs.lemmas.Slice.Eq.{bytes_eq-Decides}
 use Rattle.check_samples.specs.Digits.{bits_of, joined_of, part_if_any, with_joined}
-use Rattle.check_samples.specs.Rows.{Rows, and_then, crosses, followed_by, hand_alone, has_edge, is_active, is_early, is_late, is_one, is_unsure, is_zero, no_rows, ready_of, row_alone, row_at, rows_at, rows_of, ticks, unknown_hand, valid_of}
+use Rattle.check_samples.specs.Rows.{Dues, Rows, and_then, crosses, due_at, followed_by, hand_alone, has_edge, is_active, is_early, is_late, is_one, is_unsure, is_zero, no_rows, ready_of, row_alone, row_at, rows_due, rows_of, ticks, unknown_hand, valid_of}
+use Rattle.check_samples.specs.Domain.{Domain}
 use Rattle.check_samples.specs.declared.channel.Channel.{Channel}
 use Rattle.check_samples.specs.declared.channel.UnknownBit.{UnknownBit}
 use Rattle.check_samples.specs.declared.clock.Clock.{Clock}
@@ -74,20 +75,29 @@ order-append (beat ∷ beats) more first second across = (
 
 -- ---- one edge
 
--- a beat crosses at a channel, or its handshake is not known
-abbrev pub tells : Needs → List (List ℕ) → Channel → Bool
-tells needs values channel = crosses values channel || is_some (unknown_hand needs values channel)
+-- a beat crosses at a channel whose clock has an edge outside of reset, or its handshake is not known
+abbrev pub tells-by : Option Needs → List (List ℕ) → Channel → Bool
+tells-by None values channel = false
+tells-by (Some needs) values channel = crosses values channel || is_some (unknown_hand needs values channel)
+
+abbrev pub tells : Dues → List (List ℕ) → Channel → Bool
+tells dues values channel = tells-by (due_at dues channel.domain) values channel
 
 -- at a channel that tells nothing there are no rows
-rows-silent : (needs : Needs) (time : ℕ) (values : List (List ℕ)) (channel : Channel)
-    → tells needs values channel ≡ false → rows_at needs time values channel ≡ no_rows
-rows-silent needs time values channel is = go (crosses values channel) (unknown_hand needs values channel) is
+silent-by : (due : Option Needs) (time : ℕ) (values : List (List ℕ)) (channel : Channel)
+    → tells-by due values channel ≡ false → rows_due due time values channel ≡ no_rows
+silent-by None time values channel is = refl
+silent-by (Some needs) time values channel is = go (crosses values channel) (unknown_hand needs values channel) is
   where
     go : (c : Bool) (unknown : Option Signal) → (c || is_some unknown) ≡ false
         → cond c (row_alone time channel (row_at time values channel)) (hand_alone time channel unknown) ≡ no_rows
     go true unknown e = absurd (cc)
     go false None e = refl
     go false (Some which) e = absurd (cc)
+
+rows-silent : (dues : Dues) (time : ℕ) (values : List (List ℕ)) (channel : Channel) → tells dues values channel ≡ false
+    → rows_due (due_at dues channel.domain) time values channel ≡ no_rows
+rows-silent dues time values channel is = silent-by (due_at dues channel.domain) time values channel is
 
 -- what is unknown is what is hidden
 hand-is : (needs : Needs) (values : List (List ℕ)) (channel : Channel) (which : Signal)
@@ -115,9 +125,10 @@ hand-is needs values channel which is =
     go false false one off on e = absurd (cc)
 
 -- at one that tells something they are what it shows
-rows-told : (needs : Needs) (time : ℕ) (values : List (List ℕ)) (channel : Channel)
-    → tells needs values channel ≡ true → rows_at needs time values channel ≡ shown_row time values channel
-rows-told needs time values channel is =
+told-at : (due : Option Needs) (time : ℕ) (values : List (List ℕ)) (channel : Channel)
+    → tells-by due values channel ≡ true → rows_due due time values channel ≡ shown_row time values channel
+told-at None time values channel is = absurd (cc)
+told-at (Some needs) time values channel is =
     go (crosses values channel) (unknown_hand needs values channel) refl is
   where
     go : (c : Bool) (unknown : Option Signal) → unknown_hand needs values channel ≡ unknown
@@ -130,6 +141,10 @@ rows-told needs time values channel is =
     go false (Some which) at e =
         ap (λ (w : Signal). hand_alone time channel (Some w)) (hand-is needs values channel which at)
 
+rows-told : (dues : Dues) (time : ℕ) (values : List (List ℕ)) (channel : Channel) → tells dues values channel ≡ true
+    → rows_due (due_at dues channel.domain) time values channel ≡ shown_row time values channel
+rows-told dues time values channel is = told-at (due_at dues channel.domain) time values channel is
+
 abbrev pub beat-of : ℕ → ℕ → Channel → SampledBeat
 beat-of time place channel = record { time = time; place = place; channel = channel }
 
@@ -138,23 +153,23 @@ abbrev pub first-if : Bool → SampledBeat → List SampledBeat → List Sampled
 first-if t beat beats = cond t (beat ∷ beats) beats
 
 -- those that tell at a time, of channels of which the first has this place
-abbrev pub crossing : Wave → Needs → ℕ → ℕ → List Channel → List SampledBeat
-crossing wave needs time place [] = []
-crossing wave needs time place (channel ∷ channels) =
-    first-if (tells needs (values_before wave time) channel) (beat-of time place channel)
-    (crossing wave needs time (place + 1) channels)
+abbrev pub crossing : Wave → Dues → ℕ → ℕ → List Channel → List SampledBeat
+crossing wave dues time place [] = []
+crossing wave dues time place (channel ∷ channels) =
+    first-if (tells dues (values_before wave time) channel) (beat-of time place channel)
+    (crossing wave dues time (place + 1) channels)
 
 -- the beat is of one of these channels and tells then
-pub record Crosses (wave : Wave) (needs : Needs) (time place : ℕ) (channels : List Channel) (beat : SampledBeat) : Type 0 where
+pub record Crosses (wave : Wave) (dues : Dues) (time place : ℕ) (channels : List Channel) (beat : SampledBeat) : Type 0 where
   pub index : ℕ
   pub now : beat.time ≡ time
   pub spot : beat.place ≡ place + index
   pub is : slice_get channels index ≡ Some beat.channel
-  pub crossed : tells needs (values_before wave time) beat.channel ≡ true
+  pub crossed : tells dues (values_before wave time) beat.channel ≡ true
 
-module _ (wave : Wave) (needs : Needs) (time : ℕ) where
+module _ (wave : Wave) (dues : Dues) (time : ℕ) where
   crosses-on : (place : ℕ) (channel : Channel) (channels : List Channel) (beat : SampledBeat)
-      → Crosses wave needs time (place + 1) channels beat → Crosses wave needs time place (channel ∷ channels) beat
+      → Crosses wave dues time (place + 1) channels beat → Crosses wave dues time place (channel ∷ channels) beat
   crosses-on place channel channels beat one = record {
     index = suc one.index;
     now = one.now;
@@ -164,28 +179,28 @@ module _ (wave : Wave) (needs : Needs) (time : ℕ) where
   }
 
   crossing-one : (place : ℕ) (channel : Channel) (channels : List Channel) (beat : SampledBeat)
-      → ((other : SampledBeat) → Contains (crossing wave needs time (place + 1) channels) other
-      → Crosses wave needs time (place + 1) channels other)
-      → (t : Bool) → tells needs (values_before wave time) channel ≡ t
-      → Contains (first-if t (beat-of time place channel) (crossing wave needs time (place + 1) channels)) beat
-      → Crosses wave needs time place (channel ∷ channels) beat
+      → ((other : SampledBeat) → Contains (crossing wave dues time (place + 1) channels) other
+      → Crosses wave dues time (place + 1) channels other)
+      → (t : Bool) → tells dues (values_before wave time) channel ≡ t
+      → Contains (first-if t (beat-of time place channel) (crossing wave dues time (place + 1) channels)) beat
+      → Crosses wave dues time place (channel ∷ channels) beat
   crossing-one place channel channels beat more true is has =
-      go (here-or-there (beat-of time place channel) beat (crossing wave needs time (place + 1) channels) has)
+      go (here-or-there (beat-of time place channel) beat (crossing wave dues time (place + 1) channels) has)
     where
-      go : (beat-of time place channel ≡ beat) ⊎ Contains (crossing wave needs time (place + 1) channels) beat
-          → Crosses wave needs time place (channel ∷ channels) beat
+      go : (beat-of time place channel ≡ beat) ⊎ Contains (crossing wave dues time (place + 1) channels) beat
+          → Crosses wave dues time place (channel ∷ channels) beat
       go (inl same) =
-          subst (λ (b : SampledBeat). Crosses wave needs time place (channel ∷ channels) b) same
+          subst (λ (b : SampledBeat). Crosses wave dues time place (channel ∷ channels) b) same
           (record { index = 0; now = refl; spot = omega arith; is = refl; crossed = is })
       go (inr far) = crosses-on place channel channels beat (more beat far)
   crossing-one place channel channels beat more false is has = crosses-on place channel channels beat (more beat has)
 
   pub crossing-each : (place : ℕ) (channels : List Channel) (beat : SampledBeat)
-      → Contains (crossing wave needs time place channels) beat → Crosses wave needs time place channels beat
+      → Contains (crossing wave dues time place channels) beat → Crosses wave dues time place channels beat
   crossing-each place [] beat has = absurd (none-there beat has)
   crossing-each place (channel ∷ channels) beat has =
       crossing-one place channel channels beat (crossing-each (place + 1) channels)
-      (tells needs (values_before wave time) channel) refl has
+      (tells dues (values_before wave time) channel) refl has
 
   same-beat : (place : ℕ) (channel : Channel) (beat : SampledBeat) → beat.time ≡ time → beat.place ≡ place
       → channel ≡ beat.channel → beat-of time place channel ≡ beat
@@ -205,54 +220,54 @@ module _ (wave : Wave) (needs : Needs) (time : ℕ) where
 
   pub crossing-all : (place : ℕ) (channels : List Channel) (beat : SampledBeat) (index : ℕ) → beat.time ≡ time
       → beat.place ≡ place + index → slice_get channels index ≡ Some beat.channel
-      → tells needs (values_before wave time) beat.channel ≡ true → Contains (crossing wave needs time place channels) beat
+      → tells dues (values_before wave time) beat.channel ≡ true → Contains (crossing wave dues time place channels) beat
   crossing-all place [] beat index now at is crossed = absurd (cc)
   crossing-all place (channel ∷ channels) beat zero now at is crossed =
       let same : channel ≡ beat.channel = same_Some channel beat.channel is in
-      first-has (tells needs (values_before wave time) channel) (beat-of time place channel) beat
-      (crossing wave needs time (place + 1) channels)
-      (ap (λ (c : Channel). tells needs (values_before wave time) c) same ∙ crossed)
+      first-has (tells dues (values_before wave time) channel) (beat-of time place channel) beat
+      (crossing wave dues time (place + 1) channels)
+      (ap (λ (c : Channel). tells dues (values_before wave time) c) same ∙ crossed)
       (same-beat place channel beat now (omega (arith, at)) same)
   crossing-all place (channel ∷ channels) beat (suc index) now at is crossed =
-      rest-has (tells needs (values_before wave time) channel) (beat-of time place channel) beat
-      (crossing wave needs time (place + 1) channels)
+      rest-has (tells dues (values_before wave time) channel) (beat-of time place channel) beat
+      (crossing wave dues time (place + 1) channels)
       (crossing-all (place + 1) channels beat index now (omega (arith, at)) is crossed)
 
   later-place : (place : ℕ) (channel : Channel) (channels : List Channel) (later : SampledBeat)
-      → Contains (crossing wave needs time (place + 1) channels) later → Precedes (beat-of time place channel) later
+      → Contains (crossing wave dues time (place + 1) channels) later → Precedes (beat-of time place channel) later
   later-place place channel channels later has =
       let one = crossing-each (place + 1) channels later has in inr (sym one.now, omega (arith, one.spot))
 
-  pub crossing-order : (place : ℕ) (channels : List Channel) → AreInOrder (crossing wave needs time place channels)
+  pub crossing-order : (place : ℕ) (channels : List Channel) → AreInOrder (crossing wave dues time place channels)
   crossing-order place [] = tt
   crossing-order place (channel ∷ channels) =
-      go (tells needs (values_before wave time) channel) (crossing-order (place + 1) channels)
+      go (tells dues (values_before wave time) channel) (crossing-order (place + 1) channels)
     where
-      go : (t : Bool) → AreInOrder (crossing wave needs time (place + 1) channels)
-          → AreInOrder (first-if t (beat-of time place channel) (crossing wave needs time (place + 1) channels))
+      go : (t : Bool) → AreInOrder (crossing wave dues time (place + 1) channels)
+          → AreInOrder (first-if t (beat-of time place channel) (crossing wave dues time (place + 1) channels))
       go true rest = (later-place place channel channels, rest)
       go false rest = rest
 
   pub crossing-rows : (place : ℕ) (channels : List Channel)
-      → rows_of needs time (values_before wave time) channels
-      ≡ sampled_rows wave (crossing wave needs time place channels)
+      → rows_of dues time (values_before wave time) channels
+      ≡ sampled_rows wave (crossing wave dues time place channels)
   crossing-rows place [] = refl
   crossing-rows place (channel ∷ channels) =
-      go (tells needs (values_before wave time) channel) refl (crossing-rows (place + 1) channels)
+      go (tells dues (values_before wave time) channel) refl (crossing-rows (place + 1) channels)
     where
-      go : (t : Bool) → tells needs (values_before wave time) channel ≡ t
-          → rows_of needs time (values_before wave time) channels
-          ≡ sampled_rows wave (crossing wave needs time (place + 1) channels)
-          → and_then (rows_at needs time (values_before wave time) channel)
-          (rows_of needs time (values_before wave time) channels)
-          ≡ sampled_rows wave (first-if t (beat-of time place channel) (crossing wave needs time (place + 1) channels))
+      go : (t : Bool) → tells dues (values_before wave time) channel ≡ t
+          → rows_of dues time (values_before wave time) channels
+          ≡ sampled_rows wave (crossing wave dues time (place + 1) channels)
+          → and_then (rows_due (due_at dues channel.domain) time (values_before wave time) channel)
+          (rows_of dues time (values_before wave time) channels)
+          ≡ sampled_rows wave (first-if t (beat-of time place channel) (crossing wave dues time (place + 1) channels))
       go true is rest =
-          ap (λ (r : Rows). and_then r (rows_of needs time (values_before wave time) channels))
-          (rows-told needs time (values_before wave time) channel is)
+          ap (λ (r : Rows). and_then r (rows_of dues time (values_before wave time) channels))
+          (rows-told dues time (values_before wave time) channel is)
           ∙ ap (λ (r : Rows). and_then (shown_row time (values_before wave time) channel) r) rest
       go false is rest =
-          ap (λ (r : Rows). and_then r (rows_of needs time (values_before wave time) channels))
-          (rows-silent needs time (values_before wave time) channel is) ∙ rest
+          ap (λ (r : Rows). and_then r (rows_of dues time (values_before wave time) channels))
+          (rows-silent dues time (values_before wave time) channel is) ∙ rest
 
 -- ---- beats and edges
 
@@ -302,49 +317,65 @@ never-ticks parts values clock early late =
     late
 
 -- without a change of its values a time has no edge
-pub no-edge : (wave : Wave) (values : List (List ℕ)) (so : List (List ℕ) → Bool) (below : Option ℕ)
-    (one : HasEdge wave so below) → values_before wave one.time ≡ with_joined wave.probes.joins values
+pub no-edge : (wave : Wave) (values : List (List ℕ)) (clock : Clock) (so : List (List ℕ) → Bool) (below : Option ℕ)
+    (one : HasEdge wave clock so below) → values_before wave one.time ≡ with_joined wave.probes.joins values
     → values_until wave one.time ≡ values → ⊥
-no-edge wave values so below one before until =
-    never-ticks wave.probes.joins values wave.probes.clock
-    (subst (λ (vs : List (List ℕ)). is_early wave.probes.clock.edge (bits_of vs wave.probes.clock.tap) ≡ true) before one.early)
-    (subst (λ (vs : List (List ℕ)). is_late wave.probes.clock.edge (bits_of vs wave.probes.clock.tap) ≡ true) until one.late)
+no-edge wave values clock so below one before until =
+    never-ticks wave.probes.joins values clock
+    (subst (λ (vs : List (List ℕ)). is_early clock.edge (bits_of vs clock.tap) ≡ true) before one.early)
+    (subst (λ (vs : List (List ℕ)). is_late clock.edge (bits_of vs clock.tap) ≡ true) until one.late)
 
 -- nor has it a beat
 pub no-beat : (wave : Wave) (values : List (List ℕ)) (beat : SampledBeat)
     → values_before wave beat.time ≡ with_joined wave.probes.joins values → values_until wave beat.time ≡ values
     → IsSampledBeat wave beat → ⊥
 no-beat wave values beat before until is =
-    never-ticks wave.probes.joins values wave.probes.clock
-    (subst (λ (vs : List (List ℕ)). is_early wave.probes.clock.edge (bits_of vs wave.probes.clock.tap) ≡ true) before is.early)
-    (subst (λ (vs : List (List ℕ)). is_late wave.probes.clock.edge (bits_of vs wave.probes.clock.tap) ≡ true) until is.late)
+    let clock = is.domain.clock in
+    never-ticks wave.probes.joins values clock
+    (subst (λ (vs : List (List ℕ)). is_early clock.edge (bits_of vs clock.tap) ≡ true) before is.early)
+    (subst (λ (vs : List (List ℕ)). is_late clock.edge (bits_of vs clock.tap) ≡ true) until is.late)
 
-pub edge-at : (wave : Wave) (time : ℕ) (beat : SampledBeat) → beat.time ≡ time → IsSampledBeat wave beat
-    → has_edge (values_before wave time) (values_until wave time) wave.probes ≡ true
+pub edge-at : (wave : Wave) (time : ℕ) (beat : SampledBeat) → beat.time ≡ time → (is : IsSampledBeat wave beat)
+    → has_edge (values_before wave time) (values_until wave time) is.domain ≡ true
 edge-at wave time beat now is =
-    subst (λ (n : ℕ). has_edge (values_before wave n) (values_until wave n) wave.probes ≡ true) now
-    (and_from (ticks (values_before wave beat.time) (values_until wave beat.time) wave.probes.clock)
-    (not (is_active (values_before wave beat.time) wave.probes.reset))
-    (and_from (is_early wave.probes.clock.edge (bits_of (values_before wave beat.time) wave.probes.clock.tap))
-    (is_late wave.probes.clock.edge (bits_of (values_until wave beat.time) wave.probes.clock.tap)) is.early is.late)
-    (not_from_false (is_active (values_before wave beat.time) wave.probes.reset) is.running))
+    let domain = is.domain in
+    subst (λ (n : ℕ). has_edge (values_before wave n) (values_until wave n) domain ≡ true) now
+    (and_from (ticks (values_before wave beat.time) (values_until wave beat.time) domain.clock)
+    (not (is_active (values_before wave beat.time) domain.reset))
+    (and_from (is_early domain.clock.edge (bits_of (values_before wave beat.time) domain.clock.tap))
+    (is_late domain.clock.edge (bits_of (values_until wave beat.time) domain.clock.tap)) is.early is.late)
+    (not_from_false (is_active (values_before wave beat.time) domain.reset) is.running))
 
--- what has to be known at a time
-pub record NeedsAre (wave : Wave) (time : ℕ) (needs : Needs) : Type 0 where
-  pub valid : needs.valid ≡ true → WasReset wave time
-  pub has_valid : WasReset wave time → needs.valid ≡ true
-  pub ready : needs.ready ≡ true → (wave.probes.reset ≡ None) ⊎ WasReset wave time
-  pub has_ready : (wave.probes.reset ≡ None) ⊎ WasReset wave time → needs.ready ≡ true
+-- what has to be known of a domain at a time
+pub record NeedsAre (wave : Wave) (domain : Domain) (time : ℕ) (needs : Needs) : Type 0 where
+  pub valid : needs.valid ≡ true → WasReset wave domain time
+  pub has_valid : WasReset wave domain time → needs.valid ≡ true
+  pub ready : needs.ready ≡ true → (domain.reset ≡ None) ⊎ WasReset wave domain time
+  pub has_ready : (domain.reset ≡ None) ⊎ WasReset wave domain time → needs.ready ≡ true
+
+-- it is due of the domain at a place, whose clock has an edge outside of reset
+pub record IsDue (wave : Wave) (time place : ℕ) (needs : Needs) : Type 0 where
+  pub domain : Domain
+  pub has : slice_get wave.probes.domains place ≡ Some domain
+  pub edge : has_edge (values_before wave time) (values_until wave time) domain ≡ true
+  pub are : NeedsAre wave domain time needs
+
+-- it is so with all that is due, and all is due that is to be
+pub record DuesAre (wave : Wave) (time : ℕ) (dues : Dues) : Type 0 where
+  pub each : (place : ℕ) (needs : Needs) → due_at dues place ≡ Some needs → IsDue wave time place needs
+  pub all : (place : ℕ) (domain : Domain) → slice_get wave.probes.domains place ≡ Some domain
+      → has_edge (values_before wave time) (values_until wave time) domain ≡ true
+      → (needs : Needs) × (due_at dues place ≡ Some needs) × NeedsAre wave domain time needs
 
 pub or-right : (a b : Bool) → b ≡ true → (a || b) ≡ true
 or-right true b is = refl
 or-right false b is = is
 
-module _ (wave : Wave) (needs : Needs) where
+module _ (wave : Wave) (domain : Domain) (needs : Needs) where
   -- a channel that shows something tells it
-  told-by : (beat : SampledBeat) → NeedsAre wave beat.time needs
-      → Meets wave beat ⊎ (HidesValid wave beat ⊎ HidesReady wave beat)
-      → tells needs (values_before wave beat.time) beat.channel ≡ true
+  told-by : (beat : SampledBeat) → NeedsAre wave domain beat.time needs
+      → Meets wave beat ⊎ (HidesValid wave domain beat ⊎ HidesReady wave domain beat)
+      → tells-by (Some needs) (values_before wave beat.time) beat.channel ≡ true
   told-by beat are (inl meets) =
       ap (λ (c : Bool). c || is_some (unknown_hand needs (values_before wave beat.time) beat.channel))
       (and_from (is_one (bits_of (values_before wave beat.time) beat.channel.valid))
@@ -373,9 +404,9 @@ module _ (wave : Wave) (needs : Needs) where
       go false false is = absurd (cc)
 
   -- and one that tells something shows it
-  shown-by : (beat : SampledBeat) → NeedsAre wave beat.time needs
-      → tells needs (values_before wave beat.time) beat.channel ≡ true
-      → Meets wave beat ⊎ (HidesValid wave beat ⊎ HidesReady wave beat)
+  shown-by : (beat : SampledBeat) → NeedsAre wave domain beat.time needs
+      → tells-by (Some needs) (values_before wave beat.time) beat.channel ≡ true
+      → Meets wave beat ⊎ (HidesValid wave domain beat ⊎ HidesReady wave domain beat)
   shown-by beat are is = go (crosses values beat.channel) refl is
     where
       values : List (List ℕ)
@@ -390,7 +421,7 @@ module _ (wave : Wave) (needs : Needs) where
       hides : (a b : Bool) → (needs.valid && is_unsure valid) ≡ a
           → (needs.ready && (is_one valid && is_unsure ready)) ≡ b
           → is_some (cond a (Some (valid_of beat.channel.beat)) (cond b (Some (ready_of beat.channel.beat)) None)) ≡ true
-          → HidesValid wave beat ⊎ HidesReady wave beat
+          → HidesValid wave domain beat ⊎ HidesReady wave domain beat
       hides true b one two e =
           let parts = and_parts needs.valid (is_unsure valid) one in
           inl (record { reset = are.valid parts.0; valid = parts.1 })
@@ -402,37 +433,57 @@ module _ (wave : Wave) (needs : Needs) where
 
       go : (c : Bool) → crosses values beat.channel ≡ c
           → (c || is_some (unknown_hand needs values beat.channel)) ≡ true
-          → Meets wave beat ⊎ (HidesValid wave beat ⊎ HidesReady wave beat)
+          → Meets wave beat ⊎ (HidesValid wave domain beat ⊎ HidesReady wave domain beat)
       go true crossed e =
           let both = and_parts (is_one valid) (is_one ready) crossed in
           inl (record { valid = both.0; ready = both.1 })
       go false crossed e =
           inr (hides (needs.valid && is_unsure valid) (needs.ready && (is_one valid && is_unsure ready)) refl refl e)
 
-pub crossed-at : (wave : Wave) (needs : Needs) (time : ℕ) (beat : SampledBeat) → NeedsAre wave time needs → beat.time ≡ time
-    → IsSampledBeat wave beat → tells needs (values_before wave time) beat.channel ≡ true
-crossed-at wave needs time beat are now is =
-    subst (λ (n : ℕ). tells needs (values_before wave n) beat.channel ≡ true) now
-    (told-by wave needs beat (subst (λ (n : ℕ). NeedsAre wave n needs) (sym now) are) is.shows)
+pub crossed-at : (wave : Wave) (dues : Dues) (time : ℕ) (beat : SampledBeat) → DuesAre wave time dues → beat.time ≡ time
+    → IsSampledBeat wave beat → tells dues (values_before wave time) beat.channel ≡ true
+crossed-at wave dues time beat are now is =
+    let due = are.all beat.channel.domain is.domain is.has (edge-at wave time beat now is) in
+    ap (λ (d : Option Needs). tells-by d (values_before wave time) beat.channel) due.1
+    ∙ subst (λ (n : ℕ). tells-by (Some due.0) (values_before wave n) beat.channel ≡ true) now
+    (told-by wave is.domain due.0 beat
+    (subst (λ (n : ℕ). NeedsAre wave is.domain n due.0) (sym now) due.2) is.shows)
 
-pub beat-at : (wave : Wave) (needs : Needs) (time : ℕ) (beat : SampledBeat) → NeedsAre wave time needs
-    → beat.time ≡ time → has_edge (values_before wave time) (values_until wave time) wave.probes ≡ true
-    → slice_get wave.probes.channels beat.place ≡ Some beat.channel
-    → tells needs (values_before wave time) beat.channel ≡ true → IsJoinedUntil wave time → is_whole wave.cut time ≡ true
-    → IsSampledBeat wave beat
-beat-at wave needs time beat are now edge looked told joined whole =
-    let outside = and_parts (ticks (values_before wave time) (values_until wave time) wave.probes.clock)
-    (not (is_active (values_before wave time) wave.probes.reset)) edge in
-    let clock = and_parts (is_early wave.probes.clock.edge (bits_of (values_before wave time) wave.probes.clock.tap))
-    (is_late wave.probes.clock.edge (bits_of (values_until wave time) wave.probes.clock.tap)) outside.0 in
+-- a channel of which something is due, and which tells something
+due-beat : (wave : Wave) (time : ℕ) (beat : SampledBeat) (needs : Needs) → beat.time ≡ time
+    → IsDue wave time beat.channel.domain needs → slice_get wave.probes.channels beat.place ≡ Some beat.channel
+    → tells-by (Some needs) (values_before wave time) beat.channel ≡ true → IsJoinedUntil wave time
+    → is_whole wave.cut time ≡ true → IsSampledBeat wave beat
+due-beat wave time beat needs now due looked told joined whole =
+    let domain = due.domain in
+    let outside = and_parts (ticks (values_before wave time) (values_until wave time) domain.clock)
+    (not (is_active (values_before wave time) domain.reset)) due.edge in
+    let clock = and_parts (is_early domain.clock.edge (bits_of (values_before wave time) domain.clock.tap))
+    (is_late domain.clock.edge (bits_of (values_until wave time) domain.clock.tap)) outside.0 in
     record {
       looked = looked;
-      early = subst (λ (n : ℕ). is_early wave.probes.clock.edge (bits_of (values_before wave n) wave.probes.clock.tap) ≡ true) (sym now) clock.0;
-      late = subst (λ (n : ℕ). is_late wave.probes.clock.edge (bits_of (values_until wave n) wave.probes.clock.tap) ≡ true) (sym now) clock.1;
-      running = subst (λ (n : ℕ). is_active (values_before wave n) wave.probes.reset ≡ false) (sym now)
-          (not-true (is_active (values_before wave time) wave.probes.reset) outside.1);
-      shows = shown-by wave needs beat (subst (λ (n : ℕ). NeedsAre wave n needs) (sym now) are)
-          (subst (λ (n : ℕ). tells needs (values_before wave n) beat.channel ≡ true) (sym now) told);
+      domain = domain;
+      has = due.has;
+      early = subst (λ (n : ℕ). is_early domain.clock.edge (bits_of (values_before wave n) domain.clock.tap) ≡ true)
+          (sym now) clock.0;
+      late = subst (λ (n : ℕ). is_late domain.clock.edge (bits_of (values_until wave n) domain.clock.tap) ≡ true)
+          (sym now) clock.1;
+      running = subst (λ (n : ℕ). is_active (values_before wave n) domain.reset ≡ false) (sym now)
+          (not-true (is_active (values_before wave time) domain.reset) outside.1);
+      shows = shown-by wave domain needs beat (subst (λ (n : ℕ). NeedsAre wave domain n needs) (sym now) due.are)
+          (subst (λ (n : ℕ). tells-by (Some needs) (values_before wave n) beat.channel ≡ true) (sym now) told);
       joined = subst (λ (n : ℕ). IsJoinedUntil wave n) (sym now) joined;
       whole = subst (λ (n : ℕ). is_whole wave.cut n ≡ true) (sym now) whole;
     }
+
+pub beat-at : (wave : Wave) (dues : Dues) (time : ℕ) (beat : SampledBeat) → DuesAre wave time dues
+    → beat.time ≡ time → slice_get wave.probes.channels beat.place ≡ Some beat.channel
+    → tells dues (values_before wave time) beat.channel ≡ true → IsJoinedUntil wave time → is_whole wave.cut time ≡ true
+    → IsSampledBeat wave beat
+beat-at wave dues time beat are now looked told joined whole = go (due_at dues beat.channel.domain) refl told
+  where
+    go : (due : Option Needs) → due_at dues beat.channel.domain ≡ due
+        → tells-by due (values_before wave time) beat.channel ≡ true → IsSampledBeat wave beat
+    go None is e = absurd (cc)
+    go (Some needs) is e =
+        due-beat wave time beat needs now (are.each beat.channel.domain needs is) looked e joined whole

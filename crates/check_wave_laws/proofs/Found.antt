@@ -6,7 +6,7 @@ use Rattle.std.specs.Option.{option_and_then}
 use Rattle.std.specs.Str.{bytes_eq}
 use Rattle.std.proofs.lemmas.Bool.{ltb-false}
 use Rattle.std.proofs.lemmas.Bool.Decides.{nat_tests}
-use Rattle.tl_text.specs.Reading.{◌>>=◌, each}
+use Rattle.tl_text.specs.Reading.{◌>>=◌, each, if_any}
 use Rattle.check_beats.specs.Bus.{bus_bytes}
 use Rattle.check_beats.specs.declared.bus.Bus.{Bus}
 use Rattle.check_rows.specs.Buses.{HasBus, IsLinkOf, bus_of_link}
@@ -15,8 +15,8 @@ use Rattle.check_vcd.specs.declared.range.Span.{Span}
 use Rattle.check_samples.specs.Signal.{signal_name}
 use Rattle.check_samples.specs.declared.signal.Signal.{Signal}
 use Rattle.check_samples.specs.declared.signal.Signal.TheVariants as signal
-use Rattle.check_signals.specs.Found.{LinkSources, NamedLink, NamesOf, signal_by, signals_named, parts_by, link_at, link_sources, links_from, system_asked, system_source, named_before, names_at, numbered, owner_of, sources_of, width_in}
-use Rattle.check_signals.specs.Names.{Joined, Prefixed, SignalName, Wired}
+use Rattle.check_signals.specs.Found.{LinkSources, NamedLink, NamesOf, signal_by, signals_named, parts_by, ClockSources, clock_sources, line_asked, line_source, link_at, link_sources, links_from, named_before, named_sources, names_at, numbered, owner_of, sources_of, width_in}
+use Rattle.check_signals.specs.Names.{ClockNames, Joined, LinkNames, Prefixed, SignalName, Wired}
 use Rattle.check_signals.specs.Prefixes.{taken}
 use Rattle.check_signals.specs.Nets.{Bit, bit_among, bit_at, bit_within, bits_called, bits_wanted, codes_at, has_whole, indices_down, lone, meant, named_by, named_in, net_by, net_in, one_of, span_of, vector_in}
 use Rattle.check_signals.specs.Parts.{all_parts, fitting, part_of, signal_parts}
@@ -395,12 +395,12 @@ named-fits vars asked parts some is =
     absent true false may e = go (digit_in asked.name) e
     absent false n may e = go (digit_in asked.name) e
 
--- the clock and the reset
-pub system-fits : (vars : List Var) (name : List ℕ) (s : Source) → system_source vars name ≡ Ok s
+-- a clock or a reset
+line-fits : (vars : List Var) (whose : SignalOwner) (name : List ℕ) (s : Source) → line_source vars whose name ≡ Ok s
     → SourceFits vars (AtMost 1) s
-system-fits vars name s is = go (named_in vars (system_asked name)) refl is
+line-fits vars whose name s is = go (named_in vars (line_asked whose name)) refl is
   where
-    by : (parts : List Source) → PartsFit vars (AtMost 1) parts → one_of (system_asked name) parts ≡ Ok s
+    by : (parts : List Source) → PartsFit vars (AtMost 1) parts → one_of (line_asked whose name) parts ≡ Ok s
         → SourceFits vars (AtMost 1) s
     by [] fits e = absurd (cc)
     by (part ∷ []) fits e =
@@ -413,10 +413,53 @@ system-fits vars name s is = go (named_in vars (system_asked name)) refl is
         })
     by (part ∷ (other ∷ parts)) fits e = absurd (cc)
 
-    go : (r : Result (List Source) SearchFault) → named_in vars (system_asked name) ≡ r
-        → (r >>= one_of (system_asked name)) ≡ Ok s → SourceFits vars (AtMost 1) s
+    go : (r : Result (List Source) SearchFault) → named_in vars (line_asked whose name) ≡ r
+        → (r >>= one_of (line_asked whose name)) ≡ Ok s → SourceFits vars (AtMost 1) s
     go (Err fault) x e = absurd (cc)
-    go (Ok parts) x e = by parts (named-fits vars (system_asked name) parts (omega arith) x) e
+    go (Ok parts) x e = by parts (named-fits vars (line_asked whose name) parts (omega arith) x) e
+
+-- one that there may be
+abbrev pub LineFits : List Var → Option Source → Type 0
+LineFits vars None = ⊤
+LineFits vars (Some s) = SourceFits vars (AtMost 1) s
+
+if-any-fits : (vars : List Var) (whose : SignalOwner) (name : Option (List ℕ)) (found : Option Source)
+    → if_any (line_source vars whose) name ≡ Ok found → LineFits vars found
+if-any-fits vars whose None found is =
+    let same : None ≡ found = cc in subst (LineFits vars) same tt
+if-any-fits vars whose (Some name) found is = go (line_source vars whose name) refl is
+  where
+    go : (r : Result Source SearchFault) → line_source vars whose name ≡ r → (r >>= (λ y. Ok (Some y))) ≡ Ok found
+        → LineFits vars found
+    go (Err fault) x y = absurd (cc)
+    go (Ok source) x y =
+        let same : Some source ≡ found = cc in
+        subst (LineFits vars) same (line-fits vars whose name source x)
+
+-- a clock and a reset
+pub record ClockFits (vars : List Var) (own : ClockSources) : Type 0 where
+  pub clock : LineFits vars own.clock
+  pub reset : LineFits vars own.reset
+
+pub clock-fits : (vars : List Var) (whose : SignalOwner) (names : ClockNames) (own : ClockSources)
+    → clock_sources vars whose names ≡ Ok own → ClockFits vars own
+unfolding clock_sources
+clock-fits vars whose names own is =
+    go (if_any (line_source vars whose) names.clock) (if_any (line_source vars whose) names.reset) refl refl is
+  where
+    go : (c r : Result (Option Source) SearchFault) → if_any (line_source vars whose) names.clock ≡ c
+        → if_any (line_source vars whose) names.reset ≡ r
+        → (c >>= (λ clock. r >>= (λ reset. Ok (record { names = names; clock = clock; reset = reset })))) ≡ Ok own
+        → ClockFits vars own
+    go (Err fault) r x y e = absurd (cc)
+    go (Ok clock) (Err fault) x y e = absurd (cc)
+    go (Ok clock) (Ok reset) x y e =
+        let made : ClockSources = record { names = names; clock = clock; reset = reset } in
+        let same : made ≡ own = cc in
+        subst (ClockFits vars) same (record {
+          clock = if-any-fits vars whose names.clock clock x;
+          reset = if-any-fits vars whose names.reset reset y;
+        })
 
 -- ---- the names of a link
 
@@ -518,9 +561,10 @@ all-fit vars owner bus (which ∷ signals) (name ∷ names) found some is =
           y more refl,
         )
 
--- a link that the system has, the parts of whose signals fit
+-- a link that the system has, whose clock and reset and the parts of whose signals fit
 pub record LinkFits (vars : List Var) (masters ports : List Bus) (found : LinkSources) : Type 0 where
   pub link : IsLinkOf masters ports found.link
+  pub clock : ClockFits vars found.clock
   pub signals : FitsAll vars (bus_of_link masters ports found.link) SIGNALS found.signals
 
 -- ---- the links of a kind
@@ -529,7 +573,7 @@ pub record LinkFits (vars : List Var) (masters ports : List Bus) (found : LinkSo
 abbrev IsNamed : List Bus → List Bus → NamedLink → Type 0
 IsNamed masters ports named = HasBus masters ports named.link named.bus
 
-one-named : (masters ports : List Bus) (is_port : Bool) (n : ℕ) (bus : Bus) (names : Option (List SignalName))
+one-named : (masters ports : List Bus) (is_port : Bool) (n : ℕ) (bus : Bus) (names : Option LinkNames)
     (links : List NamedLink) → HasBus masters ports (link_at is_port n) bus → Each (IsNamed masters ports) links
     → Each (IsNamed masters ports) (named_before is_port n bus names links)
 one-named masters ports is_port n bus None links has rest = rest
@@ -547,23 +591,29 @@ all-named masters ports is_port names n (bus ∷ buses) has =
 
 link-fits : (vars : List Var) (masters ports : List Bus) (named : NamedLink) (found : LinkSources)
     → IsNamed masters ports named → link_sources vars named ≡ Ok found → LinkFits vars masters ports found
+unfolding named_sources
 link-fits vars masters ports named found has is =
-    go (sources_of vars (owner_of named.link) (bus_bytes named.bus) named.names) refl is
+    go (clock_sources vars (owner_of named.link) named.names.clock)
+    (sources_of vars (owner_of named.link) (bus_bytes named.bus) named.names.signals) refl refl is
   where
-    go : (r : Result (List (List Source)) SearchFault)
-        → sources_of vars (owner_of named.link) (bus_bytes named.bus) named.names ≡ r
-        → (r >>= (λ signals. Ok (record { link = named.link; signals = signals }))) ≡ Ok found
+    go : (c : Result ClockSources SearchFault) (r : Result (List (List Source)) SearchFault)
+        → clock_sources vars (owner_of named.link) named.names.clock ≡ c
+        → sources_of vars (owner_of named.link) (bus_bytes named.bus) named.names.signals ≡ r
+        → (c >>= (λ clock. r >>= (λ signals. Ok (record { link = named.link; clock = clock; signals = signals }))))
+        ≡ Ok found
         → LinkFits vars masters ports found
-    go (Err fault) x e = absurd (cc)
-    go (Ok signals) x e =
-        let one : LinkSources = record { link = named.link; signals = signals } in
+    go (Err fault) r x y e = absurd (cc)
+    go (Ok clock) (Err fault) x y e = absurd (cc)
+    go (Ok clock) (Ok signals) x y e =
+        let one : LinkSources = record { link = named.link; clock = clock; signals = signals } in
         let same : one ≡ found = cc in
         let there = link-there masters ports named.link named.bus has in
         subst (LinkFits vars masters ports) same (record {
           link = there.inside;
-          signals = all-fit vars (owner_of named.link) (bus_of_link masters ports named.link) SIGNALS named.names signals
-              there.some
-              (ap (λ (bytes : ℕ). sources_of vars (owner_of named.link) bytes named.names) there.bytes ∙ x);
+          clock = clock-fits vars (owner_of named.link) named.names.clock clock x;
+          signals = all-fit vars (owner_of named.link) (bus_of_link masters ports named.link) SIGNALS named.names.signals
+              signals there.some
+              (ap (λ (bytes : ℕ). sources_of vars (owner_of named.link) bytes named.names.signals) there.bytes ∙ y);
         })
 
 each-fit : (vars : List Var) (masters ports : List Bus) (links : List NamedLink) (found : List LinkSources)

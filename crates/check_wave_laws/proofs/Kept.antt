@@ -6,7 +6,7 @@ use Rattle.std.specs.Str.{bytes_eq}
 use Rattle.std.proofs.lemmas.Bool.Decides.{nat_tests}
 use Rattle.std.proofs.lemmas.List.{length-replicate}
 use Rattle.std.proofs.lemmas.Slice.Eq.{bytes_eq-Decides}
-use Rattle.tl_text.specs.Reading.{◌>>=◌, if_any}
+use Rattle.tl_text.specs.Reading.{◌>>=◌}
 use Rattle.check_beats.specs.declared.bus.Bus.{Bus}
 use Rattle.check_watch.specs.declared.beat.Link.{Link}
 use Rattle.check_rows.specs.Buses.{IsLinkOf, bus_of_link}
@@ -17,8 +17,7 @@ use Rattle.check_vcd.specs.Header.{Var}
 use Rattle.check_vcd.specs.declared.codes.Coded.{Coded}
 use Rattle.check_samples.specs.declared.channel.BeatTaps.TheVariants.{A, D}
 use Rattle.check_samples.specs.declared.channel.Channel.{Channel}
-use Rattle.check_samples.specs.declared.clock.Edge.{Edge}
-use Rattle.check_signals.specs.Found.{Found, LinkSources, FoundSources, all_by, all_of, bits_in, code_in, digits_in, distinct, find_of, flat, found_in, found_of, in_order, is_kept, is_same, joined_bits, joins_in, joins_of, link_bits, link_joins, values_kept, links_from, channels_of_link, channel_pairs, slot_place, sampling_of, slot_one, slots_from, sources_in, system_source, tap_by, tap_of, taps_from, width_in}
+use Rattle.check_signals.specs.Found.{ClockSources, Found, LinkSources, FoundSources, all_clocks, all_of, clock_sources, domain_place, of_link, with_lines, bits_in, code_in, digits_in, distinct, find_of, flat, found_in, found_of, in_order, is_kept, is_same, joined_bits, joins_in, joins_of, link_bits, link_joins, values_kept, links_from, channels_of_link, channel_pairs, slot_place, sampling_of, slot_one, slots_from, sources_in, tap_by, tap_of, taps_from, width_in}
 use Rattle.check_signals.specs.Names.{SignalNames}
 use Rattle.check_signals.specs.Parts.{all_parts}
 use Rattle.check_signals.specs.Source.{Changing, Constant, SearchFault, Kept, Source, parts_bits, width_by, width_of}
@@ -26,10 +25,11 @@ use Rattle.check_signals.specs.declared.keys.TheConstants.{SIGNALS}
 use Rattle.check_samples.specs.declared.signal.Signal.{Signal}
 use Rattle.check_samples.specs.declared.tap.Tap.{Tap}
 use Rattle.check_signals.specs.Wanted.{wanted_of}
+use Rattle.check_signals.specs.declared.signal_fault.SignalOwner.TheVariants as owner
 use Rattle.check_signals.specs.declared.wanted.Wanted.{Wanted}
-use Rattle.check_signals.specs.declared.wanted.Wanted.TheVariants.{AtMost, Exactly}
+use Rattle.check_signals.specs.declared.wanted.Wanted.TheVariants.{Exactly}
 use Rattle.check_wave_laws.specs.Text.{AllLieWithin, ChannelFits, FindFits, SamplingFits, TakesBeat, taps_bits}
-use Rattle.check_wave_laws.proofs.Found.{Each, FitsAll, HasBits, KeptFits, LinkFits, PartFits, PartsFit, SourceFits, each-append, each-first, each-has, each-map, each-second, masters-fit, ports-fit, system-fits}
+use Rattle.check_wave_laws.proofs.Found.{ClockFits, Each, FitsAll, LineFits, clock-fits, HasBits, KeptFits, LinkFits, PartFits, PartsFit, SourceFits, each-append, each-first, each-has, each-map, each-second, masters-fit, ports-fit}
 
 -- ---- one value and another
 
@@ -138,12 +138,33 @@ values-fit vars bus (which ∷ signals) (parts ∷ found) fits =
     each-append (ValueFits vars) parts (all_parts found) (values-of-parts vars parts fits.0.each)
     (values-fit vars bus signals found fits.1)
 
+-- a clock and a reset before other sources
+line-before : (vars : List Var) (line : Option Source) (others : List Source) → LineFits vars line
+    → Each (ValueFits vars) others → Each (ValueFits vars) (cons_option line others)
+line-before vars None others one rest = rest
+line-before vars (Some s) others one rest = (one.kept, rest)
+
+with-lines-fit : (vars : List Var) (own : ClockSources) (others : List Source) → ClockFits vars own
+    → Each (ValueFits vars) others → Each (ValueFits vars) (with_lines own others)
+with-lines-fit vars own others fits rest =
+    line-before vars own.clock (cons_option own.reset others) fits.clock (line-before vars own.reset others fits.reset rest)
+
+behind-line : (P : Source → Type 0) (line : Option Source) (others : List Source) → Each P (cons_option line others)
+    → Each P others
+behind-line P None others all = all
+behind-line P (Some s) others all = all.1
+
+behind-lines : (P : Source → Type 0) (own : ClockSources) (others : List Source) → Each P (with_lines own others)
+    → Each P others
+behind-lines P own others all = behind-line P own.reset others (behind-line P own.clock (cons_option own.reset others) all)
+
 flat-fits : (vars : List Var) (masters ports : List Bus) (links : List LinkSources)
     → Each (LinkFits vars masters ports) links → Each (ValueFits vars) (flat links)
 flat-fits vars masters ports [] fits = tt
 flat-fits vars masters ports (found ∷ links) fits =
-    each-append (ValueFits vars) (all_parts found.signals) (flat links)
-    (values-fit vars (bus_of_link masters ports found.link) SIGNALS found.signals fits.0.signals)
+    each-append (ValueFits vars) (of_link found) (flat links)
+    (with-lines-fit vars found.clock (all_parts found.signals) fits.0.clock
+    (values-fit vars (bus_of_link masters ports found.link) SIGNALS found.signals fits.0.signals))
     (flat-fits vars masters ports links fits.1)
 
 slots-fit : (vars : List Var) (kept : List Kept) (sources : List Source) → Each (KeptFits vars) kept
@@ -248,10 +269,11 @@ taps-fit vars kept total before bus (which ∷ signals) (parts ∷ found) fits s
 takes : (widths : List ℕ) (tap : Tap) (n : ℕ) → TapFits widths (Exactly n) tap → TakesBeat widths tap n
 takes widths tap n fits = record { from = fits.from; inside = fits.inside; bits = fits.bits }
 
-pair-fits : (masters ports : List Bus) (widths : List ℕ) (link : Link) (taps : List Tap) (pair : Channel × Channel)
+pair-fits : (masters ports : List Bus) (widths : List ℕ) (link : Link) (domain : ℕ) (taps : List Tap)
+    (pair : Channel × Channel)
     → IsLinkOf masters ports link → TapsFit widths (bus_of_link masters ports link) SIGNALS taps
-    → channels_of_link link taps ≡ Some pair → PairFits masters ports widths pair
-pair-fits masters ports widths link
+    → channels_of_link link domain taps ≡ Some pair → PairFits masters ports widths pair
+pair-fits masters ports widths link domain
     (a_valid ∷ a_ready ∷ a_opcode ∷ a_param ∷ a_size ∷ a_source ∷ a_address ∷ a_mask ∷ a_data ∷ a_corrupt ∷ d_valid
     ∷ d_ready ∷ d_opcode ∷ d_param ∷ d_size ∷ d_source ∷ d_data ∷ d_denied ∷ d_corrupt ∷ [])
     pair one fits is =
@@ -261,6 +283,7 @@ pair-fits masters ports widths link
     let bus = bus_of_link masters ports link in
     let ask : Channel = record {
       link = link;
+      domain = domain;
       valid = a_valid;
       ready = a_ready;
       beat = A (record {
@@ -276,6 +299,7 @@ pair-fits masters ports widths link
     } in
     let reply : Channel = record {
       link = link;
+      domain = domain;
       valid = d_valid;
       ready = d_ready;
       beat = D (record {
@@ -315,30 +339,32 @@ pair-fits masters ports widths link
         };
       },
     )
-pair-fits masters ports widths link taps pair one fits is = absurd (cc)
+pair-fits masters ports widths link domain taps pair one fits is = absurd (cc)
 
 -- the values that are kept, and behind them one of so many bits
 abbrev widths-with : List Kept → ℕ → List ℕ
 widths-with kept total = map width_in kept ++ (total ∷ [])
 
-pairs-fit : (vars : List Var) (masters ports : List Bus) (kept : List Kept) (total before : ℕ) (links : List LinkSources)
+pairs-fit : (vars : List Var) (masters ports : List Bus) (kept : List Kept) (clocks : List ClockSources) (total before : ℕ)
+    (links : List LinkSources)
     → Each (LinkFits vars masters ports) links → Each (SlotFits kept) (flat links) → before + link_bits links ≤ total
-    → Each (PairFits masters ports (widths-with kept total)) (channel_pairs kept before links)
-pairs-fit vars masters ports kept total before [] fits slots room = tt
-pairs-fit vars masters ports kept total before (found ∷ links) fits slots room =
-    go (channels_of_link found.link (taps_from kept before found.signals))
-    (λ pair is. pair-fits masters ports (widths-with kept total) found.link (taps_from kept before found.signals) pair
+    → Each (PairFits masters ports (widths-with kept total)) (channel_pairs kept clocks before links)
+pairs-fit vars masters ports kept clocks total before [] fits slots room = tt
+pairs-fit vars masters ports kept clocks total before (found ∷ links) fits slots room =
+    go (channels_of_link found.link (domain_place clocks found.clock.names) (taps_from kept before found.signals))
+    (λ pair is. pair-fits masters ports (widths-with kept total) found.link (domain_place clocks found.clock.names) (taps_from kept before found.signals) pair
     fits.0.link (taps-fit vars kept total before (bus_of_link masters ports found.link) SIGNALS found.signals fits.0.signals
-    (each-first (SlotFits kept) (all_parts found.signals) (flat links) slots) (omega (arith, room))) is)
-    (pairs-fit vars masters ports kept total (before + bits_in found.signals) links fits.1
-    (each-second (SlotFits kept) (all_parts found.signals) (flat links) slots) (omega (arith, room)))
+    (behind-lines (SlotFits kept) found.clock (all_parts found.signals)
+    (each-first (SlotFits kept) (of_link found) (flat links) slots)) (omega (arith, room))) is)
+    (pairs-fit vars masters ports kept clocks total (before + bits_in found.signals) links fits.1
+    (each-second (SlotFits kept) (of_link found) (flat links) slots) (omega (arith, room)))
   where
     go : (o : Option (Channel × Channel))
         → ((pair : Channel × Channel) → o ≡ Some pair → PairFits masters ports (widths-with kept total) pair)
         → Each (PairFits masters ports (widths-with kept total))
-        (channel_pairs kept (before + bits_in found.signals) links)
+        (channel_pairs kept clocks (before + bits_in found.signals) links)
         → Each (PairFits masters ports (widths-with kept total))
-        (cons_option o (channel_pairs kept (before + bits_in found.signals) links))
+        (cons_option o (channel_pairs kept clocks (before + bits_in found.signals) links))
     go None fit others = others
     go (Some pair) fit others = (fit pair refl, others)
 
@@ -407,9 +433,10 @@ links-lie vars masters ports kept [] fits slots = tt
 links-lie vars masters ports kept (found ∷ links) fits slots =
     lie-append (map width_in kept) (joins_in kept found.signals) (link_joins kept links)
     (signals-lie vars kept (bus_of_link masters ports found.link) SIGNALS found.signals fits.0.signals
-    (each-first (SlotFits kept) (all_parts found.signals) (flat links) slots))
+    (behind-lines (SlotFits kept) found.clock (all_parts found.signals)
+    (each-first (SlotFits kept) (of_link found) (flat links) slots)))
     (links-lie vars masters ports kept links fits.1
-    (each-second (SlotFits kept) (all_parts found.signals) (flat links) slots))
+    (each-second (SlotFits kept) (of_link found) (flat links) slots))
 
 order-fits : (masters ports : List Bus) (widths : List ℕ) (of_ports of_masters : List (Channel × Channel))
     → Each (PairFits masters ports widths) of_ports → Each (PairFits masters ports widths) of_masters
@@ -537,36 +564,25 @@ find-fits vars kept fits code coded slot e s =
 
 -- what the names of a system find
 pub record AllFit (vars : List Var) (masters ports : List Bus) (sources : FoundSources) : Type 0 where
-  pub clock : SourceFits vars (AtMost 1) sources.clock
-  pub reset : (reset : Source) → sources.reset ≡ Some reset → SourceFits vars (AtMost 1) reset
+  pub system : ClockFits vars sources.system
   pub of_ports : Each (LinkFits vars masters ports) sources.ports
   pub of_masters : Each (LinkFits vars masters ports) sources.masters
 
-values-of-all : (vars : List Var) (clock : Source) (reset : Option Source) (others : List Source)
-    → ValueFits vars clock → ((s : Source) → reset ≡ Some s → ValueFits vars s) → Each (ValueFits vars) others
-    → Each (ValueFits vars) (all_by clock reset others)
-values-of-all vars clock None others one two rest = (one, rest)
-values-of-all vars clock (Some reset) others one two rest = (one, (two reset refl, rest))
-
-slots-of-others : (kept : List Kept) (clock : Source) (reset : Option Source) (others : List Source)
-    → Each (SlotFits kept) (all_by clock reset others) → Each (SlotFits kept) others
-slots-of-others kept clock None others all = all.1
-slots-of-others kept clock (Some reset) others all = all.1.1
-
-pub found-fits : (vars : List Var) (masters ports : List Bus) (edge : Edge) (is_low : Bool) (sources : FoundSources)
+pub found-fits : (vars : List Var) (masters ports : List Bus) (sources : FoundSources)
     → AllFit vars masters ports sources
-    → SamplingFits masters ports (sampling_of (found_of edge is_low sources))
-    × FindFits (sampling_of (found_of edge is_low sources)).widths (find_of vars (found_of edge is_low sources))
-found-fits vars masters ports edge is_low sources fits =
+    → SamplingFits masters ports (sampling_of (found_of sources))
+    × FindFits (sampling_of (found_of sources)).widths (find_of vars (found_of sources))
+found-fits vars masters ports sources fits =
     let others = flat sources.ports ++ flat sources.masters in
     let all = all_of sources in
     let kept = values_kept all in
-    let are : KeptAll vars kept all = kept-all vars all (values-of-all vars sources.clock sources.reset others
-    fits.clock.kept (λ s is. (fits.reset s is).kept)
+    let are : KeptAll vars kept all = kept-all vars all (with-lines-fit vars sources.system others
+    fits.system
     (each-append (ValueFits vars) (flat sources.ports) (flat sources.masters)
     (flat-fits vars masters ports sources.ports fits.of_ports)
     (flat-fits vars masters ports sources.masters fits.of_masters))) in
-    let slots = slots-of-others kept sources.clock sources.reset others are.slots in
+    let clocks = all_clocks sources in
+    let slots = behind-lines (SlotFits kept) sources.system others are.slots in
     let of_ports = each-first (SlotFits kept) (flat sources.ports) (flat sources.masters) slots in
     let of_masters = each-second (SlotFits kept) (flat sources.ports) (flat sources.masters) slots in
     let first = link_joins kept sources.ports in
@@ -574,10 +590,10 @@ found-fits vars masters ports edge is_low sources fits =
     let total = taps_bits (first ++ second) in
     let count : link_bits sources.ports + link_bits sources.masters ≡ total =
     omega (arith, taps-append first second, links-count kept sources.ports, links-count kept sources.masters) in
-    let channels = order-fits masters ports (widths-with kept total) (channel_pairs kept 0 sources.ports)
-    (channel_pairs kept (link_bits sources.ports) sources.masters)
-    (pairs-fit vars masters ports kept total 0 sources.ports fits.of_ports of_ports (omega (arith, count)))
-    (pairs-fit vars masters ports kept total (link_bits sources.ports) sources.masters fits.of_masters of_masters
+    let channels = order-fits masters ports (widths-with kept total) (channel_pairs kept clocks 0 sources.ports)
+    (channel_pairs kept clocks (link_bits sources.ports) sources.masters)
+    (pairs-fit vars masters ports kept clocks total 0 sources.ports fits.of_ports of_ports (omega (arith, count)))
+    (pairs-fit vars masters ports kept clocks total (link_bits sources.ports) sources.masters fits.of_masters of_masters
     (omega (arith, count))) in (
       record {
         before = tt;
@@ -588,51 +604,33 @@ found-fits vars masters ports edge is_low sources fits =
             (links-lie vars masters ports kept sources.masters fits.of_masters of_masters);
         channels = λ which has.
             each-has (ChannelFits masters ports (widths-with kept total))
-            (in_order (channel_pairs kept 0 sources.ports)
-            (channel_pairs kept (link_bits sources.ports) sources.masters)) which channels has;
+            (in_order (channel_pairs kept clocks 0 sources.ports)
+            (channel_pairs kept clocks (link_bits sources.ports) sources.masters)) which channels has;
       },
       find-fits vars kept are.values,
     )
-
-reset-fits : (vars : List Var) (name : Option (List ℕ)) (reset : Option Source)
-    → if_any (system_source vars) name ≡ Ok reset → (s : Source) → reset ≡ Some s → SourceFits vars (AtMost 1) s
-reset-fits vars None reset is s e =
-    let none : None ≡ reset = cc in absurd (cc)
-reset-fits vars (Some name) reset is s e = go (system_source vars name) refl is
-  where
-    go : (r : Result Source SearchFault) → system_source vars name ≡ r → (r >>= (λ y. Ok (Some y))) ≡ Ok reset
-        → SourceFits vars (AtMost 1) s
-    go (Err fault) x y = absurd (cc)
-    go (Ok found) x y =
-        let same : Some found ≡ reset = cc in
-        let is : found ≡ s = cc in
-        subst (SourceFits vars (AtMost 1)) is
-        (system-fits vars name found x)
 
 pub sources-fit : (vars : List Var) (masters ports : List Bus) (names : SignalNames) (sources : FoundSources)
     → sources_in vars masters ports names ≡ Ok sources → AllFit vars masters ports sources
 unfolding sources_in
 sources-fit vars masters ports names sources is =
-    go (system_source vars names.clock) (if_any (system_source vars) names.reset)
-    (links_from vars true names.ports 0 ports) (links_from vars false names.masters 0 masters) refl refl refl refl is
+    go (clock_sources vars owner.System names.system)
+    (links_from vars true names.ports 0 ports) (links_from vars false names.masters 0 masters) refl refl refl is
   where
-    go : (c : Result Source SearchFault) (r : Result (Option Source) SearchFault) (p m : Result (List LinkSources) SearchFault)
-        → system_source vars names.clock ≡ c → if_any (system_source vars) names.reset ≡ r
+    go : (c : Result ClockSources SearchFault) (p m : Result (List LinkSources) SearchFault)
+        → clock_sources vars owner.System names.system ≡ c
         → links_from vars true names.ports 0 ports ≡ p → links_from vars false names.masters 0 masters ≡ m
-        → (c >>= (λ clock. r >>= (λ reset. p >>= (λ of_ports. m >>= (λ of_masters.
-        Ok (record { clock = clock; reset = reset; ports = of_ports; masters = of_masters })))))) ≡ Ok sources
+        → (c >>= (λ system. p >>= (λ of_ports. m >>= (λ of_masters.
+        Ok (record { system = system; ports = of_ports; masters = of_masters }))))) ≡ Ok sources
         → AllFit vars masters ports sources
-    go (Err fault) r p m x y z w e = absurd (cc)
-    go (Ok clock) (Err fault) p m x y z w e = absurd (cc)
-    go (Ok clock) (Ok reset) (Err fault) m x y z w e = absurd (cc)
-    go (Ok clock) (Ok reset) (Ok of_ports) (Err fault) x y z w e = absurd (cc)
-    go (Ok clock) (Ok reset) (Ok of_ports) (Ok of_masters) x y z w e =
-        let made : FoundSources =
-        record { clock = clock; reset = reset; ports = of_ports; masters = of_masters } in
+    go (Err fault) p m x z w e = absurd (cc)
+    go (Ok system) (Err fault) m x z w e = absurd (cc)
+    go (Ok system) (Ok of_ports) (Err fault) x z w e = absurd (cc)
+    go (Ok system) (Ok of_ports) (Ok of_masters) x z w e =
+        let made : FoundSources = record { system = system; ports = of_ports; masters = of_masters } in
         let same : made ≡ sources = cc in
         subst (AllFit vars masters ports) same (record {
-          clock = system-fits vars names.clock clock x;
-          reset = λ s is. reset-fits vars names.reset reset y s is;
+          system = clock-fits vars owner.System names.system system x;
           of_ports = ports-fit vars masters ports names.ports of_ports z;
           of_masters = masters-fit vars masters ports names.masters of_masters w;
         })
@@ -645,11 +643,11 @@ all-found vars masters ports names found is =
     go (sources_in vars masters ports names) (λ sources x. sources-fit vars masters ports names sources x) is
   where
     go : (r : Result FoundSources SearchFault) → ((sources : FoundSources) → r ≡ Ok sources → AllFit vars masters ports sources)
-        → (r >>= (λ sources. Ok (found_of names.edge names.is_low sources))) ≡ Ok found
+        → (r >>= (λ sources. Ok (found_of sources))) ≡ Ok found
         → SamplingFits masters ports (sampling_of found) × FindFits (sampling_of found).widths (find_of vars found)
     go (Err fault) fit e = absurd (cc)
     go (Ok sources) fit e =
-        let same : found_of names.edge names.is_low sources ≡ found = cc in
+        let same : found_of sources ≡ found = cc in
         subst (λ (f : Found). SamplingFits masters ports (sampling_of f)
         × FindFits (sampling_of f).widths (find_of vars f)) same
-        (found-fits vars masters ports names.edge names.is_low sources (fit sources refl))
+        (found-fits vars masters ports sources (fit sources refl))

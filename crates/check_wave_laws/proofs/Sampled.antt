@@ -1,21 +1,27 @@
 -- The rows of what happens in a dump are those of its beats.
-use Rattle.std.proofs.Common.{◌≡◌, ◌∙◌, ℕ, zero, suc, ◌<◌, ◌≤◌, ◌⊎◌, inl, inr, ◌==◌, ◌||◌, Bool, true, false, cond, not, nat_le, List, [], ◌∷◌, ◌++◌, length, get_or, slice_get, Contains, Option, None, Some, is_none, ap, arith, append_assoc, refl, subst, sym}
+use Rattle.std.proofs.Common.{◌≡◌, ◌∙◌, ℕ, zero, suc, ◌+◌, ◌<◌, ◌≤◌, ◌⊎◌, inl, inr, ◌==◌, ◌||◌, Bool, true, false, cond, not, nat_le, List, [], ◌∷◌, ◌++◌, length, get_or, map, slice_get, Contains, Option, None, Some, is_none, ap, arith, append_assoc, refl, subst, sym}
 use Rattle.std.specs.Prelude.{⊤, ◌↔◌}
 use Rattle.std.proofs.lemmas.Bool.{and_from, and_parts, both_ways, cases_lt, cond-false, cond-true, eq-eqb, le-leb, leb-true, ne_eqb, not-true}
+use Rattle.std.proofs.lemmas.Option.{same_Some}
 use Rattle.std.proofs.lemmas.List.Elements.{Contains-append_cases, Contains-append_left, Contains-append_right}
 use Rattle.check_vcd.specs.Body.{Happens, At, Sets, Resumes, Wrong}
 use Rattle.check_samples.specs.Digits.{bits_of, with_joined}
-use Rattle.check_samples.specs.Edges.{edge_fault, needs_of, no_edges, with_edge}
+use Rattle.check_samples.specs.Domain.{Domain, Watched, unwatched}
+use Rattle.check_samples.specs.EdgeFault.{edge_fault, some_crossed}
+use Rattle.check_samples.specs.Edges.{needs_of, no_edges, with_edge}
 use Rattle.check_vcd.specs.declared.fault.Mistake.TheVariants.{Gap}
 use Rattle.check_samples.specs.Left.{BeforeLine, end_in, end_of_edges}
-use Rattle.check_samples.specs.Rows.{Probes, Rows, and_then, has_edge, is_active, is_early, is_late, no_rows, rows_of, some_crosses, ticks}
-use Rattle.check_samples.specs.Sampling.{Sampling, at_time, edges_now, edges_when, is_at, is_time, rows_from, rows_now, rows_when, with_value}
+use Rattle.check_samples.specs.Rows.{Dues, Probes, Rows, and_then, due_at, has_edge, is_early, is_late, no_rows, rows_of, some_crosses, ticks}
+use Rattle.check_samples.specs.Sampling.{Sampling, at_time, dues_of, is_at, is_time, rows_from, rows_now, rows_when, sampling_by, watched_from, watched_now, watched_when, with_value}
+use Rattle.check_samples.specs.declared.channel.Channel.{Channel}
+use Rattle.check_samples.specs.declared.clock.Clock.{Clock}
 use Rattle.check_samples.specs.declared.edges.Edges.{Edges}
 use Rattle.check_samples.specs.declared.edges.Needs.{Needs}
 use Rattle.check_samples.specs.declared.reset.Reset.{Reset}
-use Rattle.check_wave_laws.specs.Sampled.{AreInOrder, AreSampled, EdgesAre, EndsSampled, HasEdge, HasNoGap, StandsBelow, MayLose, IsJoinedUntil, IsSampledBeat, NeverFalls, Precedes, SampledBeat, ValueChange, WasReset, Wave, active_in, always, changes_after, crossed_in, cut_after, gaps_after, is_before, is_until, is_whole, masked_in, outside_in, sampled_rows, values_after, values_before, values_until, wave_of}
+use Rattle.check_samples.specs.declared.tap.Tap.{Tap}
+use Rattle.check_wave_laws.specs.Sampled.{AllWatched, AreInOrder, AreSampled, EdgesAre, EndsSampled, HasEdge, HasNoGap, StandsBelow, MayLose, IsJoinedUntil, IsSampledBeat, NeverFalls, Precedes, SampledBeat, ValueChange, WasReset, Wave, active_in, always, changes_after, crossed_in, cut_after, gaps_after, is_before, is_until, is_whole, masked_in, outside_in, sampled_rows, values_after, values_before, values_until, wave_of}
 use Rattle.check_wave_laws.proofs.Changes.{EachTime, IsFrom, IsLess, IsUpTo, before-past, before-until, changes-from, each-push, each-weaker, from-before, from-until, gaps-from, now-push, until-before, until-past, up-to-before, up-to-next, up-to-self, up-to-until, value-kept, values-none, whole-before}
-use Rattle.check_wave_laws.proofs.Edges.{NeedsAre, beat-at, crossed-at, crossing, crossing-all, crossing-each, crossing-order, crossing-rows, Crosses, edge-at, no-beat, no-edge, none-there, or-right, order-append, rows-append}
+use Rattle.check_wave_laws.proofs.Edges.{DuesAre, NeedsAre, beat-at, crossed-at, crossing, crossing-all, crossing-each, crossing-order, crossing-rows, Crosses, no-beat, no-edge, none-there, or-right, order-append, rows-append}
 
 -- ---- the beats of some times
 
@@ -87,7 +93,7 @@ module _ (wave : Wave) (time : Option ℕ) (next : ℕ) (one two : Rows) (less :
 
 -- a sampler after another time began
 abbrev begun : Sampling → ℕ → Sampling
-begun s next = record s { before = with_joined s.probes.joins s.now; time = Some next; edges = edges_now s }
+begun s next = record s { before = with_joined s.joins s.now; time = Some next; watched = watched_now s }
 
 -- ---- the present time ends
 
@@ -121,10 +127,10 @@ module _ (wave : Wave) (time next : Option ℕ) (ends : Ends wave time next) whe
   until-is at up below = until-past wave ends.past ends.later at ends.changes up (ends.gap at below)
 
   -- between the present time and the next one there is no edge
-  quiet-edge : (so : List (List ℕ) → Bool) (below : Option ℕ) (one : HasEdge wave so below) → IsLess time one.time
-      → StandsBelow next one.time → ⊥
-  quiet-edge so below one less bound =
-      no-edge wave (values_after wave ends.past) so below one (before-is one.time less bound)
+  quiet-edge : (clock : Clock) (so : List (List ℕ) → Bool) (below : Option ℕ) (one : HasEdge wave clock so below)
+      → IsLess time one.time → StandsBelow next one.time → ⊥
+  quiet-edge clock so below one less bound =
+      no-edge wave (values_after wave ends.past) clock so below one (before-is one.time less bound)
       (until-is one.time (each-weaker (IsUpTo time) (λ other. is_until one.time other ≡ true) ends.past
       (λ other up. before-until one.time other (up-to-before time one.time other less up)) ends.until) bound)
 
@@ -141,19 +147,19 @@ below-less : (next : Option ℕ) (early time : ℕ) → early < time → StandsB
 below-less None early time less below = tt
 below-less (Some next) early time less below = omega (arith, less, below)
 
--- the clock ticks at a time
-abbrev ticks-at : Wave → ℕ → Bool
-ticks-at wave time = ticks (values_before wave time) (values_until wave time) wave.probes.clock
+-- a clock ticks at a time
+abbrev ticks-at : Wave → Clock → ℕ → Bool
+ticks-at wave clock time = ticks (values_before wave time) (values_until wave time) clock
 
-rising : (wave : Wave) (so : List (List ℕ) → Bool) (below : Option ℕ) (one : HasEdge wave so below)
-    → ticks-at wave one.time ≡ true
-rising wave so below one =
-    and_from (is_early wave.probes.clock.edge (bits_of (values_before wave one.time) wave.probes.clock.tap))
-    (is_late wave.probes.clock.edge (bits_of (values_until wave one.time) wave.probes.clock.tap)) one.early one.late
+rising : (wave : Wave) (clock : Clock) (so : List (List ℕ) → Bool) (below : Option ℕ) (one : HasEdge wave clock so below)
+    → ticks-at wave clock one.time ≡ true
+rising wave clock so below one =
+    and_from (is_early clock.edge (bits_of (values_before wave one.time) clock.tap))
+    (is_late clock.edge (bits_of (values_until wave one.time) clock.tap)) one.early one.late
 
 module _ (wave : Wave) (time : ℕ) (next : Option ℕ) (ends : Ends wave (Some time) next)
-    (below : StandsBelow next time) (so : List (List ℕ) → Bool) where
-  widen : HasEdge wave so (Some time) → HasEdge wave so next
+    (below : StandsBelow next time) (clock : Clock) (so : List (List ℕ) → Bool) where
+  widen : HasEdge wave clock so (Some time) → HasEdge wave clock so next
   widen one = record {
     time = one.time;
     before = below-less next one.time time one.before below;
@@ -162,176 +168,245 @@ module _ (wave : Wave) (time : ℕ) (next : Option ℕ) (ends : Ends wave (Some 
     was = one.was;
   }
 
-  here-is : ticks-at wave time ≡ true → so (values_before wave time) ≡ true → HasEdge wave so next
+  here-is : ticks-at wave clock time ≡ true → so (values_before wave time) ≡ true → HasEdge wave clock so next
   here-is up was =
-      let clock = and_parts (is_early wave.probes.clock.edge (bits_of (values_before wave time) wave.probes.clock.tap))
-      (is_late wave.probes.clock.edge (bits_of (values_until wave time) wave.probes.clock.tap)) up in
-      record { time = time; before = below; early = clock.0; late = clock.1; was = was }
+      let both = and_parts (is_early clock.edge (bits_of (values_before wave time) clock.tap))
+      (is_late clock.edge (bits_of (values_until wave time) clock.tap)) up in
+      record { time = time; before = below; early = both.0; late = both.1; was = was }
 
   -- an edge below the next time is below the present one or at it
-  where-is : (P : Type 0) → (HasEdge wave so (Some time) → P)
-      → (ticks-at wave time ≡ true → so (values_before wave time) ≡ true → P) → HasEdge wave so next → P
+  where-is : (P : Type 0) → (HasEdge wave clock so (Some time) → P)
+      → (ticks-at wave clock time ≡ true → so (values_before wave time) ≡ true → P) → HasEdge wave clock so next → P
   where-is P early now one = go (cases_lt one.time time) (cases_lt time one.time)
     where
       go : (one.time < time) ⊎ (time ≤ one.time) → (time < one.time) ⊎ (one.time ≤ time) → P
       go (inl less) later =
           early (record { time = one.time; before = less; early = one.early; late = one.late; was = one.was })
-      go (inr from) (inl later) = absurd (quiet-edge wave (Some time) next ends so next one later one.before)
+      go (inr from) (inl later) = absurd (quiet-edge wave (Some time) next ends clock so next one later one.before)
       go (inr from) (inr to) =
           let same : one.time ≡ time = omega (arith, from, to) in
-          now (subst (λ (n : ℕ). ticks-at wave n ≡ true) same (rising wave so next one))
+          now (subst (λ (n : ℕ). ticks-at wave clock n ≡ true) same (rising wave clock so next one))
           (subst (λ (n : ℕ). so (values_before wave n) ≡ true) same one.was)
 
   -- whether there was one, if the clock ticks at the present time
-  flag-up : (flag : Bool) → ticks-at wave time ≡ true → (flag ≡ true) ↔ HasEdge wave so (Some time)
-      → ((flag || so (values_before wave time)) ≡ true) ↔ HasEdge wave so next
+  flag-up : (flag : Bool) → ticks-at wave clock time ≡ true → (flag ≡ true) ↔ HasEdge wave clock so (Some time)
+      → ((flag || so (values_before wave time)) ≡ true) ↔ HasEdge wave clock so next
   flag-up flag up know = (λ e. to flag (so (values_before wave time)) refl refl e, λ one. back one)
     where
-      to : (f w : Bool) → flag ≡ f → so (values_before wave time) ≡ w → (f || w) ≡ true → HasEdge wave so next
+      to : (f w : Bool) → flag ≡ f → so (values_before wave time) ≡ w → (f || w) ≡ true → HasEdge wave clock so next
       to true w is was e = widen (know.0 is)
       to false true is was e = here-is up was
       to false false is was e = absurd (cc)
 
-      back : HasEdge wave so next → (flag || so (values_before wave time)) ≡ true
+      back : HasEdge wave clock so next → (flag || so (values_before wave time)) ≡ true
       back one =
           where-is ((flag || so (values_before wave time)) ≡ true)
           (λ early. ap (λ (f : Bool). f || so (values_before wave time)) (know.1 early))
           (λ rise was. or-right flag (so (values_before wave time)) was) one
 
   -- and if it does not
-  flag-same : (flag : Bool) → ticks-at wave time ≡ false → (flag ≡ true) ↔ HasEdge wave so (Some time)
-      → (flag ≡ true) ↔ HasEdge wave so next
+  flag-same : (flag : Bool) → ticks-at wave clock time ≡ false → (flag ≡ true) ↔ HasEdge wave clock so (Some time)
+      → (flag ≡ true) ↔ HasEdge wave clock so next
   flag-same flag still know = (
     λ e. widen (know.0 e),
-    λ one. where-is (flag ≡ true) know.1 (λ rise was. absurd (both_ways (ticks-at wave time) still rise)) one,
+    λ one. where-is (flag ≡ true) know.1 (λ rise was. absurd (both_ways (ticks-at wave clock time) still rise)) one,
   )
 
 -- no edge is below the first time
 module _ (wave : Wave) (next : Option ℕ) (ends : Ends wave None next) where
-  flag-none : (so : List (List ℕ) → Bool) → (false ≡ true) ↔ HasEdge wave so next
-  flag-none so = (
+  flag-none : (clock : Clock) (so : List (List ℕ) → Bool) → (false ≡ true) ↔ HasEdge wave clock so next
+  flag-none clock so = (
     λ e. absurd (both_ways false refl e),
-    λ one. absurd (quiet-edge wave None next ends so next one tt one.before),
+    λ one. absurd (quiet-edge wave None next ends clock so next one tt one.before),
   )
 
-  edges-none : EdgesAre wave next no_edges
-  edges-none = record {
-    any = flag-none always;
-    outside = flag-none (outside_in wave);
-    in_reset = flag-none (active_in wave);
-    crossed = flag-none (crossed_in wave);
-    masked = flag-none (masked_in wave);
+  edges-none : (place : ℕ) (domain : Domain) → EdgesAre wave place domain next no_edges
+  edges-none place domain = record {
+    any = flag-none domain.clock always;
+    outside = flag-none domain.clock (outside_in domain);
+    in_reset = flag-none domain.clock (active_in domain);
+    crossed = flag-none domain.clock (crossed_in wave place domain);
+    masked = flag-none domain.clock (masked_in wave place domain);
   }
+
+  all-none : (place : ℕ) (domains : List Domain) → AllWatched wave next place domains (map unwatched domains)
+  all-none place [] = tt
+  all-none place (domain ∷ domains) = (refl, edges-none place domain, all-none (place + 1) domains)
 
 module _ (wave : Wave) (time : ℕ) (next : Option ℕ) (ends : Ends wave (Some time) next)
-    (below : StandsBelow next time) (edges : Edges) (so_far : EdgesAre wave (Some time) edges) where
-  edges-more : (t : Bool) → ticks-at wave time ≡ t
-      → EdgesAre wave next (cond t (with_edge edges (active_in wave (values_before wave time))
-      (some_crosses (values_before wave time) wave.probes.channels)) edges)
-  edges-more true up = record {
-    any = (λ e. here-is wave time next ends below always up refl, λ one. refl);
-    outside = flag-up wave time next ends below (outside_in wave) edges.outside up so_far.outside;
-    in_reset = flag-up wave time next ends below (active_in wave) edges.in_reset up so_far.in_reset;
-    crossed = flag-up wave time next ends below (crossed_in wave) edges.crossed up so_far.crossed;
-    masked = flag-up wave time next ends below (masked_in wave) edges.masked up so_far.masked;
-  }
-  edges-more false still = record {
-    any = flag-same wave time next ends below always edges.any still so_far.any;
-    outside = flag-same wave time next ends below (outside_in wave) edges.outside still so_far.outside;
-    in_reset = flag-same wave time next ends below (active_in wave) edges.in_reset still so_far.in_reset;
-    crossed = flag-same wave time next ends below (crossed_in wave) edges.crossed still so_far.crossed;
-    masked = flag-same wave time next ends below (masked_in wave) edges.masked still so_far.masked;
-  }
+    (below : StandsBelow next time) where
+  edges-more : (place : ℕ) (domain : Domain) (edges : Edges) → EdgesAre wave place domain (Some time) edges
+      → (t : Bool) → ticks-at wave domain.clock time ≡ t
+      → EdgesAre wave place domain next (cond t (with_edge edges (active_in domain (values_before wave time))
+      (some_crosses place (values_before wave time) wave.probes.channels)) edges)
+  edges-more place domain edges so_far true up =
+      let clock = domain.clock in
+      record {
+        any = (λ e. here-is wave time next ends below clock always up refl, λ one. refl);
+        outside = flag-up wave time next ends below clock (outside_in domain) edges.outside up so_far.outside;
+        in_reset = flag-up wave time next ends below clock (active_in domain) edges.in_reset up so_far.in_reset;
+        crossed = flag-up wave time next ends below clock (crossed_in wave place domain) edges.crossed up so_far.crossed;
+        masked = flag-up wave time next ends below clock (masked_in wave place domain) edges.masked up so_far.masked;
+      }
+  edges-more place domain edges so_far false still =
+      let clock = domain.clock in
+      record {
+        any = flag-same wave time next ends below clock always edges.any still so_far.any;
+        outside = flag-same wave time next ends below clock (outside_in domain) edges.outside still so_far.outside;
+        in_reset = flag-same wave time next ends below clock (active_in domain) edges.in_reset still so_far.in_reset;
+        crossed = flag-same wave time next ends below clock (crossed_in wave place domain) edges.crossed still
+            so_far.crossed;
+        masked = flag-same wave time next ends below clock (masked_in wave place domain) edges.masked still so_far.masked;
+      }
 
--- what has to be known at a time follows from the edges below it
-needs-are : (wave : Wave) (time : ℕ) (edges : Edges) → EdgesAre wave (Some time) edges
-    → NeedsAre wave time (needs_of wave.probes.reset edges)
-needs-are wave time edges are = record {
+  all-more : (place : ℕ) (domains : List Domain) (watched : List Watched)
+      → AllWatched wave (Some time) place domains watched → AllWatched wave next place domains
+      (watched_from place (values_before wave time) (values_until wave time) wave.probes.channels watched)
+  all-more place [] [] are = tt
+  all-more place [] (one ∷ watched) are = absurd are
+  all-more place (domain ∷ domains) [] are = absurd are
+  all-more place (domain ∷ domains) (one ∷ watched) are = (
+    are.0,
+    subst (λ (d : Domain). EdgesAre wave place domain next (cond (ticks-at wave d.clock time)
+        (with_edge one.edges (active_in d (values_before wave time))
+        (some_crosses place (values_before wave time) wave.probes.channels)) one.edges)) (sym are.0)
+        (edges-more place domain one.edges are.1 (ticks-at wave domain.clock time) refl),
+    all-more (place + 1) domains watched are.2,
+  )
+
+-- what has to be known of a domain at a time follows from the edges below it
+needs-are : (wave : Wave) (place : ℕ) (domain : Domain) (time : ℕ) (edges : Edges)
+    → EdgesAre wave place domain (Some time) edges → NeedsAre wave domain time (needs_of domain.reset edges)
+needs-are wave place domain time edges are = record {
   valid = are.in_reset.0;
   has_valid = are.in_reset.1;
-  ready = λ e. to wave.probes.reset refl e;
-  has_ready = λ why. back wave.probes.reset refl why;
+  ready = λ e. to domain.reset refl e;
+  has_ready = λ why. back domain.reset refl why;
 }
   where
-    to : (reset : Option Reset) → wave.probes.reset ≡ reset → (is_none reset || edges.in_reset) ≡ true
-        → (wave.probes.reset ≡ None) ⊎ WasReset wave time
+    to : (reset : Option Reset) → domain.reset ≡ reset → (is_none reset || edges.in_reset) ≡ true
+        → (domain.reset ≡ None) ⊎ WasReset wave domain time
     to None is e = inl is
     to (Some reset) is e = inr (are.in_reset.0 e)
 
-    back : (reset : Option Reset) → wave.probes.reset ≡ reset → (wave.probes.reset ≡ None) ⊎ WasReset wave time
+    back : (reset : Option Reset) → domain.reset ≡ reset → (domain.reset ≡ None) ⊎ WasReset wave domain time
         → (is_none reset || edges.in_reset) ≡ true
     back None is why = refl
     back (Some reset) is (inl none) = absurd (cc)
     back (Some reset) is (inr was) = are.in_reset.1 was
 
+-- what is due of all domains at a time
+module _ (wave : Wave) (time : ℕ) where
+  due-here : (domain : Domain) (edges : Edges) (t : Bool)
+      → has_edge (values_before wave time) (values_until wave time) domain ≡ t → (needs : Needs)
+      → cond t (Some (needs_of domain.reset edges)) None ≡ Some needs
+      → (has_edge (values_before wave time) (values_until wave time) domain ≡ true) × (needs_of domain.reset edges ≡ needs)
+  due-here domain edges true edge needs is = (edge, same_Some (needs_of domain.reset edges) needs is)
+  due-here domain edges false edge needs is = absurd (cc)
+
+  due-each : (first : ℕ) (domains : List Domain) (watched : List Watched) → AllWatched wave (Some time) first domains watched
+      → (place : ℕ) (needs : Needs)
+      → due_at (dues_of (values_before wave time) (values_until wave time) watched) place ≡ Some needs
+      → (domain : Domain) × (slice_get domains place ≡ Some domain)
+      × (has_edge (values_before wave time) (values_until wave time) domain ≡ true) × NeedsAre wave domain time needs
+  due-each first [] [] are place needs is = absurd (cc)
+  due-each first [] (one ∷ watched) are place needs is = absurd are
+  due-each first (domain ∷ domains) [] are place needs is = absurd are
+  due-each first (domain ∷ domains) (one ∷ watched) are zero needs is =
+      let edges = one.edges in
+      let found : cond (has_edge (values_before wave time) (values_until wave time) domain)
+      (Some (needs_of domain.reset edges)) None ≡ Some needs =
+      subst (λ (d : Domain). cond (has_edge (values_before wave time) (values_until wave time) d)
+      (Some (needs_of d.reset edges)) None ≡ Some needs) are.0 is in
+      let both = due-here domain edges (has_edge (values_before wave time) (values_until wave time) domain) refl needs found in (
+        domain,
+        refl,
+        both.0,
+        subst (λ (n : Needs). NeedsAre wave domain time n) both.1
+            (needs-are wave first domain time edges are.1),
+      )
+  due-each first (domain ∷ domains) (one ∷ watched) are (suc place) needs is =
+      due-each (first + 1) domains watched are.2 place needs is
+
+  due-all : (first : ℕ) (domains : List Domain) (watched : List Watched) → AllWatched wave (Some time) first domains watched
+      → (place : ℕ) (domain : Domain) → slice_get domains place ≡ Some domain
+      → has_edge (values_before wave time) (values_until wave time) domain ≡ true
+      → (needs : Needs)
+      × (due_at (dues_of (values_before wave time) (values_until wave time) watched) place ≡ Some needs)
+      × NeedsAre wave domain time needs
+  due-all first [] [] are place domain is edge = absurd (cc)
+  due-all first [] (one ∷ watched) are place domain is edge = absurd are
+  due-all first (other ∷ domains) [] are place domain is edge = absurd are
+  due-all first (other ∷ domains) (one ∷ watched) are zero domain is edge =
+      let same : one.domain ≡ domain = are.0 ∙ same_Some other domain is in
+      let known : EdgesAre wave first domain (Some time) one.edges =
+      subst (λ (d : Domain). EdgesAre wave first d (Some time) one.edges) (same_Some other domain is) are.1 in (
+        needs_of domain.reset one.edges,
+        ap (λ (d : Domain). cond (has_edge (values_before wave time) (values_until wave time) d)
+            (Some (needs_of d.reset one.edges)) None) same
+            ∙ ap (λ (t : Bool). cond t (Some (needs_of domain.reset one.edges)) None) edge,
+        needs-are wave first domain time one.edges known,
+      )
+  due-all first (other ∷ domains) (one ∷ watched) are (suc place) domain is edge =
+      due-all (first + 1) domains watched are.2 place domain is edge
+
+  dues-are : (watched : List Watched) → AllWatched wave (Some time) 0 wave.probes.domains watched
+      → DuesAre wave time (dues_of (values_before wave time) (values_until wave time) watched)
+  dues-are watched are = record {
+    each = λ place needs is.
+        let due = due-each 0 wave.probes.domains watched are place needs is in
+        record { domain = due.0; has = due.1; edge = due.2; are = due.3 };
+    all = λ place domain is edge. due-all 0 wave.probes.domains watched are place domain is edge;
+  }
+
 -- ---- the beats of the present time
 
 module _ (wave : Wave) (time : ℕ) (next : Option ℕ) (ends : Ends wave (Some time) next)
-    (below : StandsBelow next time) (needs : Needs) (are : NeedsAre wave time needs) where
-  edge-beats : has_edge (values_before wave time) (values_until wave time) wave.probes ≡ true
-      → HasBeats wave (Some time) next (rows_of needs time (values_before wave time) wave.probes.channels)
-  edge-beats edge = record {
-    beats = crossing wave needs time 0 wave.probes.channels;
-    each = λ beat has. each-one beat (crossing-each wave needs time 0 wave.probes.channels beat has);
+    (below : StandsBelow next time) (dues : Dues) (are : DuesAre wave time dues) where
+  time-beats : HasBeats wave (Some time) next (rows_of dues time (values_before wave time) wave.probes.channels)
+  time-beats = record {
+    beats = crossing wave dues time 0 wave.probes.channels;
+    each = λ beat has. each-one beat (crossing-each wave dues time 0 wave.probes.channels beat has);
     all = λ beat within. all-of beat within (cases_lt time beat.time);
-    order = crossing-order wave needs time 0 wave.probes.channels;
-    are = crossing-rows wave needs time 0 wave.probes.channels;
+    order = crossing-order wave dues time 0 wave.probes.channels;
+    are = crossing-rows wave dues time 0 wave.probes.channels;
   }
     where
-      each-one : (beat : SampledBeat) → Crosses wave needs time 0 wave.probes.channels beat
+      each-one : (beat : SampledBeat) → Crosses wave dues time 0 wave.probes.channels beat
           → IsWithin wave (Some time) next beat
       each-one beat one =
           let place : one.index ≡ beat.place = omega (arith, one.spot) in
           let looked : slice_get wave.probes.channels beat.place ≡ Some beat.channel =
           subst (λ (n : ℕ). slice_get wave.probes.channels n ≡ Some beat.channel) place one.is in
           record {
-            is = beat-at wave needs time beat are one.now edge looked one.crossed (ends.joined time below)
+            is = beat-at wave dues time beat are one.now looked one.crossed (ends.joined time below)
                 (ends.whole time below);
             since = omega (arith, one.now);
             before = subst (λ (n : ℕ). StandsBelow next n) (sym one.now) below;
           }
 
       all-of : (beat : SampledBeat) → IsWithin wave (Some time) next beat → (time < beat.time) ⊎ (beat.time ≤ time)
-          → Contains (crossing wave needs time 0 wave.probes.channels) beat
+          → Contains (crossing wave dues time 0 wave.probes.channels) beat
       all-of beat within (inl later) = absurd (quiet wave (Some time) next ends beat later within.before within.is)
       all-of beat within (inr order) =
           let now : beat.time ≡ time = omega (arith, order, within.since) in
-          crossing-all wave needs time 0 wave.probes.channels beat beat.place now (omega arith) within.is.looked
-          (crossed-at wave needs time beat are now within.is)
-
-  edgeless : has_edge (values_before wave time) (values_until wave time) wave.probes ≡ false
-      → (beat : SampledBeat) → IsWithin wave (Some time) next beat → (time < beat.time) ⊎ (beat.time ≤ time) → ⊥
-  edgeless none beat within (inl later) = quiet wave (Some time) next ends beat later within.before within.is
-  edgeless none beat within (inr order) =
-      let now : beat.time ≡ time = omega (arith, order, within.since) in
-      both_ways (has_edge (values_before wave time) (values_until wave time) wave.probes) none
-      (edge-at wave time beat now within.is)
-
-  time-beats : HasBeats wave (Some time) next
-      (cond (has_edge (values_before wave time) (values_until wave time) wave.probes)
-      (rows_of needs time (values_before wave time) wave.probes.channels) no_rows)
-  time-beats = go (has_edge (values_before wave time) (values_until wave time) wave.probes) refl
-    where
-      go : (t : Bool) → has_edge (values_before wave time) (values_until wave time) wave.probes ≡ t
-          → HasBeats wave (Some time) next
-          (cond t (rows_of needs time (values_before wave time) wave.probes.channels) no_rows)
-      go true edge = edge-beats edge
-      go false none =
-          no-beats wave (Some time) next (λ beat within. edgeless none beat within (cases_lt time beat.time))
+          crossing-all wave dues time 0 wave.probes.channels beat beat.place now (omega arith) within.is.looked
+          (crossed-at wave dues time beat are now within.is)
 
 -- the edges below the present time, if it is known
-abbrev pub EdgesSoFar : Wave → Option ℕ → Edges → Type 0
-EdgesSoFar wave None edges = edges ≡ no_edges
-EdgesSoFar wave (Some time) edges = EdgesAre wave (Some time) edges
+abbrev pub WatchedSoFar : Wave → Option ℕ → List Watched → Type 0
+WatchedSoFar wave None watched = watched ≡ map unwatched wave.probes.domains
+WatchedSoFar wave (Some time) watched = AllWatched wave (Some time) 0 wave.probes.domains watched
 
 -- a sampler at the end of the present time
 record IsSampler (wave : Wave) (time : Option ℕ) (past : List ValueChange) (s : Sampling) : Type 0 where
   present : s.time ≡ time
-  probes : s.probes ≡ wave.probes
+  joins : s.joins ≡ wave.probes.joins
+  channels : s.channels ≡ wave.probes.channels
   widths : s.widths ≡ wave.widths
   now : s.now ≡ values_after wave past
   before : BeforeIs wave time s.before
-  edges : EdgesSoFar wave time s.edges
+  watched : WatchedSoFar wave time s.watched
 
 abbrev NowIsBelow : Option ℕ → Option ℕ → Type 0
 NowIsBelow None next = ⊤
@@ -340,36 +415,29 @@ NowIsBelow (Some time) next = StandsBelow next time
 rows-at : (wave : Wave) (time : ℕ) (past : List ValueChange) (s : Sampling) → IsSampler wave (Some time) past s
     → values_until wave time ≡ values_after wave past
     → rows_when (Some time) s
-    ≡ cond (has_edge (values_before wave time) (values_until wave time) wave.probes)
-    (rows_of (needs_of wave.probes.reset s.edges) time (values_before wave time) wave.probes.channels) no_rows
+    ≡ rows_of (dues_of (values_before wave time) (values_until wave time) s.watched) time (values_before wave time)
+    wave.probes.channels
 rows-at wave time past s is until =
-    ap (λ (p : Probes). cond (has_edge s.before s.now p) (rows_of (needs_of p.reset s.edges) time s.before p.channels) no_rows)
-    is.probes
-    ∙ ap (λ (vs : List (List ℕ)). cond (has_edge vs s.now wave.probes)
-    (rows_of (needs_of wave.probes.reset s.edges) time vs wave.probes.channels) no_rows) is.before
-    ∙ ap (λ (vs : List (List ℕ)). cond (has_edge (values_before wave time) vs wave.probes)
-    (rows_of (needs_of wave.probes.reset s.edges) time (values_before wave time) wave.probes.channels) no_rows)
-    (is.now ∙ sym until)
+    ap (λ (cs : List Channel). rows_of (dues_of s.before s.now s.watched) time s.before cs) is.channels
+    ∙ ap (λ (vs : List (List ℕ)). rows_of (dues_of vs s.now s.watched) time vs wave.probes.channels) is.before
+    ∙ ap (λ (vs : List (List ℕ)). rows_of (dues_of (values_before wave time) vs s.watched) time (values_before wave time)
+    wave.probes.channels) (is.now ∙ sym until)
 
 -- the edges below the next time
-edges-at : (wave : Wave) (time : ℕ) (next : Option ℕ) (ends : Ends wave (Some time) next) (s : Sampling)
+watched-at : (wave : Wave) (time : ℕ) (next : Option ℕ) (ends : Ends wave (Some time) next) (s : Sampling)
     → IsSampler wave (Some time) ends.past s → StandsBelow next time → values_until wave time ≡ values_after wave ends.past
-    → EdgesAre wave next (edges_when (Some time) s)
-edges-at wave time next ends s is below until =
-    subst (λ (e : Edges). EdgesAre wave next e) (sym same)
-    (edges-more wave time next ends below s.edges is.edges (ticks-at wave time) refl)
+    → AllWatched wave next 0 wave.probes.domains (watched_when (Some time) s)
+watched-at wave time next ends s is below until =
+    subst (λ (ws : List Watched). AllWatched wave next 0 wave.probes.domains ws) (sym same)
+    (all-more wave time next ends below 0 wave.probes.domains s.watched is.watched)
   where
-    same : edges_when (Some time) s
-        ≡ cond (ticks-at wave time) (with_edge s.edges (active_in wave (values_before wave time))
-        (some_crosses (values_before wave time) wave.probes.channels)) s.edges
+    same : watched_when (Some time) s
+        ≡ watched_from 0 (values_before wave time) (values_until wave time) wave.probes.channels s.watched
     same =
-        ap (λ (p : Probes). cond (ticks s.before s.now p.clock)
-        (with_edge s.edges (is_active s.before p.reset) (some_crosses s.before p.channels)) s.edges) is.probes
-        ∙ ap (λ (vs : List (List ℕ)). cond (ticks vs s.now wave.probes.clock)
-        (with_edge s.edges (is_active vs wave.probes.reset) (some_crosses vs wave.probes.channels)) s.edges) is.before
-        ∙ ap (λ (vs : List (List ℕ)). cond (ticks (values_before wave time) vs wave.probes.clock)
-        (with_edge s.edges (active_in wave (values_before wave time))
-        (some_crosses (values_before wave time) wave.probes.channels)) s.edges) (is.now ∙ sym until)
+        ap (λ (cs : List Channel). watched_from 0 s.before s.now cs s.watched) is.channels
+        ∙ ap (λ (vs : List (List ℕ)). watched_from 0 vs s.now wave.probes.channels s.watched) is.before
+        ∙ ap (λ (vs : List (List ℕ)). watched_from 0 (values_before wave time) vs wave.probes.channels s.watched)
+        (is.now ∙ sym until)
 
 until-now : (wave : Wave) (time : ℕ) (next : Option ℕ) (ends : Ends wave (Some time) next) → StandsBelow next time
     → values_until wave time ≡ values_after wave ends.past
@@ -377,18 +445,21 @@ until-now wave time next ends below =
     until-is wave (Some time) next ends time
     (each-weaker (IsUpTo (Some time)) (λ at. is_until time at ≡ true) ends.past (λ at. up-to-until time at) ends.until) below
 
-edges-when : (wave : Wave) (time next : Option ℕ) (ends : Ends wave time next) (s : Sampling)
-    → IsSampler wave time ends.past s → NowIsBelow time next → EdgesAre wave next (edges_when time s)
-edges-when wave None next ends s is below =
-    subst (λ (e : Edges). EdgesAre wave next e) (sym is.edges) (edges-none wave next ends)
-edges-when wave (Some time) next ends s is below =
-    edges-at wave time next ends s is below (until-now wave time next ends below)
+watched-when : (wave : Wave) (time next : Option ℕ) (ends : Ends wave time next) (s : Sampling)
+    → IsSampler wave time ends.past s → NowIsBelow time next
+    → AllWatched wave next 0 wave.probes.domains (watched_when time s)
+watched-when wave None next ends s is below =
+    subst (λ (ws : List Watched). AllWatched wave next 0 wave.probes.domains ws) (sym is.watched)
+    (all-none wave next ends 0 wave.probes.domains)
+watched-when wave (Some time) next ends s is below =
+    watched-at wave time next ends s is below (until-now wave time next ends below)
 
-edges-next : (wave : Wave) (time next : Option ℕ) (ends : Ends wave time next) (s : Sampling)
-    → IsSampler wave time ends.past s → NowIsBelow time next → EdgesAre wave next (edges_now s)
-edges-next wave time next ends s is below =
-    subst (λ (at : Option ℕ). EdgesAre wave next (edges_when at s)) (sym is.present)
-    (edges-when wave time next ends s is below)
+watched-next : (wave : Wave) (time next : Option ℕ) (ends : Ends wave time next) (s : Sampling)
+    → IsSampler wave time ends.past s → NowIsBelow time next
+    → AllWatched wave next 0 wave.probes.domains (watched_now s)
+watched-next wave time next ends s is below =
+    subst (λ (at : Option ℕ). AllWatched wave next 0 wave.probes.domains (watched_when at s)) (sym is.present)
+    (watched-when wave time next ends s is below)
 
 ended-at : (wave : Wave) (time next : Option ℕ) (ends : Ends wave time next) (s : Sampling)
     → IsSampler wave time ends.past s → NowIsBelow time next → HasBeats wave time next (rows_when time s)
@@ -397,7 +468,8 @@ ended-at wave None next ends s is below =
 ended-at wave (Some time) next ends s is below =
     subst (λ (r : Rows). HasBeats wave (Some time) next r)
     (sym (rows-at wave time ends.past s is (until-now wave time next ends below)))
-    (time-beats wave time next ends below (needs_of wave.probes.reset s.edges) (needs-are wave time s.edges is.edges))
+    (time-beats wave time next ends below (dues_of (values_before wave time) (values_until wave time) s.watched)
+    (dues-are wave time s.watched is.watched))
 
 ended : (wave : Wave) (time next : Option ℕ) (ends : Ends wave time next) (s : Sampling)
     → IsSampler wave time ends.past s → NowIsBelow time next → HasBeats wave time next (rows_now s)
@@ -488,26 +560,27 @@ module _ (wave : Wave) (time : Option ℕ) (next : ℕ) (happens : List Happens)
         ∙ whole-before next happens early runs.rises.1 below;
   }
 
-  later-edges : EdgesAre wave (Some next) (edges_now s)
+  later-watched : AllWatched wave (Some next) 0 wave.probes.domains (watched_now s)
   unfolding later-ends
-  later-edges = edges-next wave time (Some next) later-ends s runs.sampler (now-below time next less)
+  later-watched = watched-next wave time (Some next) later-ends s runs.sampler (now-below time next less)
 
   later-runs : Runs wave (Some next) happens (begun s next)
   later-runs = record {
     past = runs.past;
     sampler = record {
       present = refl;
-      probes = runs.sampler.probes;
+      joins = runs.sampler.joins;
+      channels = runs.sampler.channels;
       widths = runs.sampler.widths;
       now = runs.sampler.now;
-      before = ap (λ (p : Probes). with_joined p.joins s.now) runs.sampler.probes
+      before = ap (λ (parts : List Tap). with_joined parts s.now) runs.sampler.joins
           ∙ ap (λ (vs : List (List ℕ)). with_joined wave.probes.joins vs) runs.sampler.now
           ∙ sym (before-past wave runs.past (changes_after (Some next) happens) next runs.changes
           (each-weaker (IsUpTo time) (λ at. is_before next at ≡ true) runs.past
           (λ at up. up-to-before time next at less up) runs.until)
           (each-weaker (IsFrom next) (λ at. is_before next at ≡ false) (changes_after (Some next) happens)
           (λ at from. from-before next at from) (changes-from next happens runs.rises.1)));
-      edges = later-edges;
+      watched = later-watched;
     };
     changes = runs.changes;
     cut = runs.cut;
@@ -549,11 +622,12 @@ value-runs wave time slot digits happens s runs =
       past = runs.past ++ (record { time = time; slot = slot; digits = digits } ∷ []);
       sampler = record {
         present = kept.time ∙ runs.sampler.present;
-        probes = kept.probes ∙ runs.sampler.probes;
+        joins = kept.joins ∙ runs.sampler.joins;
+        channels = kept.channels ∙ runs.sampler.channels;
         widths = kept.widths ∙ runs.sampler.widths;
         now = now-push wave runs.past s change runs.sampler.now runs.sampler.widths;
         before = value-before wave time s.before (with_value s slot digits).before kept.earlier runs.sampler.before;
-        edges = subst (λ (e : Edges). EdgesSoFar wave time e) (sym kept.edges) runs.sampler.edges;
+        watched = subst (λ (ws : List Watched). WatchedSoFar wave time ws) (sym kept.watched) runs.sampler.watched;
       };
       changes = runs.changes ∙ sym (append_assoc runs.past (change ∷ []) (changes_after time happens));
       cut = runs.cut;
@@ -564,17 +638,85 @@ value-runs wave time slot digits happens s runs =
       rises = runs.rises;
     }
 
--- changes are told again
-crossed-gap : (wave : Wave) (time : Option ℕ) (edges : Edges) → EdgesSoFar wave time edges → edges.crossed ≡ true
-    → MayLose wave time
-crossed-gap wave None edges is crossed =
-    both_ways true (sym crossed ∙ ap (λ (e : Edges). e.crossed) is) refl
-crossed-gap wave (Some time) edges is crossed = is.crossed.0 crossed
+-- changes are told again: whether a beat had crossed
+none-crossed : (domains : List Domain) → some_crossed (map unwatched domains) ≡ false
+none-crossed [] = refl
+none-crossed (domain ∷ domains) = none-crossed domains
 
-gap-crossed : (wave : Wave) (time : Option ℕ) (edges : Edges) → EdgesSoFar wave time edges → MayLose wave time
-    → edges.crossed ≡ true
-gap-crossed wave None edges is gap = absurd gap
-gap-crossed wave (Some time) edges is gap = is.crossed.1 gap
+module _ (wave : Wave) (time : ℕ) where
+  -- a beat had crossed in one of these domains, of which the first has this place
+  abbrev CrossedAmong : ℕ → List Domain → Type 0
+  CrossedAmong first domains =
+      (place : ℕ) × (domain : Domain) × (slice_get domains place ≡ Some domain)
+      × HasEdge wave domain.clock (crossed_in wave (first + place) domain) (Some time)
+
+  crossed-each : (first : ℕ) (domains : List Domain) (watched : List Watched)
+      → AllWatched wave (Some time) first domains watched → some_crossed watched ≡ true → CrossedAmong first domains
+  crossed-each first [] [] are crossed = absurd (cc)
+  crossed-each first [] (one ∷ watched) are crossed = absurd are
+  crossed-each first (domain ∷ domains) [] are crossed = absurd are
+  crossed-each first (domain ∷ domains) (one ∷ watched) are crossed =
+      go one.edges.crossed refl (crossed-each (first + 1) domains watched are.2) crossed
+    where
+      go : (t : Bool) → one.edges.crossed ≡ t → (some_crossed watched ≡ true → CrossedAmong (first + 1) domains)
+          → (t || some_crossed watched) ≡ true → CrossedAmong first (domain ∷ domains)
+      go true is rest e = (
+        0,
+        domain,
+        refl,
+        subst (λ (n : ℕ). HasEdge wave domain.clock (crossed_in wave n domain) (Some time))
+            (let same : first ≡ first + 0 = omega arith in same) (are.1.crossed.0 is),
+      )
+      go false is rest e =
+          let more = rest e in (
+            suc more.0,
+            more.1,
+            more.2,
+            subst (λ (n : ℕ). HasEdge wave more.1.clock (crossed_in wave n more.1) (Some time))
+                (let same : first + 1 + more.0 ≡ first + suc more.0 = omega arith in same) more.3,
+          )
+
+  crossed-some : (first : ℕ) (domains : List Domain) (watched : List Watched)
+      → AllWatched wave (Some time) first domains watched → (place : ℕ) (domain : Domain)
+      → slice_get domains place ≡ Some domain
+      → HasEdge wave domain.clock (crossed_in wave (first + place) domain) (Some time) → some_crossed watched ≡ true
+  crossed-some first [] [] are place domain is edge = absurd (cc)
+  crossed-some first [] (one ∷ watched) are place domain is edge = absurd are
+  crossed-some first (other ∷ domains) [] are place domain is edge = absurd are
+  crossed-some first (other ∷ domains) (one ∷ watched) are zero domain is edge =
+      let same : other ≡ domain = same_Some other domain is in
+      let here : HasEdge wave domain.clock (crossed_in wave first domain) (Some time) =
+      subst (λ (n : ℕ). HasEdge wave domain.clock (crossed_in wave n domain) (Some time))
+      (let zeroed : first + 0 ≡ first = omega arith in zeroed) edge in
+      ap (λ (t : Bool). t || some_crossed watched) (are.1.crossed.1
+      (subst (λ (d : Domain). HasEdge wave d.clock (crossed_in wave first d) (Some time)) (sym same) here))
+  crossed-some first (other ∷ domains) (one ∷ watched) are (suc place) domain is edge =
+      or-right one.edges.crossed (some_crossed watched) (crossed-some (first + 1) domains watched are.2 place domain is
+      (subst (λ (n : ℕ). HasEdge wave domain.clock (crossed_in wave n domain) (Some time))
+      (let same : first + suc place ≡ first + 1 + place = omega arith in same) edge))
+
+crossed-gap : (wave : Wave) (time : Option ℕ) (watched : List Watched) → WatchedSoFar wave time watched
+    → some_crossed watched ≡ true → MayLose wave time
+crossed-gap wave None watched is crossed =
+    both_ways (some_crossed watched)
+    (ap (λ (ws : List Watched). some_crossed ws) is ∙ none-crossed wave.probes.domains) crossed
+crossed-gap wave (Some time) watched is crossed =
+    let one = crossed-each wave time 0 wave.probes.domains watched is crossed in
+    record {
+      place = one.0;
+      domain = one.1;
+      is = one.2;
+      edge = subst (λ (n : ℕ). HasEdge wave one.1.clock (crossed_in wave n one.1) (Some time))
+          (let same : 0 + one.0 ≡ one.0 = omega arith in same) one.3;
+    }
+
+gap-crossed : (wave : Wave) (time : Option ℕ) (watched : List Watched) → WatchedSoFar wave time watched
+    → MayLose wave time → some_crossed watched ≡ true
+gap-crossed wave None watched is gap = absurd gap
+gap-crossed wave (Some time) watched is gap =
+    crossed-some wave time 0 wave.probes.domains watched is gap.place gap.domain gap.is
+    (subst (λ (n : ℕ). HasEdge wave gap.domain.clock (crossed_in wave n gap.domain) (Some time))
+    (let same : gap.place ≡ 0 + gap.place = omega arith in same) gap.edge)
 
 -- there is a gap, and so no beat behind it
 module _ (wave : Wave) (time : Option ℕ) (line : ℕ) (happens : List Happens) (s : Sampling)
@@ -584,11 +726,11 @@ module _ (wave : Wave) (time : Option ℕ) (line : ℕ) (happens : List Happens)
       subst (λ (gs : List (Option ℕ)). Contains gs time) (sym runs.gaps)
       (Contains-append_right runs.gone (time ∷ gaps_after time happens) time (0, omega arith, refl))
 
-  runs-apart : s.edges.crossed ≡ true → HasBeats wave time None no_rows
+  runs-apart : some_crossed s.watched ≡ true → HasBeats wave time None no_rows
   runs-apart crossed = no-beats wave time None (λ beat within. go time gap-has gap-is beat within)
     where
       gap-is : MayLose wave time
-      gap-is = crossed-gap wave time s.edges runs.sampler.edges crossed
+      gap-is = crossed-gap wave time s.watched runs.sampler.watched crossed
 
       go : (at : Option ℕ) → Contains wave.gaps at → MayLose wave at → (beat : SampledBeat)
           → IsWithin wave at None beat → ⊥
@@ -596,7 +738,7 @@ module _ (wave : Wave) (time : Option ℕ) (line : ℕ) (happens : List Happens)
       go (Some at) has is beat within =
           within.is.joined (Some at) has (le-leb at beat.time within.since) is
 
-  runs-on : s.edges.crossed ≡ false → Runs wave time happens s
+  runs-on : some_crossed s.watched ≡ false → Runs wave time happens s
   runs-on none = record {
     past = runs.past;
     sampler = runs.sampler;
@@ -618,7 +760,7 @@ module _ (wave : Wave) (time : Option ℕ) (line : ℕ) (happens : List Happens)
       go gap (inr self) is =
           let here : MayLose wave time =
           subst (λ (g : Option ℕ). MayLose wave g) (sym (one gap self.0 self.1 self.2)) is in
-          both_ways s.edges.crossed none (gap-crossed wave time s.edges runs.sampler.edges here)
+          both_ways (some_crossed s.watched) none (gap-crossed wave time s.watched runs.sampler.watched here)
 
 same-rows : (s : Sampling) (next : ℕ) (happens : List Happens) → is_at s next ≡ true
     → rows_from (At next ∷ happens) s ≡ rows_from happens s
@@ -674,10 +816,10 @@ time-on wave (Some time) next happens s runs more = go (cases_lt time next)
 
 resume-on : (wave : Wave) (time : Option ℕ) (line : ℕ) (happens : List Happens) (s : Sampling)
     → Runs wave time (Resumes line ∷ happens) s → Continues wave happens
-    → HasBeats wave time None (cond s.edges.crossed no_rows (rows_from happens s))
-resume-on wave time line happens s runs more = go s.edges.crossed refl
+    → HasBeats wave time None (cond (some_crossed s.watched) no_rows (rows_from happens s))
+resume-on wave time line happens s runs more = go (some_crossed s.watched) refl
   where
-    go : (t : Bool) → s.edges.crossed ≡ t → HasBeats wave time None (cond t no_rows (rows_from happens s))
+    go : (t : Bool) → some_crossed s.watched ≡ t → HasBeats wave time None (cond t no_rows (rows_from happens s))
     go true crossed = runs-apart wave time line happens s runs crossed
     go false none = more time s (runs-on wave time line happens s runs none)
 
@@ -692,19 +834,21 @@ from-beats wave (Resumes line ∷ happens) time s runs = resume-on wave time lin
 from-beats wave (Wrong line mistake ∷ happens) time s runs = runs-cut wave time runs.cut
 
 -- before anything has happened
-first-runs : (happens : List Happens) (s : Sampling) → s.time ≡ None → s.edges ≡ no_edges → NeverFalls None happens
-    → Runs (wave_of s.probes s.now s.widths happens) None happens s
-first-runs happens s none edgeless rises =
-    let wave = wave_of s.probes s.now s.widths happens in
+first-runs : (happens : List Happens) (probes : Probes) (before now : List (List ℕ)) (widths : List ℕ)
+    → NeverFalls None happens
+    → Runs (wave_of probes now widths happens) None happens (sampling_by probes before now widths)
+first-runs happens probes before now widths rises =
+    let wave = wave_of probes now widths happens in
     record {
       past = [];
       sampler = record {
-        present = none;
-        probes = refl;
+        present = refl;
+        joins = refl;
+        channels = refl;
         widths = refl;
         now = values-none wave;
         before = tt;
-        edges = edgeless;
+        watched = refl;
       };
       changes = refl;
       cut = refl;
@@ -716,11 +860,13 @@ first-runs happens s none edgeless rises =
     }
 
 -- the rows of a whole dump, by a sampler that has taken nothing
-pub sampled : (happens : List Happens) (s : Sampling) → s.time ≡ None → s.edges ≡ no_edges → NeverFalls None happens
-    → AreSampled (wave_of s.probes s.now s.widths happens) (rows_from happens s)
-sampled happens s none edgeless rises =
-    let wave = wave_of s.probes s.now s.widths happens in
-    let has = from-beats wave happens None s (first-runs happens s none edgeless rises) in
+pub sampled : (happens : List Happens) (probes : Probes) (before now : List (List ℕ)) (widths : List ℕ)
+    → NeverFalls None happens
+    → AreSampled (wave_of probes now widths happens) (rows_from happens (sampling_by probes before now widths))
+sampled happens probes before now widths rises =
+    let wave = wave_of probes now widths happens in
+    let has = from-beats wave happens None (sampling_by probes before now widths)
+    (first-runs happens probes before now widths rises) in
     record {
       beats = has.beats;
       each = λ beat. (
@@ -771,21 +917,21 @@ time-ends wave (Some time) next happens s runs more = go (cases_lt time next)
 
 resume-ends : (wave : Wave) (time : Option ℕ) (line : ℕ) (happens : List Happens) (s : Sampling) → HasNoGap wave
     → Runs wave time (Resumes line ∷ happens) s → Concludes wave happens
-    → EndsSampled wave (cond s.edges.crossed (BeforeLine line Gap) (end_in happens s))
-resume-ends wave time line happens s joined runs more = go s.edges.crossed refl
+    → EndsSampled wave (cond (some_crossed s.watched) (BeforeLine line Gap) (end_in happens s))
+resume-ends wave time line happens s joined runs more = go (some_crossed s.watched) refl
   where
-    go : (t : Bool) → s.edges.crossed ≡ t → EndsSampled wave (cond t (BeforeLine line Gap) (end_in happens s))
+    go : (t : Bool) → some_crossed s.watched ≡ t → EndsSampled wave (cond t (BeforeLine line Gap) (end_in happens s))
     go true crossed =
         absurd (joined time (gap-has wave time line happens s runs)
-        (crossed-gap wave time s.edges runs.sampler.edges crossed))
+        (crossed-gap wave time s.watched runs.sampler.watched crossed))
     go false none = more time s (runs-on wave time line happens s runs none)
 
 from-ends : (wave : Wave) (happens : List Happens) → wave.cut ≡ None → HasNoGap wave → Concludes wave happens
 unfolding end_in last-ends
 from-ends wave [] whole joined time s runs = record {
-  edges = edges_now s;
-  are = edges-next wave time None (last-ends wave time s runs) s runs.sampler (now-below-none time);
-  is = ap (λ (p : Probes). end_of_edges (edge_fault p.clock.edge p.reset (edges_now s))) runs.sampler.probes;
+  watched = watched_now s;
+  are = watched-next wave time None (last-ends wave time s runs) s runs.sampler (now-below-none time);
+  is = refl;
 }
 from-ends wave (At next ∷ happens) whole joined time s runs =
     time-ends wave time next happens s runs (from-ends wave happens whole joined)
@@ -796,9 +942,9 @@ from-ends wave (Resumes line ∷ happens) whole joined time s runs =
 from-ends wave (Wrong line mistake ∷ happens) whole joined time s runs =
     let both : ◌≡◌ {A = Option (Option ℕ)} None (Some time) = sym whole ∙ runs.cut in absurd (cc)
 
-pub ends-sampled : (happens : List Happens) (s : Sampling) → s.time ≡ None → s.edges ≡ no_edges
-    → NeverFalls None happens → cut_after None happens ≡ None → HasNoGap (wave_of s.probes s.now s.widths happens)
-    → EndsSampled (wave_of s.probes s.now s.widths happens) (end_in happens s)
-ends-sampled happens s none edgeless rises whole joined =
-    from-ends (wave_of s.probes s.now s.widths happens) happens whole joined None s
-    (first-runs happens s none edgeless rises)
+pub ends-sampled : (happens : List Happens) (probes : Probes) (before now : List (List ℕ)) (widths : List ℕ)
+    → NeverFalls None happens → cut_after None happens ≡ None → HasNoGap (wave_of probes now widths happens)
+    → EndsSampled (wave_of probes now widths happens) (end_in happens (sampling_by probes before now widths))
+ends-sampled happens probes before now widths rises whole joined =
+    from-ends (wave_of probes now widths happens) happens whole joined None (sampling_by probes before now widths)
+    (first-runs happens probes before now widths rises)

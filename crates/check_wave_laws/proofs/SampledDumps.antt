@@ -1,5 +1,5 @@
 -- The times of a dump do not fall, so its rows are those of its beats; and there are no other rows of these beats.
-use Rattle.std.proofs.Common.{◌≡◌, ◌∙◌, ℕ, ◌-◌, ◌⊎◌, inl, inr, ◌==◌, ◌||◌, Bool, true, false, cond, not, nat_lt, List, [], ◌∷◌, length, map, Contains, Option, None, Some, ap, arith, refl, subst, sym}
+use Rattle.std.proofs.Common.{◌≡◌, ◌∙◌, ℕ, ◌-◌, ◌⊎◌, inl, inr, ◌==◌, ◌||◌, Bool, true, false, cond, not, nat_lt, List, [], ◌∷◌, ◌++◌, length, map, Contains, Option, None, Some, ap, arith, refl, subst, sym}
 use Rattle.std.specs.Prelude.{⊤}
 use Rattle.std.proofs.lemmas.Bool.{le-leb, ltb-false}
 use Rattle.tl_text.specs.Number.{number_of}
@@ -14,10 +14,10 @@ use Rattle.check_vcd.specs.declared.codes.Coded.{Coded}
 use Rattle.check_vcd.specs.declared.fault.Mistake.TheVariants.{BadValue, TimeFalls, TooWide}
 use Rattle.check_vcd.specs.declared.token.TokenKind.{TokenKind}
 use Rattle.check_vcd.specs.declared.token.TokenKind.TheVariants as kind
-use Rattle.check_samples.specs.Edges.{no_edges}
+use Rattle.check_samples.specs.Digits.{unknown}
 use Rattle.check_samples.specs.Left.{end_in}
-use Rattle.check_samples.specs.Rows.{Rows}
-use Rattle.check_samples.specs.Sampling.{Sampling, rows_from}
+use Rattle.check_samples.specs.Rows.{Probes, Rows}
+use Rattle.check_samples.specs.Sampling.{rows_from, sampling_by}
 use Rattle.check_signals.specs.Found.{Found, digits_in, find_of, sampling_of, width_in}
 use Rattle.check_wave_laws.specs.Sampled.{AreInOrder, AreSampled, EndsSampled, HasNoGap, SampledBeat, NeverFalls, Precedes, Wave, cut_after, is_until, sampled_rows, wave_of}
 use Rattle.check_wave_laws.proofs.Edges.{here, here-or-there, none-there, there}
@@ -133,17 +133,19 @@ module _ (find : Find) where
       followed-rises body.time (step_of find body word.line word.size word.bytes) word.line (happenings find words)
       (word-rises body.place body word.line word.size word.bytes) (λ next. never-falls words next)
 
-pub dump-sampled : (find : Find) (words : List Word) (s : Sampling) → s.time ≡ None → s.edges ≡ no_edges
-    → AreSampled (wave_of s.probes s.now s.widths (happenings find words start))
-    (rows_from (happenings find words start) s)
-dump-sampled find words s none edgeless =
-    sampled (happenings find words start) s none edgeless (never-falls find words start)
+pub dump-sampled : (find : Find) (words : List Word) (probes : Probes) (before now : List (List ℕ)) (widths : List ℕ)
+    → AreSampled (wave_of probes now widths (happenings find words start))
+    (rows_from (happenings find words start) (sampling_by probes before now widths))
+dump-sampled find words probes before now widths =
+    sampled (happenings find words start) probes before now widths (never-falls find words start)
 
 pub system-sampled : (vars : List Var) (words : List Word) (found : Found)
     → AreSampled (wave_of found.probes (map digits_in found.kept) (map width_in found.kept)
     (happenings (find_of vars found) words start))
     (rows_from (happenings (find_of vars found) words start) (sampling_of found))
-system-sampled vars words found = dump-sampled (find_of vars found) words (sampling_of found) refl refl
+system-sampled vars words found =
+    dump-sampled (find_of vars found) words found.probes (map (λ value. unknown (width_in value)) found.kept ++ ([] ∷ []))
+    (map digits_in found.kept) (map width_in found.kept)
 
 -- how whole dumps end
 pub system-ends : (vars : List Var) (words : List Word) (found : Found)
@@ -154,7 +156,8 @@ pub system-ends : (vars : List Var) (words : List Word) (found : Found)
     (happenings (find_of vars found) words start))
     (end_in (happenings (find_of vars found) words start) (sampling_of found))
 system-ends vars words found whole joined =
-    ends-sampled (happenings (find_of vars found) words start) (sampling_of found) refl refl
+    ends-sampled (happenings (find_of vars found) words start) found.probes
+    (map (λ value. unknown (width_in value)) found.kept ++ ([] ∷ [])) (map digits_in found.kept) (map width_in found.kept)
     (never-falls (find_of vars found) words start) whole joined
 
 -- ---- no other rows

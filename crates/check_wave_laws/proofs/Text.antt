@@ -8,9 +8,9 @@ use Rattle.check_beats.specs.declared.bus.Bus.{Bus}
 use Rattle.check_rows.specs.Buses.{bus_of_link}
 use Rattle.check_rows.specs.Row.{SeenRow}
 use Rattle.check_samples.specs.Digits.{bits_of, extended, fill_of, joined_of, part_if_any, part_of, set_extended, with_joined}
-use Rattle.check_samples.specs.Edges.{needs_of}
-use Rattle.check_samples.specs.Rows.{Probes, Rows, and_then, crosses, followed_by, hand_alone, has_edge, no_rows, row_alone, row_at, rows_at, rows_of, unknown_hand}
-use Rattle.check_samples.specs.Sampling.{Sampling, at_time, edges_now, is_at, rows_from, rows_now, rows_when, with_value}
+use Rattle.check_samples.specs.EdgeFault.{some_crossed}
+use Rattle.check_samples.specs.Rows.{Dues, Rows, and_then, crosses, due_at, followed_by, hand_alone, no_rows, row_alone, row_at, rows_at, rows_due, rows_of, unknown_hand}
+use Rattle.check_samples.specs.Sampling.{Sampling, at_time, dues_of, is_at, rows_from, rows_now, rows_when, watched_now, with_value}
 use Rattle.check_samples.specs.declared.channel.BeatTaps.{BeatTaps}
 use Rattle.check_samples.specs.declared.channel.BeatTaps.TheVariants.{A, D}
 use Rattle.check_samples.specs.declared.channel.Channel.{Channel}
@@ -136,7 +136,7 @@ module _ (masters ports : List Bus) (channels : List Channel) where
 module _ (masters ports : List Bus) (channels : List Channel) (widths : List ℕ) (few_masters : length masters < 2 ^ 64)
     (few_ports : length ports < 2 ^ 64)
     (fit : (which : Channel) → Contains channels which → ChannelFits masters ports widths which) (time : ℕ)
-    (in_time : time < 2 ^ 64) (values : List (List ℕ)) (has : map length values ≡ widths) (needs : Needs) where
+    (in_time : time < 2 ^ 64) (values : List (List ℕ)) (has : map length values ≡ widths) (dues : Dues) where
   readable-row : (which : Channel) (text : List ℕ) → Contains channels which → crosses values which ≡ true
       → row_at time values which ≡ Ok text → Readable masters ports channels text
   readable-row which text one crossed is = λ line.
@@ -160,9 +160,9 @@ module _ (masters ports : List Bus) (channels : List Channel) (widths : List ℕ
         );
       }
 
-  readable-at : (which : Channel) → Contains channels which
+  readable-at : (needs : Needs) (which : Channel) → Contains channels which
       → Readable masters ports channels (rows_at needs time values which).text
-  readable-at which one = go (crosses values which) refl
+  readable-at needs which one = go (crosses values which) refl
     where
       alone : (r : Result (List ℕ) Signal) → row_at time values which ≡ r → crosses values which ≡ true
           → Readable masters ports channels (row_alone time which r).text
@@ -179,12 +179,18 @@ module _ (masters ports : List Bus) (channels : List Channel) (widths : List ℕ
       go true crossed = alone (row_at time values which) refl crossed
       go false crossed = hand (unknown_hand needs values which)
 
+  readable-due : (due : Option Needs) (which : Channel) → Contains channels which
+      → Readable masters ports channels (rows_due due time values which).text
+  readable-due None which one = readable-none masters ports channels
+  readable-due (Some needs) which one = readable-at needs which one
+
   pub readable-of : (some : List Channel) → ((which : Channel) → Contains some which → Contains channels which)
-      → Readable masters ports channels (rows_of needs time values some).text
+      → Readable masters ports channels (rows_of dues time values some).text
   readable-of [] within = readable-none masters ports channels
   readable-of (which ∷ some) within =
-      readable-and masters ports channels (rows_at needs time values which) (rows_of needs time values some)
-      (readable-at which (within which (0, omega arith, refl)))
+      readable-and masters ports channels (rows_due (due_at dues which.domain) time values which)
+      (rows_of dues time values some)
+      (readable-due (due_at dues which.domain) which (within which (0, omega arith, refl)))
       (readable-of some (λ other has_it. within other (suc has_it.0, omega (arith, has_it.1), has_it.2)))
 
 -- ---- all times
@@ -247,10 +253,10 @@ pub time-fits : (masters ports : List Bus) (s : Sampling) (time : ℕ) → Sampl
 time-fits masters ports s time fits below = go (is_at s time)
   where
     go : (t : Bool) → SamplingFits masters ports
-        (cond t s (record s { before = with_joined s.probes.joins s.now; time = Some time; edges = edges_now s }))
+        (cond t s (record s { before = with_joined s.joins s.now; time = Some time; watched = watched_now s }))
     go true = fits
     go false = record {
-      before = joined-widths s.now s.widths s.probes.joins fits.now fits.joins;
+      before = joined-widths s.now s.widths s.joins fits.now fits.joins;
       now = fits.now;
       time = below;
       joins = fits.joins;
@@ -259,57 +265,51 @@ time-fits masters ports s time fits below = go (is_at s time)
 
 -- what is looked at and how many bits values have stays
 record IsSame (after before : Sampling) : Type 0 where
-  probes : after.probes ≡ before.probes
+  channels : after.channels ≡ before.channels
   widths : before.widths ≡ after.widths
 
 value-same : (s : Sampling) (slot : ℕ) (digits : List ℕ) → IsSame (with_value s slot digits) s
 value-same s slot digits = go (nat_lt slot (length s.now))
   where
     go : (t : Bool) → IsSame (cond t (record s { now = set_extended s.widths s.now slot digits }) s) s
-    go true = record { probes = refl; widths = refl }
-    go false = record { probes = refl; widths = refl }
+    go true = record { channels = refl; widths = refl }
+    go false = record { channels = refl; widths = refl }
 
 time-same : (s : Sampling) (time : ℕ) → IsSame (at_time s time) s
 time-same s time = go (is_at s time)
   where
     go : (t : Bool)
-        → IsSame (cond t s (record s { before = with_joined s.probes.joins s.now; time = Some time; edges = edges_now s })) s
-    go true = record { probes = refl; widths = refl }
-    go false = record { probes = refl; widths = refl }
+        → IsSame (cond t s (record s { before = with_joined s.joins s.now; time = Some time; watched = watched_now s })) s
+    go true = record { channels = refl; widths = refl }
+    go false = record { channels = refl; widths = refl }
 
 module _ (masters ports : List Bus) (few_masters : length masters < 2 ^ 64) (few_ports : length ports < 2 ^ 64) where
   readable-now : (s : Sampling) → SamplingFits masters ports s
-      → Readable masters ports s.probes.channels (rows_now s).text
+      → Readable masters ports s.channels (rows_now s).text
   readable-now s fits = go s.time fits.time fits.before
     where
-      edge : (time : ℕ) → time < 2 ^ 64 → map length s.before ≡ with_joined_width s.probes.joins s.widths → (t : Bool)
-          → Readable masters ports s.probes.channels
-          (cond t (rows_of (needs_of s.probes.reset s.edges) time s.before s.probes.channels) no_rows).text
-      edge time below has true =
-          readable-of masters ports s.probes.channels (with_joined_width s.probes.joins s.widths) few_masters few_ports
-          fits.channels time below s.before has (needs_of s.probes.reset s.edges) s.probes.channels (λ which one. one)
-      edge time below has false = readable-none masters ports s.probes.channels
-
       go : (at : Option ℕ) → IfSome at (λ time. time < 2 ^ 64)
-          → IfSome at (λ time. map length s.before ≡ with_joined_width s.probes.joins s.widths)
-          → Readable masters ports s.probes.channels (rows_when at s).text
-      go None below has = readable-none masters ports s.probes.channels
-      go (Some time) below has = edge time below has (has_edge s.before s.now s.probes)
+          → IfSome at (λ time. map length s.before ≡ with_joined_width s.joins s.widths)
+          → Readable masters ports s.channels (rows_when at s).text
+      go None below has = readable-none masters ports s.channels
+      go (Some time) below has =
+          readable-of masters ports s.channels (with_joined_width s.joins s.widths) few_masters few_ports
+          fits.channels time below s.before has (dues_of s.before s.now s.watched) s.channels (λ which one. one)
 
   readable-same : (s next : Sampling) (text : List ℕ) → IsSame next s
-      → Readable masters ports next.probes.channels text → Readable masters ports s.probes.channels text
+      → Readable masters ports next.channels text → Readable masters ports s.channels text
   readable-same s next text same readable =
-      subst (λ (probes : Probes). Readable masters ports probes.channels text) same.probes readable
+      subst (λ (channels : List Channel). Readable masters ports channels text) same.channels readable
 
   by-time : (s : Sampling) (time : ℕ) (t : Bool) (same next : Rows) → SamplingFits masters ports s
-      → Readable masters ports s.probes.channels same.text → Readable masters ports s.probes.channels next.text
-      → Readable masters ports s.probes.channels (cond t same (and_then (rows_now s) next)).text
+      → Readable masters ports s.channels same.text → Readable masters ports s.channels next.text
+      → Readable masters ports s.channels (cond t same (and_then (rows_now s) next)).text
   by-time s time true same next fits one two = one
   by-time s time false same next fits one two =
-      readable-and masters ports s.probes.channels (rows_now s) next (readable-now s fits) two
+      readable-and masters ports s.channels (rows_now s) next (readable-now s fits) two
 
   pub readable-from : (happens : List Happens) (s : Sampling) → SamplingFits masters ports s
-      → HappensFit s.widths happens → Readable masters ports s.probes.channels (rows_from happens s).text
+      → HappensFit s.widths happens → Readable masters ports s.channels (rows_from happens s).text
   unfolding rows_from
   readable-from [] s fits all = readable-now s fits
   readable-from (At time ∷ happens) s fits all =
@@ -324,10 +324,10 @@ module _ (masters ports : List Bus) (few_masters : length masters < 2 ^ 64) (few
       readable-same s next (rows_from happens next).text (value-same s slot digits)
       (readable-from happens next (value-fits masters ports s slot digits fits all.0)
       (subst (λ (ws : List ℕ). HappensFit ws happens) (value-same s slot digits).widths all.1))
-  readable-from (Resumes line ∷ happens) s fits all = by-gap s.edges.crossed (readable-from happens s fits all)
+  readable-from (Resumes line ∷ happens) s fits all = by-gap (some_crossed s.watched) (readable-from happens s fits all)
     where
-      by-gap : (t : Bool) → Readable masters ports s.probes.channels (rows_from happens s).text
-          → Readable masters ports s.probes.channels (cond t no_rows (rows_from happens s)).text
-      by-gap true more = readable-none masters ports s.probes.channels
+      by-gap : (t : Bool) → Readable masters ports s.channels (rows_from happens s).text
+          → Readable masters ports s.channels (cond t no_rows (rows_from happens s)).text
+      by-gap true more = readable-none masters ports s.channels
       by-gap false more = more
-  readable-from (Wrong line mistake ∷ happens) s fits all = readable-none masters ports s.probes.channels
+  readable-from (Wrong line mistake ∷ happens) s fits all = readable-none masters ports s.channels

@@ -1,13 +1,15 @@
 -- What sampling means, said of the changes of a dump alone: which beats there are, and what their rows show. It is this
 -- project's own. A row has the values before the edge, since these are what a register takes at it.
-use Rattle.std.specs.Prelude.{◌≡◌, ◌⊎◌, ◌↔◌, ℕ, ◌<◌, ◌==◌, Bool, true, false, ◌&&◌, not, nat_le, nat_lt, ⊤, List, [], ◌∷◌, length, get_or, map, filter, slice_get, Option, None, Some, Contains, if◌then◌else◌}
+use Rattle.std.specs.Prelude.{◌≡◌, ◌⊎◌, ◌↔◌, ℕ, ◌+◌, ◌<◌, ◌==◌, Bool, true, false, ◌&&◌, not, nat_le, nat_lt, ⊤, List, [], ◌∷◌, length, get_or, map, filter, slice_get, Option, None, Some, Contains, if◌then◌else◌}
 use Rattle.std.specs.List.{last_or, range_with_len}
 use Rattle.check_vcd.specs.Body.{Happens, At, Sets, Resumes, Wrong}
 use Rattle.check_samples.specs.Digits.{bits_of, extended, with_joined}
-use Rattle.check_samples.specs.Edges.{edge_fault}
+use Rattle.check_samples.specs.Domain.{Domain, Watched}
+use Rattle.check_samples.specs.EdgeFault.{edge_fault}
 use Rattle.check_samples.specs.Left.{End, end_of_edges}
 use Rattle.check_samples.specs.Rows.{Probes, Rows, and_then, crosses, hand_alone, is_active, is_early, is_late, is_one, is_unsure, no_rows, ready_of, row_alone, row_at, some_crosses, valid_of}
 use Rattle.check_samples.specs.declared.channel.Channel.{Channel}
+use Rattle.check_samples.specs.declared.clock.Clock.{Clock}
 use Rattle.check_samples.specs.declared.edges.Edges.{Edges}
 use Rattle.check_samples.specs.declared.signal.Signal.{Signal}
 
@@ -123,47 +125,64 @@ abbrev pub StandsBelow : Option ℕ → ℕ → Type 0
 StandsBelow None time = ⊤
 StandsBelow (Some below) time = time < below
 
--- an edge below a time: the clock was the one bit before and is the other at its end, and this was so of the values before it
-pub record HasEdge (wave : Wave) (so : List (List ℕ) → Bool) (below : Option ℕ) : Type 0 where
+-- an edge of a clock below a time: the clock was the one bit before and is the other at its end, and this was so of the values
+-- before it
+pub record HasEdge (wave : Wave) (clock : Clock) (so : List (List ℕ) → Bool) (below : Option ℕ) : Type 0 where
   pub time : ℕ
   pub before : StandsBelow below time
-  pub early : is_early wave.probes.clock.edge (bits_of (values_before wave time) wave.probes.clock.tap) ≡ true
-  pub late : is_late wave.probes.clock.edge (bits_of (values_until wave time) wave.probes.clock.tap) ≡ true
+  pub early : is_early clock.edge (bits_of (values_before wave time) clock.tap) ≡ true
+  pub late : is_late clock.edge (bits_of (values_until wave time) clock.tap) ≡ true
   pub was : so (values_before wave time) ≡ true
 
--- what may be so of the values before an edge: anything; the reset is active, or not; valid and ready of some channel are 1
--- outside of reset, or in it
+-- what may be so of the values before an edge of a domain's clock: anything; its reset is active, or not; valid and ready of
+-- some channel of the domain, which has this place, are 1 outside of reset, or in it
 abbrev pub always : List (List ℕ) → Bool
 always values = true
 
-abbrev pub active_in : Wave → List (List ℕ) → Bool
-active_in wave values = is_active values wave.probes.reset
+abbrev pub active_in : Domain → List (List ℕ) → Bool
+active_in domain values = is_active values domain.reset
 
-abbrev pub outside_in : Wave → List (List ℕ) → Bool
-outside_in wave values = not (is_active values wave.probes.reset)
+abbrev pub outside_in : Domain → List (List ℕ) → Bool
+outside_in domain values = not (is_active values domain.reset)
 
-abbrev pub crossed_in : Wave → List (List ℕ) → Bool
-crossed_in wave values = not (is_active values wave.probes.reset) && some_crosses values wave.probes.channels
+abbrev pub crossed_in : Wave → ℕ → Domain → List (List ℕ) → Bool
+crossed_in wave place domain values =
+    not (is_active values domain.reset) && some_crosses place values wave.probes.channels
 
-abbrev pub masked_in : Wave → List (List ℕ) → Bool
-masked_in wave values = is_active values wave.probes.reset && some_crosses values wave.probes.channels
+abbrev pub masked_in : Wave → ℕ → Domain → List (List ℕ) → Bool
+masked_in wave place domain values = is_active values domain.reset && some_crosses place values wave.probes.channels
 
--- there were these edges below a time, or in all of a dump if there is none
-pub record EdgesAre (wave : Wave) (below : Option ℕ) (edges : Edges) : Type 0 where
-  pub any : (edges.any ≡ true) ↔ HasEdge wave always below
-  pub outside : (edges.outside ≡ true) ↔ HasEdge wave (outside_in wave) below
-  pub in_reset : (edges.in_reset ≡ true) ↔ HasEdge wave (active_in wave) below
-  pub crossed : (edges.crossed ≡ true) ↔ HasEdge wave (crossed_in wave) below
-  pub masked : (edges.masked ≡ true) ↔ HasEdge wave (masked_in wave) below
+-- there were these edges of a domain, which has this place, below a time, or in all of a dump if there is none
+pub record EdgesAre (wave : Wave) (place : ℕ) (domain : Domain) (below : Option ℕ) (edges : Edges) : Type 0 where
+  pub any : (edges.any ≡ true) ↔ HasEdge wave domain.clock always below
+  pub outside : (edges.outside ≡ true) ↔ HasEdge wave domain.clock (outside_in domain) below
+  pub in_reset : (edges.in_reset ≡ true) ↔ HasEdge wave domain.clock (active_in domain) below
+  pub crossed : (edges.crossed ≡ true) ↔ HasEdge wave domain.clock (crossed_in wave place domain) below
+  pub masked : (edges.masked ≡ true) ↔ HasEdge wave domain.clock (masked_in wave place domain) below
 
--- the reset was active at an earlier edge
-abbrev pub WasReset : Wave → ℕ → Type 0
-WasReset wave time = HasEdge wave (active_in wave) (Some time)
+-- so it is with each of these domains, of which the first has this place
+abbrev pub AllWatched : Wave → Option ℕ → ℕ → List Domain → List Watched → Type 0
+AllWatched wave below place [] [] = ⊤
+AllWatched wave below place [] (one ∷ watched) = ⊥
+AllWatched wave below place (domain ∷ domains) [] = ⊥
+AllWatched wave below place (domain ∷ domains) (one ∷ watched) =
+    (one.domain ≡ domain) × EdgesAre wave place domain below one.edges × AllWatched wave below (place + 1) domains watched
+
+-- the reset of a domain was active at an earlier edge of its clock
+abbrev pub WasReset : Wave → Domain → ℕ → Type 0
+WasReset wave domain time = HasEdge wave domain.clock (active_in domain) (Some time)
+
+-- a beat crossed in some domain at an earlier edge of its clock
+pub record HasCrossed (wave : Wave) (time : ℕ) : Type 0 where
+  pub place : ℕ
+  pub domain : Domain
+  pub is : slice_get wave.probes.domains place ≡ Some domain
+  pub edge : HasEdge wave domain.clock (crossed_in wave place domain) (Some time)
 
 -- where changes are told again there is a gap, if a beat crossed at an earlier time
 abbrev pub MayLose : Wave → Option ℕ → Type 0
 MayLose wave None = ⊥
-MayLose wave (Some time) = HasEdge wave (crossed_in wave) (Some time)
+MayLose wave (Some time) = HasCrossed wave time
 
 abbrev pub HasNoGap : Wave → Type 0
 HasNoGap wave = (gap : Option ℕ) → Contains wave.gaps gap → MayLose wave gap → ⊥
@@ -184,26 +203,28 @@ pub record Meets (wave : Wave) (beat : SampledBeat) : Type 0 where
   pub valid : is_one (bits_of (values_before wave beat.time) beat.channel.valid) ≡ true
   pub ready : is_one (bits_of (values_before wave beat.time) beat.channel.ready) ≡ true
 
--- valid was unknown, although the reset was active at an earlier edge
-pub record HidesValid (wave : Wave) (beat : SampledBeat) : Type 0 where
-  pub reset : WasReset wave beat.time
+-- valid was unknown, although the reset of its domain was active at an earlier edge
+pub record HidesValid (wave : Wave) (domain : Domain) (beat : SampledBeat) : Type 0 where
+  pub reset : WasReset wave domain beat.time
   pub valid : is_unsure (bits_of (values_before wave beat.time) beat.channel.valid) ≡ true
 
--- valid was 1 and ready unknown, although there is no reset or it was active at an earlier edge
-pub record HidesReady (wave : Wave) (beat : SampledBeat) : Type 0 where
-  pub reset : (wave.probes.reset ≡ None) ⊎ WasReset wave beat.time
+-- valid was 1 and ready unknown, although the domain has no reset or it was active at an earlier edge
+pub record HidesReady (wave : Wave) (domain : Domain) (beat : SampledBeat) : Type 0 where
+  pub reset : (domain.reset ≡ None) ⊎ WasReset wave domain beat.time
   pub valid : is_one (bits_of (values_before wave beat.time) beat.channel.valid) ≡ true
   pub ready : is_unsure (bits_of (values_before wave beat.time) beat.channel.ready) ≡ true
 
--- it is a beat, or it is not known whether it is one: the clock was 0 before the time and is 1 at its end, or for its falling
--- edges the other way round; the reset was not active before it, valid and ready were 1 before it or one of them is hidden, and up to its end there is no gap and
--- no line is wrong
+-- it is a beat, or it is not known whether it is one: the clock of the channel's domain was 0 before the time and is 1 at its
+-- end, or for its falling edges the other way round; the domain's reset was not active before it, valid and ready were 1
+-- before it or one of them is hidden, and up to its end there is no gap and no line is wrong
 pub record IsSampledBeat (wave : Wave) (beat : SampledBeat) : Type 0 where
   pub looked : slice_get wave.probes.channels beat.place ≡ Some beat.channel
-  pub early : is_early wave.probes.clock.edge (bits_of (values_before wave beat.time) wave.probes.clock.tap) ≡ true
-  pub late : is_late wave.probes.clock.edge (bits_of (values_until wave beat.time) wave.probes.clock.tap) ≡ true
-  pub running : is_active (values_before wave beat.time) wave.probes.reset ≡ false
-  pub shows : Meets wave beat ⊎ (HidesValid wave beat ⊎ HidesReady wave beat)
+  pub domain : Domain
+  pub has : slice_get wave.probes.domains beat.channel.domain ≡ Some domain
+  pub early : is_early domain.clock.edge (bits_of (values_before wave beat.time) domain.clock.tap) ≡ true
+  pub late : is_late domain.clock.edge (bits_of (values_until wave beat.time) domain.clock.tap) ≡ true
+  pub running : is_active (values_before wave beat.time) domain.reset ≡ false
+  pub shows : Meets wave beat ⊎ (HidesValid wave domain beat ⊎ HidesReady wave domain beat)
   pub joined : IsJoinedUntil wave beat.time
   pub whole : is_whole wave.cut beat.time ≡ true
 
@@ -242,8 +263,8 @@ pub record AreSampled (wave : Wave) (rows : Rows) : Type 0 where
   pub order : AreInOrder beats
   pub are : rows ≡ sampled_rows wave beats
 
--- a whole dump ends as its edges say
+-- a whole dump ends as the edges of its domains say
 pub record EndsSampled (wave : Wave) (end : End) : Type 0 where
-  pub edges : Edges
-  pub are : EdgesAre wave None edges
-  pub is : end ≡ end_of_edges (edge_fault wave.probes.clock.edge wave.probes.reset edges)
+  pub watched : List Watched
+  pub are : AllWatched wave None 0 wave.probes.domains watched
+  pub is : end ≡ end_of_edges (edge_fault watched)

@@ -99,12 +99,12 @@ pub record ChannelFits (masters ports : List Bus) (widths : List ℕ) (which : C
 -- the values of a sampler have their widths, its time is one that a number can be, what it puts together lies within its
 -- values, and its channels fit
 pub record SamplingFits (masters ports : List Bus) (s : Sampling) : Type 0 where
-  pub before : IfSome s.time (λ time. map length s.before ≡ with_joined_width s.probes.joins s.widths)
+  pub before : IfSome s.time (λ time. map length s.before ≡ with_joined_width s.joins s.widths)
   pub now : map length s.now ≡ s.widths
   pub time : IfSome s.time (λ time. time < 2 ^ 64)
-  pub joins : AllLieWithin s.widths s.probes.joins
-  pub channels : (which : Channel) → Contains s.probes.channels which
-      → ChannelFits masters ports (with_joined_width s.probes.joins s.widths) which
+  pub joins : AllLieWithin s.widths s.joins
+  pub channels : (which : Channel) → Contains s.channels which
+      → ChannelFits masters ports (with_joined_width s.joins s.widths) which
 
 -- ---- dumps
 

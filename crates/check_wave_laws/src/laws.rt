@@ -8,10 +8,9 @@ ghost use Rattle.check_rows.specs.Buses.{IsLinkOf, bus_of_link};
 ghost use Rattle.check_description.specs.Description.{Description, Makes};
 ghost use Rattle.check_description.specs.File.{Parts, parts_of};
 ghost use Rattle.check_start.specs.Start.{master_buses, port_buses};
-ghost use Rattle.check_samples.specs.Edges.{no_edges};
 ghost use Rattle.check_samples.specs.Left.{end_in};
-ghost use Rattle.check_samples.specs.Rows.{Rows, row_at};
-ghost use Rattle.check_samples.specs.Sampling.{Sampling, rows_from};
+ghost use Rattle.check_samples.specs.Rows.{Probes, Rows, row_at};
+ghost use Rattle.check_samples.specs.Sampling.{Sampling, rows_from, sampling_by};
 ghost use Rattle.check_samples.specs.declared.channel.Channel.{Channel};
 ghost use Rattle.check_signals.specs.Found.{Found, digits_in, find_of, found_in, sampling_of, width_in};
 ghost use Rattle.check_signals.specs.Names.{SignalNames, names_of_file};
@@ -35,7 +34,7 @@ pub fn rows_of_dumps_are_rows()
     ensures { (masters ports : List Bus) (line : ℕ) (text : List ℕ) (vars : List Var) (words : List Word) (find : Find)
         (s : Sampling) → length masters < 2 ^ 64 → length ports < 2 ^ 64 → opening (dump_words text) blank ≡ Opened vars words
         → FindFits s.widths find → SamplingFits masters ports s
-        → HasRows masters ports s.probes.channels line (rows_from (happenings find words start) s).text }
+        → HasRows masters ports s.channels line (rows_from (happenings find words start) s).text }
 {}
 
 /// What `tlvcd` writes after the header of a capture is rows of captures of its system, by the buses with which its judge
@@ -59,20 +58,21 @@ pub fn names_are_of_links()
 {}
 
 /// The rows of what happens in a dump are those of its beats, each once, by time and within a time in the order of the
-/// channels. A channel has a beat at a time exactly if the clock was 0 before the time and is 1 at its end, the reset was
-/// not active before it, and valid and ready were 1 before it. What a signal was before a time is its last change at an
-/// earlier time, and so it stands in the row. Rows end where a valid or a ready has to be known and is not, and where
-/// changes are told again that were not, if a beat crossed at an earlier time. Times may not fall.
+/// channels. A channel has a beat at a time exactly if the clock of its domain was 0 before the time and is 1 at its end, the
+/// reset of the domain was not active before it, and valid and ready were 1 before it. What a signal was before a time is its
+/// last change at an earlier time, and so it stands in the row. Rows end where a valid or a ready has to be known and is not,
+/// and where changes are told again that were not, if a beat crossed at an earlier time. Times may not fall.
 pub fn rows_are_sampled()
-    ensures { (happens : List Happens) (s : Sampling) → s.time ≡ None → s.edges ≡ no_edges → NeverFalls None happens
-        → AreSampled (wave_of s.probes s.now s.widths happens) (rows_from happens s) }
+    ensures { (happens : List Happens) (probes : Probes) (before now : List (List ℕ)) (widths : List ℕ)
+        → NeverFalls None happens
+        → AreSampled (wave_of probes now widths happens) (rows_from happens (sampling_by probes before now widths)) }
 {}
 
 /// So are those of what happens in the words of a dump, where no time falls, whatever the words are.
 pub fn dumps_are_sampled()
-    ensures { (find : Find) (words : List Word) (s : Sampling) → s.time ≡ None → s.edges ≡ no_edges
-        → AreSampled (wave_of s.probes s.now s.widths (happenings find words start))
-        (rows_from (happenings find words start) s) }
+    ensures { (find : Find) (words : List Word) (probes : Probes) (before now : List (List ℕ)) (widths : List ℕ)
+        → AreSampled (wave_of probes now widths (happenings find words start))
+        (rows_from (happenings find words start) (sampling_by probes before now widths)) }
 {}
 
 /// So are those that `tlvcd` writes: a value that is kept has unknown bits before its first change, or is a constant.
@@ -83,8 +83,8 @@ pub fn systems_are_sampled()
         (rows_from (happenings (find_of vars found) words start) (sampling_of found)) }
 {}
 
-/// A dump with no wrong line and no gap ends as its edges say: the clock never rises exactly if there is no time before which it was 0
-/// and at whose end it is 1, and so it is with edges outside of reset and with beats in it.
+/// A dump with no wrong line and no gap ends as the edges of its domains say: a clock never rises exactly if there is no time
+/// before which it was 0 and at whose end it is 1, and so it is with edges outside of reset and with beats in it.
 pub fn dumps_end_by_their_edges()
     ensures { (vars : List Var) (words : List Word) (found : Found)
         → cut_after None (happenings (find_of vars found) words start) ≡ None

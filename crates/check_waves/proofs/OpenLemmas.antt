@@ -18,11 +18,10 @@ use Rattle.check_keys.specs.declared.fault.SystemFault.TheVariants as system
 use Rattle.check_description.specs.Description.{Description}
 use Rattle.check_description.specs.declared.read.TheConstants.{MAX_SYSTEM}
 use Rattle.check_samples.specs.Digits.{unknown}
-use Rattle.check_samples.specs.Edges.{no_edges}
 use Rattle.check_samples.specs.Left.{RowsLeft, left_in, left_of}
-use Rattle.check_samples.specs.Rows.{Probes}
-use Rattle.check_samples.specs.Sampling.{Sampling}
-use Rattle.check_samples.specs.declared.edges.Edges.{Edges}
+use Rattle.check_samples.specs.Rows.{Probes, view_of}
+use Rattle.check_samples.specs.Sampling.{Sampling, sampling_by}
+use Rattle.check_samples.specs.Values.{all_before, all_now, all_widths}
 use Rattle.check_signals.specs.Found.{Found, IsFound, IsResolved, code_in, digits_in, find_of, sampling_of, slot_one, slots_from, width_in}
 use Rattle.check_signals.specs.Names.{names_of_file}
 use Rattle.check_signals.specs.Source.{SearchFault, fault_view}
@@ -52,32 +51,19 @@ slots-same [] slot f g same c = same c
 slots-same (code ∷ codes) slot f g same c =
     slots-same codes (slot + 1) (slot_one code slot f) (slot_one code slot g) (slot-one-same code slot f g same) c
 
--- a sampler that has taken nothing
-pub record IsFresh (s : Sampling) (found : Found) : Type 0 where
-  pub probes : s.probes ≡ found.probes
-  pub before : s.before ≡ map (λ value. unknown (width_in value)) found.kept ++ ([] ∷ [])
-  pub now : s.now ≡ map digits_in found.kept
-  pub widths : s.widths ≡ map width_in found.kept
-  pub time : s.time ≡ None
-  pub edges : s.edges ≡ no_edges
-
--- a sampler of these parts
-abbrev made : Probes → List (List ℕ) → List (List ℕ) → List ℕ → Option ℕ → Edges → Sampling
-made probes before now widths time edges =
-    record { probes = probes; before = before; now = now; widths = widths; time = time; edges = edges }
-
-same-made : (p q : Probes) (b c n m : List (List ℕ)) (w v : List ℕ) (t u : Option ℕ) (e f : Edges) → p ≡ q → b ≡ c
-    → n ≡ m → w ≡ v → t ≡ u → e ≡ f → made p b n w t e ≡ made q c m v u f
-same-made p q b c n m w v t u e f probes before now widths time edges =
-    ap (λ (x : Probes). made x b n w t e) probes ∙ ap (λ (x : List (List ℕ)). made q x n w t e) before
-    ∙ ap (λ (x : List (List ℕ)). made q c x w t e) now ∙ ap (λ (x : List ℕ). made q c m x t e) widths
-    ∙ ap (λ (x : Option ℕ). made q c m v x e) time ∙ ap (λ (x : Edges). made q c m v u x) edges
-
-fresh-is : (s : Sampling) (found : Found) → IsFresh s found → s ≡ sampling_of found
-fresh-is s found fresh =
-    same-made s.probes found.probes s.before (map (λ value. unknown (width_in value)) found.kept ++ ([] ∷ [])) s.now
-    (map digits_in found.kept) s.widths (map width_in found.kept) s.time None s.edges no_edges fresh.probes fresh.before
-    fresh.now fresh.widths fresh.time fresh.edges
+-- a sampler that has taken nothing, of what was found
+pub fresh-is : (s : Sampling) (resolved : Resolved) (found : Found) → IsResolved resolved found
+    → s ≡ sampling_by (view_of resolved.probes) (all_before resolved.values) (all_now resolved.values) (all_widths resolved.values)
+    → s ≡ sampling_of found
+fresh-is s resolved found is made =
+    made
+    ∙ ap (λ (p : Probes). sampling_by p (all_before resolved.values) (all_now resolved.values) (all_widths resolved.values))
+    is.probes
+    ∙ ap (λ (vs : List (List ℕ)). sampling_by found.probes vs (all_now resolved.values) (all_widths resolved.values)) is.before
+    ∙ ap (λ (vs : List (List ℕ)). sampling_by found.probes
+    (map (λ value. unknown (width_in value)) found.kept ++ ([] ∷ [])) vs (all_widths resolved.values)) is.now
+    ∙ ap (λ (ws : List ℕ). sampling_by found.probes (map (λ value. unknown (width_in value)) found.kept ++ ([] ∷ []))
+    (map digits_in found.kept) ws) is.widths
 
 opened : (links : WaveLinks) (text : List ℕ) (vars : List Var) (words : Option (List Word)) (find : Find) (body : Body)
     (found : Found) (s : Sampling)
@@ -106,13 +92,13 @@ pub opened-rows : (links : WaveLinks) (text : Option (List ℕ)) (vars : List Va
     (codes : List (Option (List ℕ))) (found : Found) (s : Sampling)
     → Opens text vars first → dump.words ≡ first.words → dump.body ≡ first.body
     → ((code : List ℕ) → find_in dump.codes code ≡ slots_from codes 0 (find_in first.codes) code)
-    → codes ≡ map code_in found.kept → IsFresh s found → found_among vars links ≡ Ok found
+    → codes ≡ map code_in found.kept → s ≡ sampling_of found → found_among vars links ≡ Ok found
     → IfSome text (IsOpened links (left_in dump s))
 opened-rows links None vars first dump codes found s opens words body finds are fresh has = tt
 opened-rows links (Some text) vars first dump codes found s opens words body finds are fresh has =
     opened links text vars dump.words (find_in dump.codes) dump.body found s (rw words opens.words) (body ∙ opens.body)
     (find-is vars (find_in first.codes) (find_in dump.codes) codes found opens.find finds are)
-    (fresh-is s found fresh) has
+    fresh has
 
 -- what was found
 pub found-is : (found : Result Found SearchFault) (resolved : Resolved) → IsFound found resolved

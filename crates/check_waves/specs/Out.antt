@@ -3,6 +3,7 @@ use Rattle.std.specs.Prelude.{◌≡◌, ◌⊎◌, ℕ, Bool, true, false, List
 use Rattle.std.specs.Io.KnownBytes.{Appends}
 use Rattle.tl_streams.specs.Streams.{AppendsPart}
 use Rattle.check_rows.specs.Column.{header_line}
+use Rattle.check_samples.specs.EdgeFault.{edge_fault_view}
 use Rattle.check_samples.specs.Left.{BeforeBeat, BeforeLine, RowsLeft, Whole, WithoutEdges}
 use Rattle.check_waves.specs.declared.fault.WaveFault.{WaveFault}
 use Rattle.check_waves.specs.declared.fault.WaveFault.TheVariants as wave
@@ -23,7 +24,7 @@ abbrev pub IsOut : Result Unit WaveFault → RowsLeft → Option (List ℕ) → 
 IsOut (Ok done) left old new = Appends old new left.text × (left.end ≡ Whole)
 IsOut (Err (wave.Unknown unknown)) left old new = Appends old new left.text × (left.end ≡ BeforeBeat unknown)
 IsOut (Err (wave.Dump line mistake)) left old new = Appends old new left.text × (left.end ≡ BeforeLine line mistake)
-IsOut (Err (wave.Edges why)) left old new = Appends old new left.text × (left.end ≡ WithoutEdges why)
+IsOut (Err (wave.Edges why)) left old new = Appends old new left.text × (left.end ≡ WithoutEdges (edge_fault_view why))
 IsOut (Err wave.Read) left old new = AppendsFront old new left.text
 IsOut (Err wave.Write) left old new = AppendsFront old new left.text
 IsOut (Err wave.Memory) left old new = AppendsFront old new left.text
@@ -79,7 +80,7 @@ IsPushed (Err (wave.Unknown unknown)) left text rest old new =
 IsPushed (Err (wave.Dump line mistake)) left text rest old new =
     Moves old new (text ++ left.text) rest × (left.end ≡ BeforeLine line mistake)
 IsPushed (Err (wave.Edges why)) left text rest old new =
-    Moves old new (text ++ left.text) rest × (left.end ≡ WithoutEdges why)
+    Moves old new (text ++ left.text) rest × (left.end ≡ WithoutEdges (edge_fault_view why))
 IsPushed (Err wave.Read) left text rest old new = MovesOn old new (text ++ left.text) rest
 IsPushed (Err wave.Write) left text rest old new = AppendsFront old new (text ++ left.text)
 IsPushed (Err wave.Memory) left text rest old new = AppendsFront old new (text ++ left.text)

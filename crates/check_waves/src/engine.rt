@@ -83,7 +83,7 @@ fn sampler_of<D: Read + Drop>(
     };
     let resolved = find_signals(alloc, &buses, &links.names, vars)?;
     keep_all(alloc, dump, &resolved.codes)?;
-    Ok(Sampler::new(resolved.probes, resolved.values))
+    Ok(Sampler::new(alloc, resolved.probes, resolved.values)?)
 }
 
 /// Opens a dump of a system with these links; answers the rows that are to come of it. The header of the dump is read, up to

@@ -72,17 +72,32 @@ fn hint_of(is_low: bool) -> &'static str {
     }
 }
 
+/// A clock or a reset: by its name, or by what it is called if it is the system's own.
+fn name_of<'a>(name: &'a Option<Vec<u8>>, own: &'a str) -> &'a str {
+    match name {
+        Some(name) => std::str::from_utf8(name).unwrap_or("(not text)"),
+        None => own,
+    }
+}
+
 /// Why the edges of a dump are none to take beats at.
-fn write_edges<W: fmt::Write>(f: &mut fmt::Formatter<W>, why: EdgeFault) -> fmt::Result {
+fn write_edges<W: fmt::Write>(f: &mut fmt::Formatter<W>, why: &EdgeFault) -> fmt::Result {
     match why {
-        EdgeFault::NeverRises => f.write_str("the clock never rises"),
-        EdgeFault::NeverFalls => f.write_str("the clock never falls"),
-        EdgeFault::ResetAtEdges(is_low) => {
-            let hint = hint_of(is_low);
-            write!(f, "the reset is active at every edge{hint}")
+        EdgeFault::NeverRises(name) => {
+            let clock = name_of(name, "the clock");
+            write!(f, "{clock} never rises")
+        }
+        EdgeFault::NeverFalls(name) => {
+            let clock = name_of(name, "the clock");
+            write!(f, "{clock} never falls")
+        }
+        EdgeFault::ResetAtEdges(name, is_low) => {
+            let reset = name_of(name, "the reset");
+            let hint = hint_of(*is_low);
+            write!(f, "{reset} is active at every edge{hint}")
         }
         EdgeFault::ResetAtBeats(is_low) => {
-            let hint = hint_of(is_low);
+            let hint = hint_of(*is_low);
             write!(f, "the reset is active at every beat{hint}")
         }
     }
@@ -97,7 +112,7 @@ impl WaveFault {
             WaveFault::Signal(fault) => write!(f, "{fault}"),
             WaveFault::Dump(line, mistake) => write!(f, "line {line}: {mistake}"),
             WaveFault::Unknown(unknown) => write_beat(f, unknown),
-            WaveFault::Edges(why) => write_edges(f, *why),
+            WaveFault::Edges(why) => write_edges(f, why),
             WaveFault::Read => f.write_str("read failed"),
             WaveFault::Write => f.write_str("write failed"),
             WaveFault::Memory => f.write_str("memory refused"),

@@ -20,4 +20,4 @@ returns-in-Some-clause-judged g c =
     (contents c.args.writer.now.writer.now) (contents c.take_lines.new.writer.writer.now) c.take_lines.new.told.items
     (rest_at_hand c.take_lines.new.lines) c.take_lines.new.lines.ended (coming c.args.lines.now) c.in-Ok.ensures.ok
     c.end_lines.new.judge.tally c.in-Some.end c.end_lines.new.told.items c.end_lines.result (c.if-is_cut.ensures.no refl)
-    (sym c.ended.ensures ∙ c.in-Some.is) c.end_lines.ensures.ended
+    (sym c.take_end.ensures ∙ c.in-Some.is) c.end_lines.ensures.ended

@@ -1,13 +1,14 @@
 -- The rows so far stand before those of the other channels.
-use Rattle.std.proofs.Common.{◌≡◌, ◌++◌, drop}
+use Rattle.std.proofs.Common.{◌≡◌, ◌++◌, drop, map}
 use Rattle.check_samples.specs.Rows.{rows_of}
 use Rattle.check_samples.specs.Values.{all_before}
 use Rattle.check_samples.proofs.sampler.push_rows.Given as goal
 
 abbrev pub invariant-loop-channel : goal.invariant-loop-channel
 invariant-loop-channel l =
-    let rest = rows_of l.needs l.time (all_before l.values) (drop l.channel-index l.channels) in
-    let all = rows_of l.needs l.time (all_before l.values) l.channels in
+    let dues = map (λ one. one.due) l.watched in
+    let rest = rows_of dues l.time (all_before l.values) (drop l.channel-index l.channels) in
+    let all = rows_of dues l.time (all_before l.values) l.channels in
     record {
       text : l.text.items ++ rest.text ≡ l.fn.text.items ++ all.text;
       fault : rest.fault ≡ all.fault;

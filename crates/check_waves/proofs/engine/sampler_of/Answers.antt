@@ -5,7 +5,7 @@ use Rattle.check_vcd.specs.Header.{var_view}
 use Rattle.check_waves.specs.Capture.{IsUnopened, found_among}
 use Rattle.check_waves.specs.Fault.{of_signal}
 use Rattle.check_waves.specs.Links.{wave_links_view}
-use Rattle.check_waves.proofs.OpenLemmas.{fails-by, found-is, opened-rows, unopened-signal}
+use Rattle.check_waves.proofs.OpenLemmas.{fails-by, found-is, fresh-is, opened-rows, unopened-signal}
 use Rattle.check_waves.proofs.engine.sampler_of.Goals as goal
 
 pub returns-in_err-resolved-clause-fault : goal.returns-in_err-resolved-clause-fault
@@ -21,21 +21,14 @@ pub returns-clause-ok : goal.returns-clause-ok
 returns-clause-ok g c text opens =
     let links = wave_links_view c.args.links.now in
     let vars = map var_view c.args.vars.now in
-    let f = found-is (found_among vars links) c.in_ok-resolved.resolved
+    let resolved = c.in_ok-resolved.resolved in
+    let f = found-is (found_among vars links) resolved
     (rw (c.deref.ensures.value, c.deref-2.ensures.value) at c.in_ok-resolved.ensures) in
     let is = f.2 in
-    let s = c.new.ensures in
     opened-rows links text vars
     c.args.dump.now c.keep_all.new.dump (map (λ code. option_map (λ code. code.items) code) c.deref-3.result.now)
-    f.0 c.new.result
+    f.0 c.in_ok-new.field-0
     opens c.in_ok-keep_all.ensures.words c.in_ok-keep_all.ensures.body c.in_ok-keep_all.ensures.kept
     (rw c.deref-3.ensures.value is.codes)
-    (record {
-      probes = s.probes ∙ is.probes;
-      before = s.before ∙ is.before;
-      now = s.now ∙ is.now;
-      widths = s.widths ∙ is.widths;
-      time = s.time;
-      edges = s.edges;
-    })
+    (fresh-is c.in_ok-new.field-0 resolved f.0 is c.in_ok-new.ensures)
     f.1

@@ -1,9 +1,10 @@
 -- What happens next is taken, or is the end of the rows.
-use Rattle.std.specs.Option.{IfSome}
+use Rattle.std.specs.Option.{IfSome, option_map}
 use Rattle.check_vcd.specs.Dump.{happens_in}
+use Rattle.check_samples.specs.EdgeFault.{edge_fault_view}
 use Rattle.check_samples.specs.Faults.{of_sample}
 use Rattle.check_samples.specs.Left.{Stops}
-use Rattle.check_samples.proofs.LeftLemmas.{ends, fails-by, goes-on, stops-ending, stops-over, stops-reading, stops-taking}
+use Rattle.check_samples.proofs.LeftLemmas.{ends, fails-by, goes-on, said-of, stops-ending, stops-over, stops-reading, stops-taking}
 use Rattle.check_samples.proofs.rows.Rows.read.Goals as goal
 
 pub returns-in_ok-take-in-Ok-Some-clause-ok : goal.returns-in_ok-take-in-Ok-Some-clause-ok
@@ -38,23 +39,25 @@ returns-in_err-push_rows-in-Ok-None-clause-fault g c =
     fails-by c.from_residual-in_err-push_rows-in-Ok-None.result (of_sample fault)
     (λ f. IfSome c.args.self.now (Stops f old new)) c.from_residual-in_err-push_rows-in-Ok-None.ensures.1
     (rw (← c.self.view_is) (stops-ending (happens_in inside.dump) (happens_in c.read.new.self) inside.sampler old new fault
-    (rw c.in-Ok-None.field-0-is at c.in-Ok-None.ensures.ok) c.in_err-push_rows-in-Ok-None.ensures))
+    (rw c.in-Ok-None.field-0-is at c.in-Ok-None.ensures.ok) c.in_err-push_rows-in-Ok-None.ensures.writes))
 
-pub returns-in_ok-push_rows-in-Ok-None-clause-ok : goal.returns-in_ok-push_rows-in-Ok-None-clause-ok
-returns-in_ok-push_rows-in-Ok-None-clause-ok g c =
+pub returns-in_ok-edge_fault-in-Ok-None-clause-ok : goal.returns-in_ok-edge_fault-in-Ok-None-clause-ok
+returns-in_ok-edge_fault-in-Ok-None-clause-ok g c =
     let inside = c.self.inside in
-    rw (← c.self.view_is) (ends (happens_in inside.dump) (happens_in c.read.new.self) inside.sampler
+    rw (← c.self.view_is) (ends (happens_in inside.dump) (happens_in c.read.new.self) inside.sampler c.edge_fault.new.self
     c.args.text.now.items c.push_rows.new.text.items tt c.over.result
-    (rw c.in-Ok-None.field-0-is at c.in-Ok-None.ensures.ok) c.in_ok-push_rows-in-Ok-None.ensures
-    (rw c.edge_fault.ensures at c.over.ensures))
+    (rw c.in-Ok-None.field-0-is at c.in-Ok-None.ensures.ok) c.in_ok-push_rows-in-Ok-None.ensures.writes
+    (said-of c.over.result (option_map edge_fault_view c.in_ok-edge_fault-in-Ok-None.field-0) inside.sampler
+    c.push_rows.new.self c.over.ensures c.in_ok-push_rows-in-Ok-None.ensures.same c.in_ok-edge_fault-in-Ok-None.ensures))
 
-pub returns-in_ok-push_rows-in-Ok-None-clause-fault : goal.returns-in_ok-push_rows-in-Ok-None-clause-fault
-returns-in_ok-push_rows-in-Ok-None-clause-fault g c =
+pub returns-in_ok-edge_fault-in-Ok-None-clause-fault : goal.returns-in_ok-edge_fault-in-Ok-None-clause-fault
+returns-in_ok-edge_fault-in-Ok-None-clause-fault g c =
     let inside = c.self.inside in
     rw (← c.self.view_is) (stops-over (happens_in inside.dump) (happens_in c.read.new.self) inside.sampler
     c.args.text.now.items c.push_rows.new.text.items tt c.over.result
-    (rw c.in-Ok-None.field-0-is at c.in-Ok-None.ensures.ok) c.in_ok-push_rows-in-Ok-None.ensures
-    (rw c.edge_fault.ensures at c.over.ensures))
+    (rw c.in-Ok-None.field-0-is at c.in-Ok-None.ensures.ok) c.in_ok-push_rows-in-Ok-None.ensures.writes
+    (said-of c.over.result (option_map edge_fault_view c.in_ok-edge_fault-in-Ok-None.field-0) inside.sampler
+    c.push_rows.new.self c.over.ensures c.in_ok-push_rows-in-Ok-None.ensures.same c.in_ok-edge_fault-in-Ok-None.ensures))
 
 pub returns-in-Err-clause-fault : goal.returns-in-Err-clause-fault
 returns-in-Err-clause-fault g c =

@@ -1,7 +1,8 @@
 -- A value changes, changes are told again, or a time begins.
-use Rattle.std.proofs.Common.{◌≡◌, Ok, Err, false, true, ap, sym, ◌∙◌}
+use Rattle.std.proofs.Common.{◌≡◌, Ok, Err, false, true, rules, sym, ◌∙◌}
+use Rattle.check_samples.specs.EdgeFault.{some_crossed}
 use Rattle.check_samples.specs.Rows.{Writes}
-use Rattle.check_samples.specs.Sampling.{Sampling, is_at, rows_now}
+use Rattle.check_samples.specs.Sampling.{is_at, rows_now}
 use Rattle.check_samples.proofs.TakeLemmas.{takes-none, takes-resume, takes-same, takes-time, takes-value}
 use Rattle.check_samples.proofs.sampler.Sampler.take.Goals as goal
 
@@ -10,10 +11,9 @@ returns-in_ok-change-in-Change-clause-rows c = λ rest.
     rw c.in-Change.is (takes-value c.args.text.now.items c.args.self.now c.change.new.self c.in-Change.slot
     c.args.digits.now rest c.in_ok-change-in-Change.ensures)
 
-pub returns-else-self-clause-rows : goal.returns-else-self-clause-rows
-returns-else-self-clause-rows c = λ rest.
-    let joined : c.args.self.now.edges.crossed ≡ false =
-    ap (λ (s : Sampling). s.edges.crossed) (sym c.self.view_is) ∙ c.if-self.false in
+pub returns-else-some_crossed-clause-rows : goal.returns-else-some_crossed-clause-rows
+returns-else-some_crossed-clause-rows c = λ rest.
+    let joined : some_crossed c.args.self.now.watched ≡ false = search rules in
     rw c.in-Resume.is (takes-resume c.args.text.now.items c.args.self.now c.in-Resume.line rest joined)
 
 pub returns-in_ok-begin-in-Ok-clause-rows : goal.returns-in_ok-begin-in-Ok-clause-rows
@@ -21,17 +21,17 @@ returns-in_ok-begin-in-Ok-clause-rows c = λ rest.
     let old = c.args.self.now in
     let not : is_at old c.in-Time.time ≡ false = sym c.is_at.ensures ∙ c.if-not-is_at.true in
     let writes : Writes (Ok tt) c.args.text.now.items c.push_rows.new.text.items (rows_now old) =
-    rw c.in-Ok.is at c.push_rows.ensures in
+    rw c.in-Ok.is at c.push_rows.ensures.writes in
     rw c.in-Time.is (takes-time c.args.text.now.items c.push_rows.new.text.items old c.begin.new.self c.in-Time.time rest
-    not writes c.in_ok-begin-in-Ok.ensures)
+    not writes (rw c.push_rows.ensures.same at c.in_ok-begin-in-Ok.ensures))
 
 pub returns-in-Err-clause-rows : goal.returns-in-Err-clause-rows
 returns-in-Err-clause-rows c = λ rest.
     let old = c.args.self.now in
     let not : is_at old c.in-Time.time ≡ false = sym c.is_at.ensures ∙ c.if-not-is_at.true in
     let writes : Writes (Err c.in-Err.fault) c.args.text.now.items c.push_rows.new.text.items (rows_now old) =
-    rw c.in-Err.is at c.push_rows.ensures in
-    rw c.in-Time.is (takes-none c.args.text.now.items c.push_rows.new.text.items old old c.in-Time.time rest
+    rw c.in-Err.is at c.push_rows.ensures.writes in
+    rw c.in-Time.is (takes-none c.args.text.now.items c.push_rows.new.text.items old c.push_rows.new.self c.in-Time.time rest
     c.in-Err.fault not writes)
 
 pub returns-else-not-is_at-clause-rows : goal.returns-else-not-is_at-clause-rows

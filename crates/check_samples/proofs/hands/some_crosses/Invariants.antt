@@ -2,9 +2,9 @@
 use Rattle.std.proofs.Common.{◌≡◌, drop}
 use Rattle.check_samples.specs.Rows.{some_crosses}
 use Rattle.check_samples.specs.Values.{all_before}
-use Rattle.check_samples.proofs.sampler.some_crosses.Given as goal
+use Rattle.check_samples.proofs.hands.some_crosses.Given as goal
 
 abbrev pub invariant-loop-channel : goal.invariant-loop-channel
 invariant-loop-channel l =
-    some_crosses (all_before l.values) (drop l.channel-index l.channels)
-    ≡ some_crosses (all_before l.values) l.channels
+    some_crosses l.place (all_before l.values) (drop l.channel-index l.channels)
+    ≡ some_crosses l.place (all_before l.values) l.channels
