@@ -171,10 +171,10 @@ uint32_t tlx_model_serve_at(struct tlx_model *model, uint64_t master, const stru
 uint32_t tlx_model_byte_at(struct tlx_model *model, uint64_t address, uint8_t *byte);
 uint64_t tlx_model_masters_at(struct tlx_model *model);
 uint64_t tlx_model_ports_at(struct tlx_model *model);
-uint32_t tlx_judge_make_at(struct tlx_judge *judge, struct tlx_system *system, uint8_t links, uint8_t order, char *text, size_t room,
-                           size_t *written);
-uint32_t tlx_judge_read_at(struct tlx_judge *judge, const uint8_t *file, size_t length, uint8_t links, uint8_t order, uint32_t version,
-                           char *text, size_t room, size_t *written);
+uint32_t tlx_judge_make_at(struct tlx_judge *judge, struct tlx_system *system, uint8_t links, uint8_t masters, uint8_t ports, char *text,
+                           size_t room, size_t *written);
+uint32_t tlx_judge_read_at(struct tlx_judge *judge, const uint8_t *file, size_t length, uint8_t links, uint8_t masters, uint8_t ports,
+                           uint32_t version, char *text, size_t room, size_t *written);
 void tlx_judge_free_at(struct tlx_judge *judge);
 uint32_t tlx_judge_step_at(struct tlx_judge *judge, const struct tlx_beat *beat);
 uint32_t tlx_judge_end_at(struct tlx_judge *judge);
@@ -278,32 +278,34 @@ static inline uint64_t tlx_model_masters(struct tlx_model *model) { return model
 static inline uint64_t tlx_model_ports(struct tlx_model *model) { return model ? tlx_model_ports_at(model) : 0; }
 
 /* Makes the judge of what a system's handle holds for one (tlx_system_describe), before any beat, in an empty handle: `links` are the links
- * that are watched (enum tlx_links), `order` when a request takes effect at a port for which the file does not say it (enum tlx_order).
+ * that are watched (enum tlx_links). `masters` and `ports` say when a request takes effect at a port for which the file does not say it, as
+ * it is judged at the masters' links and at the ports' (enum tlx_order): give the same twice if both sides agree.
  * It takes what the system's handle holds, which is empty from then on: after TLX_OK, TLX_BAD_PORTS, TLX_BAD_SOURCES and TLX_MEMORY. After
  * another fault the system's handle is as it was. The text of a fault is written as tlx_system_read does.
  * Faults: TLX_NULL, TLX_BAD_ARGUMENT, TLX_FULL (the judge's handle), TLX_EMPTY (the system's), TLX_IMAGE_UNREADABLE (of the first port whose
  * image was not handed in), TLX_BAD_PORTS, TLX_BAD_SOURCES. After TLX_IMAGE_UNREADABLE, TLX_MEMORY may come at any point. */
-static inline uint32_t tlx_judge_make(struct tlx_judge *judge, struct tlx_system *system, uint8_t links, uint8_t order, char *text, size_t room) {
+static inline uint32_t tlx_judge_make(struct tlx_judge *judge, struct tlx_system *system, uint8_t links, uint8_t masters, uint8_t ports, char *text,
+                                      size_t room) {
   char none;
   size_t written;
   if (text && room) *text = 0;
   if (!judge || !system) return (uint32_t)TLX_NULL;
   if (!text || !room) { text = &none; room = 1; }
-  return tlx_judge_make_at(judge, system, links, order, text, room, &written);
+  return tlx_judge_make_at(judge, system, links, masters, ports, text, room, &written);
 }
 
 /* Makes the judge of a file that names no image in one call, as tlx_system_describe and then tlx_judge_make.
  * Faults: TLX_NULL, TLX_OTHER_VERSION, TLX_BAD_ARGUMENT, TLX_FULL, TLX_TOO_LONG, TLX_NOT_TOML, TLX_UNKNOWN_KEY; then key by key
  * TLX_MISSING, TLX_WRONG_TYPE, TLX_OUT_OF_RANGE; then TLX_TWO_CALLED, TLX_IMAGE_UNREADABLE (of the first port that names an image),
  * TLX_BAD_PORTS, TLX_BAD_SOURCES. After TLX_TOO_LONG, TLX_MEMORY may come at any point. */
-static inline uint32_t tlx_judge_read(struct tlx_judge *judge, const void *file, size_t length, uint8_t links, uint8_t order, char *text,
-                                      size_t room) {
+static inline uint32_t tlx_judge_read(struct tlx_judge *judge, const void *file, size_t length, uint8_t links, uint8_t masters, uint8_t ports,
+                                      char *text, size_t room) {
   char none;
   size_t written;
   if (text && room) *text = 0;
   if (!judge || !file) return (uint32_t)TLX_NULL;
   if (!text || !room) { text = &none; room = 1; }
-  return tlx_judge_read_at(judge, (const uint8_t *)file, length, links, order, TLX_VERSION, text, room, &written);
+  return tlx_judge_read_at(judge, (const uint8_t *)file, length, links, masters, ports, TLX_VERSION, text, room, &written);
 }
 
 static inline void tlx_judge_free(struct tlx_judge *judge) { if (judge) tlx_judge_free_at(judge); }

@@ -20,17 +20,23 @@ BUSES = (1, 2, 4, 8, 16, 32, 64)
 BUS = 8
 # When a request may take effect at its port: with its last beat, with its reply's first beat, or at some moment between these.
 ORDERS = ("accept", "reply", "any")
+# The words of `--order`: one for both sides, or that of the masters' side and that of the ports'.
+ORDER_WORDS = (*ORDERS, *(f"{masters}/{ports}" for masters in ORDERS for ports in ORDERS))
+# The keys of a port's `order`, by the side.
+SIDE_KEYS = {"m": "masters", "p": "ports"}
 # The keys of a script: of the document, of a port and of a master.
 KEYS = {"": ("slots", "port", "master"), "port": ("kind", "base", "length", "reset"), "master": ("sources", "ops")}
 # The keys of a system file; those of a script that it may have too; and those that say where signals are (docs/CAPTURE.md).
 SIGNALS = ("a_valid", "a_ready", "a_opcode", "a_param", "a_size", "a_source", "a_address", "a_mask", "a_data", "a_corrupt", "d_valid", "d_ready",
            "d_opcode", "d_param", "d_size", "d_source", "d_data", "d_denied", "d_corrupt")
-SYSTEM_KEYS = {"": ("bus", "unaligned", "decode", "port", "master", "clock", "reset", "reset_active", "edge", "bits", "names", "slots", "extra"),
+SYSTEM_KEYS = {"": ("bus", "unaligned", "decode", "period", "port", "master", "clock", "reset", "reset_active", "edge", "bits", "names", "slots", "extra"),
                "names": (*SIGNALS, "extra"),
-               "port": ("name", "kind", "base", "length", "ranges", "reset", "image", "unknown", "sizes", "order", "bus", "volatile", "signals",
-                        "wires", "bits", "extra"),
-               "master": ("name", "sources", "first", "stride", "bus", "reach", "signals", "wires", "bits", "ops", "extra"),
+               "port": ("name", "kind", "base", "length", "ranges", "reset", "image", "unknown", "sizes", "order", "bus", "mirror", "volatile",
+                        "signals", "wires", "bits", "clock", "link_reset", "reset_active", "edge", "extra"),
+               "master": ("name", "sources", "first", "stride", "bus", "reach", "signals", "wires", "bits", "clock", "link_reset", "reset_active",
+                          "edge", "ops", "extra"),
                "sizes": ("get", "putfull", "putpart", "arithmetic", "logical", "intent", "extra"),
+               "order": (*SIDE_KEYS.values(), "extra"),
                "wires": (*SIGNALS, "extra")}
 
 # The signals of a handshake, which stand outside of the bundle `bits` of their channel.
@@ -47,6 +53,13 @@ GROUP_OF = {name: group for group, names in GROUPS.items() for name in names}
 
 # The columns of a capture.
 HEADER = "time,link,channel,opcode,param,size,source,address,mask,data,denied,corrupt"
+
+
+def order_at(port, side, word):
+    """When the requests of a port take effect, as a side judges it: by the port's own order, or else by the word of the command line."""
+    own, words = port.get("order", {}), word.split("/")
+    given = own.get(SIDE_KEYS[side]) if isinstance(own, dict) else own
+    return given or words[0 if side == "m" else -1]
 
 
 def system_of(front):

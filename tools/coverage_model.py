@@ -47,7 +47,7 @@ class CoveringJudge(Judge):
             self.count("in_flight", flight, min(of_master, MOST_IN_FLIGHT), has_port=False)
             self.count("at_port", flight, min(at_port, MOST_IN_FLIGHT), has_master=False)
             if flight.owner in self.ended:
-                after = row.time - self.ended[flight.owner]
+                after = (row.time - self.ended[flight.owner]) // self.system.get("period", 1)
                 self.count("again", flight, max(least for least in AFTER if least <= after), has_port=False)
         return flight
 

@@ -6,7 +6,7 @@ from common import MAX_SIZE, OPERATIONS
 
 FIRST = "coverage 1"
 SHAPES = ("none", "all", "one", "hole", "low", "high", "even", "odd", "other")
-# The least time of each step between a reply and the next request of its source.
+# The least of each step of clocks between a reply and the next request of its source.
 AFTER = (0, 1, 2, 3, 4, 8, 16)
 # So many requests in flight, or more, are counted as one.
 MOST_IN_FLIGHT = 64

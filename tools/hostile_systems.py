@@ -12,7 +12,7 @@ import re
 import subprocess
 
 import coverage_text
-from common import GROUPS, HEADER, LONGEST_SCRIPT, OPERATIONS, ORDERS, REPLIES, SECONDS, SYSTEM_KEYS, SYSTEM_KINDS, TLCHECK, TOP, system_of
+from common import GROUPS, HEADER, LONGEST_SCRIPT, OPERATIONS, ORDER_WORDS, REPLIES, SECONDS, SYSTEM_KEYS, SYSTEM_KINDS, TLCHECK, TOP, system_of
 
 KEY = "|".join(sorted({key for keys in SYSTEM_KEYS.values() for key in keys}))
 NAME = "[A-Za-z0-9_.-]+"
@@ -38,7 +38,7 @@ ENDS = {
 # Images that are there, and names that are none of a file that can be read to its end within a range.
 IMAGES = {"none.bin": None, "short.bin": 16, "page.bin": 4096, "long.bin": 70000}
 OTHERS = ("missing.bin", "folder", "dangling.bin", "", ".", "short.bin/", "/proc/self/mem", "/dev/null", "a" * 300, "\\u0000")
-WORDS = ["bus", "port", "master", "kind", "base", "length", "ranges", "image", "unknown", "sizes", "order", "volatile", "sources", "first", "stride",
+WORDS = ["bus", "port", "master", "kind", "base", "length", "ranges", "image", "unknown", "sizes", "order", "mirror", "volatile", "sources", "first", "stride",
          "name", "names", "signals", "=",
          "=", "[[port]]", "[[master]]", "[", "]", "{", "}", ",", "\n", "\n", "0", "1", "4", "64", "-1", "65536", "0x1000", "1.5", "true", "'ram'",
          "'device'", "'short.bin'", "'00ff'", "'accept'", "[0, 3]", "'''", '"""', "#", "\\", "\0", "é"]
@@ -111,16 +111,18 @@ def port_of(rng, place, wild):
     base = rng.choice([0x1000, 2 ** 63 - 1, 2 ** 63, -1] if odd else [0x10000 * (place + 1)])
     length = rng.choice([0, 2 ** 63 - 1, 2 ** 63, -1] if odd else [1, 16, 4096, 65536])
     if rng.random() < 0.3:
-        text.append(f"ranges = {[[base + 0x100 * at, min(length, 0x100)] for at in range(rng.choice([1, 2, 16] + [0, 17] * odd))]}")
+        text.append(f"ranges = {[[base + 0x100 * at, min(length, 0x100) - (at and odd and rng.random() < 0.1)] for at in range(rng.choice([1, 2, 16] + [0, 17] * odd))]}")
     else:
         text.append(f"base = {base}\nlength = {length}")
     for chance, key, values in (
             (0.2, "reset", ["''", "'fF'"] + ["'0'", "'0g'", "'FF' ", "1", f"'{'00' * 70000}'"] * odd),
             (0.3, "image", [f'"{image_of(rng)}"'] if odd else ["'short.bin'"]),
             (0.3, "unknown", ["true", "false"] + ["1", "'true'"] * odd),
-            (0.3, "order", ["'accept'", "'reply'", "'any'"] + ["'all'", "1"] * odd),
+            (0.3, "order", ["'accept'", "'reply'", "'any'", "{}", "{ ports = 'any' }", "{ masters = 'any', ports = 'reply' }"]
+             + ["'all'", "1", "'any/any'", "{ masters = 1 }", "{ ports = 'all' }", "{ port = 'any' }", "['any']"] * odd),
             (0.3, "bus", [1, 2, 4, 8, 16, 32, 64] + [0, 3, 128, -8, "'8'", 2 ** 62] * odd),
             (0.3, "sizes", [sizes_of(rng, odd)]),
+            (0.3, "mirror", ["true", "false"] + ["1", "'true'", "[]"] * odd),
             (0.3, "volatile", ["[[0, 1]]", "[[0, 1], [0, 1]]"] + ["[]", "[[0, 0]]", "[[1, 65536]]", "[[-1, 1]]", "[0, 1]", "1", f"{[[0, 1]] * 65}"] * odd),
             (0.3, "name", [f"'s{place}'"] + ["'p0'", "''", "1", "'s0'"] * odd)):
         if rng.random() < chance:
@@ -217,7 +219,7 @@ def judge(seed, found, folder):
     for path, text in zip(paths, (system, capture)):
         with open(path, "wb") as file:
             file.write(text)
-    words = ["--links", rng.choice(["both", "masters", "ports", "each"]), "--order", rng.choice(ORDERS)]
+    words = ["--links", rng.choice(["both", "masters", "ports", "each"]), "--order", rng.choice(ORDER_WORDS)]
     words += [word for word in ("--trace", "--complete") if rng.random() < 0.5]
     coverage = os.path.join(folder, f"{seed}.cov")
     words += ["--coverage", coverage] * (rng.random() < 0.5)

@@ -6,7 +6,7 @@ import re
 
 from bus import Bus, bus_of, reply_of
 from capture import widths
-from common import HEADER, MAX_SIZE, OPERATIONS, REPLIES, carries_data
+from common import HEADER, MAX_SIZE, OPERATIONS, REPLIES, carries_data, order_at
 from partial_memory import ERROR_PORT, Ask, Reply, Slave, fits, port_of
 
 NAMES = {codes: name for name, codes in OPERATIONS.items()}
@@ -141,7 +141,7 @@ def owners_of(masters):
 
 
 class Judge:
-    """Watches links of a system, in the views and by the order that the command line names."""
+    """Watches links of a system, in the views and by the orders that the command line names."""
 
     def __init__(self, system, images, links, order):
         ports, masters = system.get("port", []), system["master"]
@@ -183,7 +183,7 @@ class Judge:
     def serve(self, link, flight, moment):
         """A request takes effect if this is the moment for it."""
         slave = self.slave_of(link, flight)
-        order = slave and (slave.order or self.order)
+        order = slave and order_at(self.ports[flight.port] if flight.port < len(self.ports) else ERROR_PORT, link.side, self.order)
         if order == moment:
             flight.expected, flight.place = slave.served_next(flight.ask())
         elif order == "any" and moment == "accept":

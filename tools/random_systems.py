@@ -4,7 +4,7 @@ interleave, and what carries no byte is anything. With a planted bug the run is 
 import collections
 
 from bus import Bus, bus_of, reply_of
-from common import BUSES, GROUPS, KINDS, OPERATIONS, ORDERS, carries_data
+from common import BUSES, GROUPS, KINDS, OPERATIONS, ORDERS, SIDE_KEYS, carries_data, order_at
 from judge_model import owners_of
 from partial_memory import ERROR_PORT, Ask, Reply, Slave, port_of, ranges_of
 
@@ -27,12 +27,17 @@ def port_of_system(rng, number, images):
     base = 0x10000 * (number + 1)
     port = {"kind": rng.choice([*KINDS, "ram", "ram", "device"])}
     lengths = [rng.choice([1, 8, 16, 60, 64, 256, 4096]) for _ in range(rng.choice([1, 1, 1, 2, 3]))]
+    is_mirror = rng.random() < 0.4
+    if is_mirror:
+        lengths = lengths[:1] * len(lengths)
     ranges = [[base + 0x4000 * place + rng.choice([0, 0, 0, 4, 9]), length] for place, length in enumerate(lengths)]
     if len(ranges) == 1 and rng.random() < 0.7:
         ranges = [[ranges[0][0], rng.choice([lengths[0], 0xc000])]]
         port.update(base=ranges[0][0], length=ranges[0][1])
     else:
         port["ranges"] = ranges
+    if is_mirror or rng.random() < 0.1:
+        port["mirror"] = is_mirror
     if number == 0 and rng.random() < 0.2:
         # memory as large as a file can name, after all others
         port = {"kind": "ram", "base": 0x80000000, "length": rng.choice([2**30, 2**40, 2**62])}
@@ -48,12 +53,19 @@ def port_of_system(rng, number, images):
     if rng.random() < 0.3:
         port["sizes"] = sizes_of(rng)
     if rng.random() < 0.3:
-        port["order"] = rng.choice(ORDERS)
+        port["order"] = order_of(rng)
     if rng.random() < 0.3:
         port["name"] = f"slave_{number}"
     if rng.random() < 0.3:
         port["volatile"] = [volatile_of(rng, ranges[0][1]) for _ in range(rng.choice([1, 1, 2, 5]))]
     return port
+
+
+def order_of(rng):
+    """An order of a port, or of each side or of one."""
+    if rng.random() < 0.5:
+        return rng.choice(ORDERS)
+    return {side: rng.choice(ORDERS) for side in SIDE_KEYS.values() if rng.random() < 0.8}
 
 
 def volatile_of(rng, length):
@@ -81,6 +93,8 @@ def system_of(rng):
         system["unaligned"] = rng.random() < 0.8
     if rng.random() < 0.4:
         system["decode"] = rng.choice(["bytes", "address", "address"])
+    if rng.random() < 0.3:
+        system["period"] = rng.choice([1, 2, 3, 10, 2**63 - 1])
     # now and then as many as a system may have, or nearly so
     ports, masters = (rng.choice([40, 255]), 64) if rng.random() < 0.01 else (rng.randint(1, 4), rng.randint(1, 3))
     system["port"] = [port_of_system(rng, number, images) for number in range(ports)]
@@ -292,10 +306,14 @@ class Run:
 
         return Message(self.columns("p", port, ask, wide), lambda: transfer.has_left, end)
 
+    def order_of(self, number):
+        """When the requests of a port take effect, as its own link shows it; those of the error port are seen at the masters' links alone."""
+        return order_at(self.ports[number], "p", self.order) if number < len(self.ports) else order_at(ERROR_PORT, "m", self.order)
+
     def accept(self, transfer, port=None, wide=None):
         """The last beat of a request has crossed at its port's link, or at its master's if it is the error port's."""
         number = transfer.port if port is None else port
-        service, order = Service(self, transfer, number), self.slaves[number].order or self.order
+        service, order = Service(self, transfer, number), self.order_of(number)
         if order == "accept":
             service.done()
         elif order == "any":

@@ -33,8 +33,8 @@ class Views:
 
     def of_orders(self, verdict):
         """What it says if requests take effect at another moment."""
-        # what is unlawful with `any` is so with each order
-        for order in ORDERS if self.order != "any" else ():
+        # what is unlawful with `any` on both sides is so with each order
+        for order in ORDERS if self.order not in ("any", "any/any") else ():
             said = self.said(order=order) if order != self.order else None
             if said:
                 yield f"with --order {order}: {'the same line' if said == verdict else said}"

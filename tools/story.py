@@ -13,7 +13,7 @@ import os
 import tomllib
 
 from bus import Bus, bus_of
-from common import OPERATIONS, REPLIES, carries_data
+from common import OPERATIONS, REPLIES, carries_data, order_at
 from judge_model import owners_of
 from partial_memory import Ask, Slave, port_of, ranges_of
 
@@ -101,9 +101,10 @@ class Message:
         place = address - self.address
         return self.data[place] if 0 <= place < len(self.data) else None
 
-    def meets(self, window):
-        """Whether it has a byte in common with these."""
-        return self.address < window.stop and window.start < self.address + (1 << self.size)
+
+def meet(window, other):
+    """Whether two windows have a byte in common."""
+    return other.start < window.stop and window.start < other.stop
 
 
 class System:
@@ -143,7 +144,9 @@ class System:
     def origin(self, port, address):
         """What says the byte of a port at reset."""
         table = self.tables["p"][port]
-        place = address - ranges_of(table)[0][0]
+        ranges = ranges_of(table)
+        own = next(base for base, length in ranges if base <= address < base + length) if table.get("mirror") else ranges[0][0]
+        place = address - own
         if any(offset <= place < offset + length for offset, length in table.get("volatile", [])):
             return "the key volatile: it changes by itself"
         if 0 <= place < len(table.get("reset", "")) // 2:
@@ -229,7 +232,7 @@ class Story:
 
     def order_of(self, message):
         tables = self.system.tables["p"]
-        return tables[message.port].get("order", self.order) if message.port < len(tables) else self.order
+        return order_at(tables[message.port] if message.port < len(tables) else {}, message.link[0], self.order)
 
     def begun(self, row):
         """The request that a row begins."""
@@ -290,14 +293,22 @@ class Story:
     def history(self, message, port):
         """For each address of a request what it held at reset, and after each earlier request that changed it: pairs of a request, None at
         reset, and a byte, None if it is unknown."""
-        slave, window = self.system.slave(port), message.window()
-        found = {at: [(None, slave.byte(at))] for at in window}
+        slave = self.system.slave(port)
+        places = self.places(slave, message)
+        addresses = dict(zip(places, message.window()))
+        found = {addresses[place]: [(None, slave.byte(place))] for place in places}
         for other in self.writes[message.link[0]][:message.before]:
-            if other.meets(window) and slave.permits(other.ask()):
+            if meet(places, self.places(slave, other)) and slave.permits(other.ask()):
                 slave.answer(other.ask())
-                for at in slave.writes(other.ask()) & set(window):
-                    found[at].append((other, slave.byte(at)))
+                for place in slave.writes(other.ask()) & set(places):
+                    found[addresses[place]].append((other, slave.byte(place)))
         return found
+
+    @staticmethod
+    def places(slave, message):
+        """Where the bytes of a request stand at a slave."""
+        start = slave.start_of(message.ask())
+        return range(start, start + (1 << message.size))
 
     def later(self, message, address, value):
         """The first request that takes effect after this one, or is in flight, and carries a byte for an address; or None."""

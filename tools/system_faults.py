@@ -54,6 +54,14 @@ DOCUMENTS = ("", {
     "decode = ''": "decode out of range",
     "decode = 'Address'\nport = 1": "decode out of range",
     "decode = 'bytes'": "missing master",
+    "decode = ''\nperiod = 0": "decode out of range",
+    "period = '1'\nport = 1": "wrong type of period",
+    "period = 1.0": "wrong type of period",
+    "period = 0": "period out of range",
+    "period = -1": "period out of range",
+    "period = 1": "missing master",
+    "period = 9_223_372_036_854_775_807": "missing master",
+    "period = 0\nport = 1": "period out of range",
     "decode = 'address'\nport = 1": "wrong type of port",
     # a port that is written in one line
     "port = [{}]": "missing kind",
@@ -96,6 +104,12 @@ UNKNOWN_KEYS = ("", {
     "[[port]]\nkind = 1\n[[master]]\nsource = 1": "unknown key source (near: sources)",
     "[[master]]\nsizes = {}": "unknown key sizes (near: wires)",
     "[[master]]\nops = 1\nextra = 1": "missing sources",
+    # a link may have a clock and a reset of its own, which say nothing to a judge of captures
+    "[[port]]\nclock = 1\nlink_reset = 1\nreset_active = 1\nedge = 1": "missing kind",
+    "[[master]]\nclock = 1\nlink_reset = 1\nreset_active = 1\nedge = 1": "missing sources",
+    "[[port]]\nlink_rest = 'x'": "unknown key link_rest (near: link_reset)",
+    "[[master]]\nreset = 'x'": "unknown key reset (near: reach)",
+    "link_reset = 'x'": "unknown key link_reset (near: reset)",
     # what is no array or no table is passed over
     "port = { x = 1 }\nmaster = [1, { x = 1 }]": "unknown key x (near: bus)",
     "port = [1, { kinds = 'ram' }]": "unknown key kinds (near: kind)",
@@ -157,6 +171,14 @@ RANGES = ("[[port]]\nkind = 'ram'\n", {
     "ranges = 1\nbase = 'x'": "wrong type of base",
     "ranges = 1\nlength = 0": "length out of range",
     "ranges = [[0, 1], [8, 8]]": "missing master",
+    # ranges that are one memory are as long
+    "ranges = [[0, 1], [8, 8]]\nmirror = true": "mirror out of range",
+    "ranges = [[0, 8], [8, 8], [16, 7]]\nmirror = true\nvolatile = 1": "mirror out of range",
+    "ranges = [[0, 8], [8, 8], [16, 9]]\nmirror = true\nbus = 3": "bus out of range",
+    "ranges = [[0, 1], [8, 8]]\nmirror = false": "missing master",
+    "ranges = [[0, 8], [9, 8], [32, 8]]\nmirror = true": "missing master",
+    # two that have a byte in common are a fault of the map, also if they are one memory
+    "ranges = [[0, 8], [4, 8]]\nmirror = true\n[[master]]\nsources = 1": "ports 0 and 0 overlap",
 })
 # A device has ranges as a memory has.
 DEVICE_RANGES = ("[[port]]\nkind = 'device'\n", {
@@ -259,12 +281,34 @@ ORDERS_AND_BUSES = (PORT, {
     "order = 'all'": "order out of range",
     "order = 'accept'": "missing master",
     "order = 'reply'": "missing master",
+    "order = 'any/accept'": "order out of range",
+    "order = ['any', 'accept']": "wrong type of order",
+    "order = {}": "missing master",
+    "order = { masters = 'any' }": "missing master",
+    "order = { ports = 'accept' }": "missing master",
+    "order = { masters = 'any', ports = 'reply', extra = 1 }": "missing master",
+    "order = { masters = 1, ports = 'all' }": "wrong type of order",
+    "order = { masters = 'all', ports = 1 }": "wrong type of order",
+    "order = { masters = 'all' }": "order out of range",
+    "order = { ports = '' }": "order out of range",
+    "order = { port = 'any' }": "unknown key port (near: ports)",
+    "sizes = { put = 1 }\norder = { port = 'any' }": "unknown key put (near: get)",
+    "order = { port = 'any' }\nwires = { a = 'x' }": "unknown key port (near: ports)",
     "bus = '8'": "wrong type of bus",
     **{f"bus = {width}": "bus out of range" for width in (0, -8, 3, 128, 2**40)},
     **{f"bus = {width}": "missing master" for width in (1, 2, 4, 8, 16, 32, 64)},
 })
 # The bytes that change by themselves, in a first range of two bytes.
 VOLATILE = (PORT, {
+    "mirror = 1\nvolatile = 1": "wrong type of mirror",
+    "mirror = 'true'": "wrong type of mirror",
+    "mirror = [true]": "wrong type of mirror",
+    "mirror = 1\nbus = 3": "bus out of range",
+    "mirror = 1\n[[port]]": "wrong type of mirror",
+    # one range is as long as itself
+    "mirror = true": "missing master",
+    "mirror = false": "missing master",
+    "mirror = true\nvolatile = 1": "wrong type of volatile",
     "volatile = 1": "wrong type of volatile",
     "volatile = true": "wrong type of volatile",
     "volatile = '0 1'": "wrong type of volatile",

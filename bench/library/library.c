@@ -27,7 +27,7 @@ static void *whole(const char *path, size_t *length) {
 
 static void judge(const char *script, size_t length, const struct tlx_beat *beats, size_t count) {
   struct tlx_judge judge = {0};
-  if (tlx_judge_read(&judge, script, length, TLX_BOTH_LINKS, TLX_ACCEPT_ORDER, NULL, 0)) exit(1);
+  if (tlx_judge_read(&judge, script, length, TLX_BOTH_LINKS, TLX_ACCEPT_ORDER, TLX_ACCEPT_ORDER, NULL, 0)) exit(1);
   double start = now();
   for (size_t k = 0; k < count; k++)
     if (tlx_judge_step(&judge, &beats[k])) exit(1);

@@ -120,7 +120,7 @@ static uint32_t step(struct tlx_judge *judge, const struct tlx_beat *beat) { ret
 
 /* What a capture is judged by. */
 struct asked {
-  uint8_t links, order;
+  uint8_t links, masters, ports;
   int complete;
 };
 
@@ -169,16 +169,25 @@ static size_t read_system_file(const char *folder, const char *name, char *file)
   return read_file(folder, "system.toml", file);
 }
 
-/* What the words beside a capture ask for. */
+/* The order that a text begins with. */
+static uint8_t order_of(const char *text) {
+  return !strncmp(text, "reply", 5) ? TLX_REPLY_ORDER : !strncmp(text, "any", 3) ? TLX_ANY_ORDER : TLX_ACCEPT_ORDER;
+}
+
+/* What the words beside a capture ask for. Of two orders the second, behind a slash, is the ports' side's. */
 static struct asked read_words(const char *folder, const char *name) {
   static char words[MAX_TEXT];
   char path[512];
   snprintf(path, sizeof path, "%s.args", name);
   if (!read_file(folder, path, words)) words[0] = 0;
+  const char *option = strstr(words, "--order ");
+  const char *order = option ? option + 8 : "";
+  const char *slash = strchr(order, '/');
   return (struct asked){
       .links = strstr(words, "masters") ? TLX_MASTER_LINKS : strstr(words, "ports") ? TLX_PORT_LINKS :
                strstr(words, "each") ? TLX_EACH_LINK : TLX_BOTH_LINKS,
-      .order = strstr(words, "reply") ? TLX_REPLY_ORDER : strstr(words, "any") ? TLX_ANY_ORDER : TLX_ACCEPT_ORDER,
+      .masters = order_of(order),
+      .ports = order_of(slash ? slash + 1 : order),
       .complete = strstr(words, "--complete") != NULL,
   };
 }
@@ -192,7 +201,7 @@ static void check_rows(const char *folder, const char *name, judging *judges, co
   struct asked asked = read_words(folder, name);
   size_t length = read_system_file(folder, name, file);
   int made = tlx_system_describe(&system, file, length, 0, 0) == TLX_OK && hand_in(&system, folder) &&
-             tlx_judge_make(&judge, &system, asked.links, asked.order, 0, 0) == TLX_OK;
+             tlx_judge_make(&judge, &system, asked.links, asked.masters, asked.ports, 0, 0) == TLX_OK;
   judge_rows(&judge, judges, rows, count, &asked, verdict, sizeof verdict);
   tell(name, made && !strcmp(verdict, expected));
   if (strcmp(verdict, expected)) fprintf(stderr, "  %s  %s", verdict, expected);

@@ -307,7 +307,7 @@ static uint32_t make_model(struct handles *handles, const char *script) {
 }
 
 static uint32_t read_judge(struct handles *handles, const char *file) {
-  return tlx_judge_read(&handles->judge, file, strlen(file), TLX_BOTH_LINKS, TLX_ACCEPT_ORDER, 0, 0);
+  return tlx_judge_read(&handles->judge, file, strlen(file), TLX_BOTH_LINKS, TLX_ACCEPT_ORDER, TLX_ACCEPT_ORDER, 0, 0);
 }
 
 static uint32_t describe(struct handles *handles, const char *file) {
@@ -321,7 +321,7 @@ static uint32_t describe_with_image(struct handles *handles, const char *file) {
 
 static uint32_t make_judge(struct handles *handles, const char *file) {
   (void)file;
-  return tlx_judge_make(&handles->judge, &handles->system, TLX_EACH_LINK, TLX_ACCEPT_ORDER, 0, 0);
+  return tlx_judge_make(&handles->judge, &handles->system, TLX_EACH_LINK, TLX_ACCEPT_ORDER, TLX_ACCEPT_ORDER, 0, 0);
 }
 
 static int are_empty(struct handles *handles) {
@@ -411,7 +411,7 @@ static void refuse_steps(void) {
   const struct tlx_beat first = {.side = TLX_PORT, .opcode = 4, .size = 2, .source = 4321, .address = 0x1000, .mask = 0x0f};
   struct tlx_judge judge = {0};
   long before = blocks;
-  int is_well = tlx_judge_read(&judge, SYSTEM, strlen(SYSTEM), TLX_EACH_LINK, TLX_ACCEPT_ORDER, 0, 0) == TLX_OK;
+  int is_well = tlx_judge_read(&judge, SYSTEM, strlen(SYSTEM), TLX_EACH_LINK, TLX_ACCEPT_ORDER, TLX_ACCEPT_ORDER, 0, 0) == TLX_OK;
   is_well &= steps_refused(&judge, none, 2, 0) && steps_refused(&judge, put, 2, 1) && steps_refused(&judge, got, 2, 0) &&
              steps_refused(&judge, &first, 1, 1) && tlx_judge_step(&judge, &first) == TLX_SOURCE_IN_FLIGHT;
   is_well &= tlx_judge_requests(&judge) == 3 && tlx_judge_answered(&judge) == 3;

@@ -25,14 +25,14 @@ static const struct { const char *file; uint32_t fault; const char *text; } FILE
 };
 
 static uint32_t read_file_of(struct tlx_judge *judge, const char *file, char *text, size_t room) {
-  return tlx_judge_read(judge, file, strlen(file), TLX_MASTER_LINKS, TLX_ACCEPT_ORDER, text, room);
+  return tlx_judge_read(judge, file, strlen(file), TLX_MASTER_LINKS, TLX_ACCEPT_ORDER, TLX_ACCEPT_ORDER, text, room);
 }
 
 /* The same in two calls. */
 static uint32_t make_of(struct tlx_judge *judge, const char *file, char *text, size_t room) {
   struct tlx_system system = {0};
   uint32_t fault = tlx_system_describe(&system, file, strlen(file), text, room);
-  if (fault == TLX_OK) fault = tlx_judge_make(judge, &system, TLX_MASTER_LINKS, TLX_ACCEPT_ORDER, text, room);
+  if (fault == TLX_OK) fault = tlx_judge_make(judge, &system, TLX_MASTER_LINKS, TLX_ACCEPT_ORDER, TLX_ACCEPT_ORDER, text, room);
   tlx_system_free(&system);
   return fault;
 }
@@ -45,12 +45,12 @@ void check_files(void) {
     tell(FILES[k].text, read_file_of(&judge, FILES[k].file, text, sizeof text) == FILES[k].fault && !strcmp(text, FILES[k].text) &&
          make_of(&judge, FILES[k].file, text, sizeof text) == FILES[k].fault && !strcmp(text, FILES[k].text));
   memset(longest, '#', sizeof longest);
-  tell("a file too long", tlx_judge_read(&judge, longest, sizeof longest, 0, 0, text, sizeof text) == TLX_TOO_LONG &&
+  tell("a file too long", tlx_judge_read(&judge, longest, sizeof longest, 0, 0, 0, text, sizeof text) == TLX_TOO_LONG &&
        !strcmp(text, "system: longer than 1048576 bytes"));
-  tell("a file as long as it may be", tlx_judge_read(&judge, longest, sizeof longest - 1, 0, 0, text, sizeof text) == TLX_MISSING);
+  tell("a file as long as it may be", tlx_judge_read(&judge, longest, sizeof longest - 1, 0, 0, 0, text, sizeof text) == TLX_MISSING);
   struct tlx_system system = {0};
   tell("a header of another version", tlx_version() == TLX_VERSION &&
-       tlx_judge_read_at(&judge, (const uint8_t *)"", 0, 9, 9, TLX_VERSION + 1, text, sizeof text, &(size_t){0}) == TLX_OTHER_VERSION &&
+       tlx_judge_read_at(&judge, (const uint8_t *)"", 0, 9, 9, 9, TLX_VERSION + 1, text, sizeof text, &(size_t){0}) == TLX_OTHER_VERSION &&
        tlx_system_describe_at(&system, (const uint8_t *)"", 0, TLX_VERSION - 1, text, sizeof text, &(size_t){0}) == TLX_OTHER_VERSION);
 }
 
@@ -88,7 +88,7 @@ static void check_handing_in(struct tlx_system *system) {
 }
 
 static uint32_t make(struct tlx_judge *judge, struct tlx_system *system, char *text, size_t room) {
-  return tlx_judge_make(judge, system, TLX_MASTER_LINKS, TLX_ACCEPT_ORDER, text, room);
+  return tlx_judge_make(judge, system, TLX_MASTER_LINKS, TLX_ACCEPT_ORDER, TLX_ACCEPT_ORDER, text, room);
 }
 
 /* A get of a word of the ROM is answered `aa`, the reset's byte, and then what is left of the last image, and zeros. */
@@ -122,8 +122,9 @@ void check_images(void) {
   tell("a judge without its second image", make(&judge, &system, text, sizeof text) == TLX_IMAGE_UNREADABLE &&
        !strcmp(text, "system: port 2: image can't be read"));
   check_handing_in(&system);
-  tell("wrong words", tlx_judge_make(&judge, &system, 4, 0, 0, 0) == TLX_BAD_ARGUMENT && tlx_judge_make(&judge, &system, 0, 3, 0, 0) == TLX_BAD_ARGUMENT &&
-       tlx_judge_make(0, &system, 0, 0, text, sizeof text) == TLX_NULL && tlx_judge_make(&judge, 0, 0, 0, 0, 9) == TLX_NULL);
+  tell("wrong words", tlx_judge_make(&judge, &system, 4, 0, 0, 0, 0) == TLX_BAD_ARGUMENT && tlx_judge_make(&judge, &system, 0, 3, 0, 0, 0) == TLX_BAD_ARGUMENT &&
+       tlx_judge_make(&judge, &system, 0, 0, 3, 0, 0) == TLX_BAD_ARGUMENT &&
+       tlx_judge_make(0, &system, 0, 0, 0, text, sizeof text) == TLX_NULL && tlx_judge_make(&judge, 0, 0, 0, 0, 0, 9) == TLX_NULL);
   tell("a judge with images", make(&judge, &system, text, sizeof text) == TLX_OK && !text[0] && tlx_system_ports(&system) == 0);
   tell("a judge of what was taken", make(&judge, &system, 0, 0) == TLX_FULL && make(&second, &system, 0, 0) == TLX_EMPTY);
   check_image_read(&judge);
@@ -188,11 +189,12 @@ void check_judges(void) {
   struct tlx_beat beat = {0};
   char text[128];
   memset(text, 'a', sizeof text);
-  tell("a judge of no file", tlx_judge_read(&judge, 0, 0, 0, 0, text, sizeof text) == TLX_NULL && !text[0] && text[1] == 'a');
-  tell("no judge", tlx_judge_read(0, SYSTEM, strlen(SYSTEM), 0, 0, 0, 9) == TLX_NULL);
+  tell("a judge of no file", tlx_judge_read(&judge, 0, 0, 0, 0, 0, text, sizeof text) == TLX_NULL && !text[0] && text[1] == 'a');
+  tell("no judge", tlx_judge_read(0, SYSTEM, strlen(SYSTEM), 0, 0, 0, 0, 9) == TLX_NULL);
   tell("an empty judge", tlx_judge_step(&judge, &beat) == TLX_EMPTY && tlx_judge_end(&judge) == TLX_EMPTY && tlx_judge_requests(&judge) == 0 && tlx_judge_answered(&judge) == 0);
-  tell("links that there are not", tlx_judge_read(&judge, SYSTEM, strlen(SYSTEM), 9, 0, 0, 0) == TLX_BAD_ARGUMENT);
-  tell("an order that there is not", tlx_judge_read(&judge, SYSTEM, strlen(SYSTEM), 0, 9, 0, 0) == TLX_BAD_ARGUMENT);
+  tell("links that there are not", tlx_judge_read(&judge, SYSTEM, strlen(SYSTEM), 9, 0, 0, 0, 0) == TLX_BAD_ARGUMENT);
+  tell("an order that there is not", tlx_judge_read(&judge, SYSTEM, strlen(SYSTEM), 0, 9, 0, 0, 0) == TLX_BAD_ARGUMENT);
+  tell("an order of the ports' side that there is not", tlx_judge_read(&judge, SYSTEM, strlen(SYSTEM), 0, 0, 9, 0, 0) == TLX_BAD_ARGUMENT);
   tell("a judge", read_file_of(&judge, SYSTEM, text, sizeof text) == TLX_OK && !text[0]);
   tell("a second judge in one handle", read_file_of(&judge, SYSTEM, 0, 0) == TLX_FULL);
   check_steps(&judge);
@@ -207,7 +209,7 @@ void check_longest_line(void) {
   struct tlx_judge judge = {0};
   struct tlx_beat beat = {0};
   char text[2048], expected[2048];
-  int is_well = tlx_judge_read(&judge, LONG, strlen(LONG), TLX_MASTER_LINKS, TLX_ACCEPT_ORDER, 0, 0) == TLX_OK;
+  int is_well = tlx_judge_read(&judge, LONG, strlen(LONG), TLX_MASTER_LINKS, TLX_ACCEPT_ORDER, TLX_ACCEPT_ORDER, 0, 0) == TLX_OK;
   size_t before = requests;
   beat.line = beat.time = UINT64_MAX;
   beat.opcode = 4;

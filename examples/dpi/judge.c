@@ -89,30 +89,42 @@ static uint32_t read_images(struct tlx_system *system, const char *path, char *w
   return fault;
 }
 
+/* The orders of the masters' side and of the ports' (enum tlx_order). */
+struct orders { uint8_t masters, ports; };
+
+/* Those that a word names: one of both sides, or two with a slash between them. */
+static struct orders orders_of(const char *word) {
+  static const char *const orders[] = {"accept", "reply", "any"};
+  const char *slash = strchr(word, '/');
+  char masters[MAX_NAME];
+  snprintf(masters, sizeof masters, "%.*s", slash ? (int)(slash - word) : (int)strlen(word), word);
+  return (struct orders){.masters = place_of(masters, orders, 3), .ports = place_of(slash ? slash + 1 : word, orders, 3)};
+}
+
 /* Reads a system file with its images, and makes the judge of it. */
-static uint32_t make_judge(struct tlx_judge *judge, const char *path, const char *file, size_t length, uint8_t view, uint8_t order, char *why,
-                           size_t room) {
+static uint32_t make_judge(struct tlx_judge *judge, const char *path, const char *file, size_t length, uint8_t view, struct orders orders,
+                           char *why, size_t room) {
   struct tlx_system system;
   memset(&system, 0, sizeof system);
   uint32_t fault = tlx_system_describe(&system, file, length, why, room);
   if (fault == TLX_OK) fault = read_images(&system, path, why, room);
-  if (fault == TLX_OK) fault = tlx_judge_make(judge, &system, view, order, why, room);
+  if (fault == TLX_OK) fault = tlx_judge_make(judge, &system, view, orders.masters, orders.ports, why, room);
   tlx_system_free(&system);
   return fault;
 }
 
 /* Makes the judge of a watch; what is wrong stands in its text. */
 static void make(struct watch *watch, const char *path, const char *links, const char *order) {
-  static const char *const views[] = {"both", "masters", "ports", "each"}, *const orders[] = {"accept", "reply", "any"};
+  static const char *const views[] = {"both", "masters", "ports", "each"};
   size_t length = 0;
   char why[MAX_TEXT / 2] = "";
-  uint8_t view = place_of(links, views, 4), when = place_of(order, orders, 3);
+  uint8_t view = place_of(links, views, 4);
   char *file = read_file(path, MAX_SYSTEM, &length);
   if (!file) {
     snprintf(watch->text, MAX_TEXT, "judge: %s: could not be read\n", path);
     return;
   }
-  uint32_t fault = make_judge(&watch->judge, path, file, length, view, when, why, sizeof why);
+  uint32_t fault = make_judge(&watch->judge, path, file, length, view, orders_of(order), why, sizeof why);
   free(file);
   if (fault == TLX_OK) {
     watch->links = view;

@@ -159,6 +159,8 @@ def check_judge(tally):
     tally.raises("no links", TypeError, tlx.Judge, tlx.System(SYSTEM), None)
     tally.raises("other links", ValueError, tlx.Judge, tlx.System(SYSTEM), "all")
     tally.raises("another order", ValueError, tlx.Judge, tlx.System(SYSTEM), "both", "random")
+    tally.raises("another order of the ports' side", ValueError, tlx.Judge, tlx.System(SYSTEM), "both", "any/random")
+    tally.raises("an order and a slash", ValueError, tlx.Judge, tlx.System(SYSTEM), "both", "any/")
     tally.raises("a judge of a text", TypeError, tlx.Judge, SYSTEM)
     tally.raises("a copied judge", TypeError, copy.copy, judge)
     tally.raises("a pickled model", TypeError, pickle.dumps, tlx.Model(tlx.System(SYSTEM)))

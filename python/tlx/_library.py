@@ -94,7 +94,7 @@ _system_describe = _call("tlx_system_describe_at", _U32, _AT, _AT, _SIZE, _U32, 
 _system_ports = _call("tlx_system_ports_at", _U64, _AT)
 _system_image = _call("tlx_system_image_at", _U32, _AT, _U64, _AT, _SIZE, _AT, _SIZE, _AT)
 _system_image_name = _call("tlx_system_image_name_at", _SIZE, _AT, _U64, _AT, _SIZE)
-_judge_make = _call("tlx_judge_make_at", _U32, _AT, _AT, _U8, _U8, _AT, _SIZE, _AT)
+_judge_make = _call("tlx_judge_make_at", _U32, _AT, _AT, _U8, _U8, _U8, _AT, _SIZE, _AT)
 _judge_text = _call("tlx_judge_text_at", _SIZE, _AT, _AT, _SIZE)
 model_make = _call("tlx_model_make_at", _U32, _AT, _AT)
 model_serve = _call("tlx_model_serve_at", _U32, _AT, _U64, _AT, _AT)
@@ -157,10 +157,10 @@ def put_image(handle: SystemHandle, port: int, image: bytes) -> tuple[int, str]:
     return fault, why.value.decode()
 
 
-def make_judge(system: SystemHandle, links: int, order: int) -> tuple[JudgeHandle, int, str]:
+def make_judge(system: SystemHandle, links: int, orders: tuple[int, int]) -> tuple[JudgeHandle, int, str]:
     """The judge of what a system file names; a fault, and its text."""
     handle, why, written = JudgeHandle(), ctypes.create_string_buffer(TEXT_ROOM), ctypes.c_size_t()
-    fault = _judge_make(ctypes.byref(handle), ctypes.byref(system), links, order, why, TEXT_ROOM, ctypes.byref(written))
+    fault = _judge_make(ctypes.byref(handle), ctypes.byref(system), links, *orders, why, TEXT_ROOM, ctypes.byref(written))
     return handle, fault, why.value.decode()
 
 

@@ -25,17 +25,24 @@ def _place(name: str, word: object, words: tuple[str, ...]) -> int:
     return words.index(word)
 
 
+def _orders(order: object) -> tuple[int, int]:
+    """The numbers of the orders of the masters' side and of the ports'."""
+    words = order.split("/", 1) if isinstance(order, str) else [order]
+    numbers = [_place("order", word, ORDERS) for word in words]
+    return numbers[0], numbers[-1]
+
+
 class Judge:
     """The judge of a crossbar that a system describes, before any beat. A context manager, which gives its memory back.
 
     links: the links that are watched, "both" sides', the "masters"', the "ports"', or "each" side by itself. order: when a request
     takes effect at a port for which the system does not say it, with its last beat ("accept"), with its reply's first ("reply"), or at
-    some moment between these ("any").
+    some moment between these ("any"); or two words, as "any/accept", the first for the masters' links and the second for the ports'.
     InvalidSystem as of System; TypeError and ValueError of other words. One thread at a time uses a judge.
     """
 
     def __init__(self, system: System, links: str = "both", order: str = "accept") -> None:
-        self._handle = make_judge(check_system(system), _place("links", links, LINKS), _place("order", order, ORDERS))
+        self._handle = make_judge(check_system(system), _place("links", links, LINKS), _orders(order))
         self.links = links
         self.order = order
         self._is_closed = False

@@ -29,7 +29,7 @@ class System:
             raise TypeError(f"the text of a system is str or bytes, and not {type(text).__name__}")
         self.text = text
         self.images = _images_of(text, images)
-        make_judge(self, 0, 0)
+        make_judge(self, 0, (0, 0))
 
     @classmethod
     def read(cls, path: str | os.PathLike, images: Images | None = None) -> "System":
@@ -78,12 +78,12 @@ def check(fault: int, why: str) -> None:
         raise InvalidSystem(Fault(fault), why) if fault >= Fault.NOT_TOML else fault_of(fault, why)
 
 
-def make_judge(system: System, links: int, order: int) -> _library.JudgeHandle:
+def make_judge(system: System, links: int, orders: tuple[int, int]) -> _library.JudgeHandle:
     """The judge of a system, with its images."""
     described = read(_library.describe, system.text)
     for port, image in system.images.items():
         check(*_library.put_image(described, port, image))
-    return read(_library.make_judge, described, links, order)
+    return read(_library.make_judge, described, links, orders)
 
 
 def check_system(system: object) -> System:

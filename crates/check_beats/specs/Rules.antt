@@ -1,6 +1,6 @@
--- What a system says of all its links: whether requests may be unaligned, and what its decoders look at. That a request begins at
+-- What a system says of all its links: whether requests may be unaligned, what its decoders look at, and how long a clock is. That a request begins at
 -- a multiple of its size is of the chapter "Addressing" of the TileLink specification; the rest is this project's own.
-use Rattle.std.specs.Prelude.{◌≡◌, ℕ, ◌%◌, ◌^◌, false, if◌then◌else◌}
+use Rattle.std.specs.Prelude.{◌≡◌, ℕ, ◌/◌, ◌%◌, ◌^◌, false, max, if◌then◌else◌}
 use Rattle.check_beats.specs.declared.beat.AskHead.{AskHead}
 use Rattle.check_beats.specs.declared.rules.LinkRules.{LinkRules}
 
@@ -11,3 +11,7 @@ IsAlignedBy rules beat = rules.unaligned ≡ false → beat.address % 2 ^ beat.s
 -- the size of the part of a request that decoders look at: all its bytes, or the first
 abbrev pub decoded_size : LinkRules → ℕ → ℕ
 decoded_size rules size = if rules.by_address then 0 else size
+
+-- how many clocks lie in so many units of time
+abbrev pub clocks_in : LinkRules → ℕ → ℕ
+clocks_in rules time = time / max rules.period 1

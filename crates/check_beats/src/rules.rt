@@ -1,17 +1,20 @@
 //! What a system says of all its links.
 ghost use Rattle.std.specs.Prelude.{◌≡◌, ◌≤◌, ◌↔◌, IsTrue};
 ghost use Rattle.tl_types.specs.declared.limits.TheConstants.{MAX_SIZE};
-ghost use Rattle.check_beats.specs.Rules.{IsAlignedBy, decoded_size};
+ghost use Rattle.check_beats.specs.Rules.{IsAlignedBy, clocks_in, decoded_size};
 
 use crate::beat::AskHead;
 
-/// What a system says of all its links. By default requests are aligned, and decoders look at all their bytes.
+/// What a system says of all its links. By default requests are aligned, decoders look at all their bytes, and a unit of time is
+/// a clock.
 #[derive(Debug, Clone, Copy, PartialEq, Eq, Default)]
 pub struct LinkRules {
     /// The address of a request may be no multiple of its size. Its slave denies it.
     pub unaligned: bool,
     /// Decoders look at the address of a request, and not at its other bytes.
     pub by_address: bool,
+    /// How many units of the time of rows a clock has. 0 counts as 1.
+    pub period: u64,
 }
 
 impl LinkRules {
@@ -22,6 +25,13 @@ impl LinkRules {
         ensures in_limit { result ≤ size }
     {
         if self.by_address { 0 } else { size }
+    }
+
+    /// How many clocks lie in so many units of time.
+    pub fn clocks(self, time: u64) -> u64
+        ensures { result ≡ clocks_in self time }
+    {
+        time / self.period.max(1)
     }
 }
 

@@ -3,6 +3,7 @@ use Rattle.std.proofs.Common.{◌≡◌, ◌∙◌, ℕ, Bool, true, false, List
 use Rattle.std.specs.Prelude.{if◌then◌else◌, ◌==◌, not, map, filter, find, is_some, option_map, Result, OnOk}
 use Rattle.std.specs.List.{list_any}
 use Rattle.std.proofs.lemmas.Option.{none-some, same_Some}
+use Rattle.check_beats.specs.declared.rules.LinkRules.{LinkRules}
 use Rattle.check_coverage.specs.declared.bin.Bin.{Bin}
 use Rattle.check_coverage.specs.declared.bin.Bin.TheVariants as bin
 use Rattle.check_coverage.specs.declared.counts.Counts.{Counts}
@@ -33,11 +34,11 @@ module _ (before : List InFlight) (this : InFlight) (flights : List CountedFligh
       (λ i. length (filter (λ (other : CountedFlight). other.port == (is_this i).port) (is i)))
       ∙ filter_count (λ (other : CountedFlight). other.port == this.port) before
 
-  pub begin_is : (m p time : ℕ) (answered : Option ℕ) (rest : List Bin)
+  pub begin_is : (m p : ℕ) (rules : LinkRules) (time : ℕ) (answered : Option ℕ) (rest : List Bin)
       → m ≡ with_one (filter (is_of_master this.master) before) → p ≡ with_one (filter (is_of_port this.port) before)
-      → rest ≡ again this time answered
-      → (bin.InFlight flight.master m ∷ bin.AtPort flight.port p ∷ rest) ≡ begin_bins before this time answered
-  begin_is m p time answered rest is_m is_p is_rest =
+      → rest ≡ again rules this time answered
+      → (bin.InFlight flight.master m ∷ bin.AtPort flight.port p ∷ rest) ≡ begin_bins rules before this time answered
+  begin_is m p rules time answered rest is_m is_p is_rest =
       λ i. bin.InFlight (is_this i).master (is_m i) ∷ bin.AtPort (is_this i).port (is_p i) ∷ is_rest i
 
   pub contested_is : (b : Bool) → b ≡ list_any (contests this) before → b ≡ true

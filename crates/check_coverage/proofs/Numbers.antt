@@ -2,6 +2,7 @@
 use Rattle.std.proofs.Common.{◌≤◌, ℕ, Bool, true, false, if◌then◌else◌, List, [], ◌∷◌, ◌++◌, Option, Some, None, arith}
 use Rattle.std.specs.Prelude.{◌==◌, find}
 use Rattle.std.specs.List.{AllByRecursion, list_any}
+use Rattle.check_beats.specs.declared.rules.LinkRules.{LinkRules}
 use Rattle.check_beats.specs.declared.beat.AskHead.{AskHead}
 use Rattle.check_beats.specs.declared.beat.ReplyHead.{ReplyHead}
 use Rattle.check_watch.specs.declared.beat.Beat.{Beat}
@@ -25,13 +26,14 @@ both (x ∷ xs) ys first second = (first.0, both xs ys first.1 second)
 up_to_64 : (flights : List InFlight) → (1 ≤ with_one flights) × (with_one flights ≤ 64)
 up_to_64 flights = (omega arith, omega arith)
 
-again_up : (flight : InFlight) (time : ℕ) (answered : Option ℕ) → AllUpTo64 (again flight time answered)
-again_up flight time None = tt
-again_up flight time (Some at) = (tt, tt)
+again_up : (rules : LinkRules) (flight : InFlight) (time : ℕ) (answered : Option ℕ)
+    → AllUpTo64 (again rules flight time answered)
+again_up rules flight time None = tt
+again_up rules flight time (Some at) = (tt, tt)
 
-begin_up : (flights : List InFlight) (flight : InFlight) (time : ℕ) (answered : Option ℕ)
-    → AllUpTo64 (begin_bins flights flight time answered)
-begin_up flights flight time answered = (up_to_64 _, (up_to_64 _, again_up flight time answered))
+begin_up : (rules : LinkRules) (flights : List InFlight) (flight : InFlight) (time : ℕ) (answered : Option ℕ)
+    → AllUpTo64 (begin_bins rules flights flight time answered)
+begin_up rules flights flight time answered = (up_to_64 _, (up_to_64 _, again_up rules flight time answered))
 
 ask_up : (bus : ℕ) (flights : List InFlight) (beat : AskHead) (flight : InFlight)
     → AllUpTo64 (ask_bins bus flights beat flight)
@@ -74,9 +76,10 @@ module _ (plan : Plan) (bus wide : ℕ) (flights : List InFlight) (time : ℕ) (
       (last_bins bus wide (flights_after plan bus wide flights (A beat) end) beat end)
       (first (list_any (is_of wide) flights)) (last (ends_an_ask end))
     where
-      first : (b : Bool) → AllUpTo64 (if b then [] else begin_bins flights (begun plan wide beat) time answered)
+      first : (b : Bool)
+          → AllUpTo64 (if b then [] else begin_bins plan.layout.rules flights (begun plan wide beat) time answered)
       first true = tt
-      first false = begin_up flights (begun plan wide beat) time answered
+      first false = begin_up plan.layout.rules flights (begun plan wide beat) time answered
 
       last : (b : Bool) → AllUpTo64 (if b then of_found (find (is_of wide)
           (flights_after plan bus wide flights (A beat) end))

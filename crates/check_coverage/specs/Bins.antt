@@ -3,6 +3,8 @@
 use Rattle.std.specs.Prelude.{ℕ, ◌+◌, ◌-◌, ◌^◌, ◌≤◌, ◌&&◌, ◌||◌, ◌==◌, Bool, false, not, nat_lt, min, if◌then◌else◌, List, [], ◌∷◌, ◌++◌, length, filter, find, Option, Some, None}
 use Rattle.std.specs.List.{list_any}
 use Rattle.check_beats.specs.Message.{ask_beats, reply_beats}
+use Rattle.check_beats.specs.Rules.{clocks_in}
+use Rattle.check_beats.specs.declared.rules.LinkRules.{LinkRules}
 use Rattle.check_beats.specs.declared.beat.AskHead.{AskHead}
 use Rattle.check_beats.specs.declared.beat.ReplyHead.{ReplyHead}
 use Rattle.check_watch.specs.declared.beat.Beat.{Beat}
@@ -30,21 +32,21 @@ is_of_port port flight = flight.port == port
 abbrev pub with_one : List InFlight → ℕ
 with_one flights = min (length flights + 1) 64
 
--- the least time of the step that a time is in: 0, 1, 2, 3, 4, 8, 16
+-- the least of the step that so many clocks are in: 0, 1, 2, 3, 4, 8, 16
 abbrev pub step_of : ℕ → ℕ
-step_of time = if nat_lt time 4 then time else if nat_lt time 8 then 4 else if nat_lt time 16 then 8 else 16
+step_of clocks = if nat_lt clocks 4 then clocks else if nat_lt clocks 8 then 4 else if nat_lt clocks 16 then 8 else 16
 
 -- a request at this time, whose source's last reply ended then
-abbrev pub again : InFlight → ℕ → Option ℕ → List Bin
-again flight time None = []
-again flight time (Some answered) = bin.Again flight.master (step_of (time - answered)) ∷ []
+abbrev pub again : LinkRules → InFlight → ℕ → Option ℕ → List Bin
+again rules flight time None = []
+again rules flight time (Some answered) = bin.Again flight.master (step_of (clocks_in rules (time - answered))) ∷ []
 
 -- what the first beat of a request adds, when these are in flight before it
-abbrev pub begin_bins : List InFlight → InFlight → ℕ → Option ℕ → List Bin
-begin_bins flights flight time answered =
+abbrev pub begin_bins : LinkRules → List InFlight → InFlight → ℕ → Option ℕ → List Bin
+begin_bins rules flights flight time answered =
     bin.InFlight flight.master (with_one (filter (is_of_master flight.master) flights))
     ∷ bin.AtPort flight.port (with_one (filter (is_of_port flight.port) flights))
-    ∷ again flight time answered
+    ∷ again rules flight time answered
 
 -- ---- a request is whole
 
@@ -112,7 +114,7 @@ of_found (Some flight) bins = bins flight
 -- what a beat of channel A adds as the first one of a request, when these are in flight before it
 abbrev pub first_bins : Plan → ℕ → List InFlight → ℕ → Option ℕ → AskHead → List Bin
 first_bins plan wide flights time answered beat =
-    if list_any (is_of wide) flights then [] else begin_bins flights (begun plan wide beat) time answered
+    if list_any (is_of wide) flights then [] else begin_bins plan.layout.rules flights (begun plan wide beat) time answered
 
 -- what it adds as the last one, when these are in flight after it
 abbrev pub last_bins : ℕ → ℕ → List InFlight → AskHead → Ended → List Bin

@@ -60,7 +60,7 @@ pub enum Bin {
     AtPort(usize, usize),
     /// A reply that comes before that of an older request of its master.
     Overtook(Pair),
-    /// A request of a master that begins so long after the last reply to its source.
+    /// A request of a master that begins so many clocks after the last reply to its source.
     Again(usize, u64),
     /// A request that meets another one of its port.
     Contested(usize),

@@ -22,7 +22,7 @@ use crate::lists::{
     count_of_master, count_of_port, find_of, grow, is_contested, oldest_of, remove,
 };
 use crate::marks::Marks;
-use check_beats::{AskHead, Bus, ReplyHead, beat_count_on_bus};
+use check_beats::{AskHead, Bus, LinkRules, ReplyHead, beat_count_on_bus};
 use check_rows::Row;
 use check_sides::{Beat, Ended, Link, Links, Watch};
 use std::alloc::{AllocError, Global};
@@ -105,12 +105,12 @@ fn begun(watch: &Watch, wide: u16, beat: &AskHead) -> CountedFlight
     }
 }
 
-/// The least time of the step that a time is in.
-fn step_of(time: u64) -> u64
-    ensures { result ≡ step_of time }
+/// The least of the step that so many clocks are in.
+fn step_of(clocks: u64) -> u64
+    ensures { result ≡ step_of clocks }
 {
-    match time {
-        0..=3 => time,
+    match clocks {
+        0..=3 => clocks,
         4..=7 => 4,
         8..=15 => 8,
         _ => 16,
@@ -127,13 +127,14 @@ fn with_one(count: usize) -> usize
 /// Counts what the first beat of a request adds.
 fn count_begin(
     counts: &mut Counts,
+    rules: LinkRules,
     flights: &[CountedFlight],
     flight: &CountedFlight,
     time: u64,
     answered: Option<u64>,
 ) -> Result<(), AllocError>
     ensures { (before : List InFlight) (this : InFlight) → flights.now ≡ map kept before → flight.now ≡ kept this
-        → OnOk result (Adds counts.old counts.new (begin_bins before this time answered)) }
+        → OnOk result (Adds counts.old counts.new (begin_bins rules before this time answered)) }
 {
     let of_master = with_one(count_of_master(flights, flight.master));
     let of_port = with_one(count_of_port(flights, flight.port));
@@ -142,7 +143,7 @@ fn count_begin(
     match answered {
         Some(answered) => counts.add(Bin::Again(
             flight.master,
-            step_of(time.saturating_sub(answered)),
+            step_of(rules.clocks(time.saturating_sub(answered))),
         )),
         None => Ok(()),
     }
@@ -257,7 +258,14 @@ impl Coverage {
         }
         let flight = begun(watch, wide, beat);
         let answered = self.answered.get(&wide).copied();
-        count_begin(&mut self.counts, &self.flights, &flight, time, answered)?;
+        count_begin(
+            &mut self.counts,
+            watch.rules(),
+            &self.flights,
+            &flight,
+            time,
+            answered,
+        )?;
         self.flights.push(flight)?;
         Ok(())
     }

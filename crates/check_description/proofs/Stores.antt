@@ -1,11 +1,13 @@
 -- A port that is wholly known at reset keeps a store.
-use Rattle.std.proofs.Common.{◌≡◌, ◌∙◌, ℕ, ◌+◌, ◌-◌, ◌^◌, ◌≤◌, List, [], ◌∷◌, ◌++◌, length, map, take, drop, replicate, Option, Some, refl, ap, append_assoc, arith}
+use Rattle.std.proofs.Common.{◌≡◌, ◌∙◌, ℕ, ◌+◌, ◌-◌, ◌^◌, ◌≤◌, Bool, true, false, List, [], ◌∷◌, ◌++◌, length, map, take, drop, replicate, Option, Some, refl, ap, append_assoc, arith}
 use Rattle.std.specs.List.{range_with_len}
 use Rattle.std.proofs.Math.Seq.{take-append_seam, drop-append-add}
 use Rattle.std.proofs.lemmas.List.{take-map, drop-map, map-append, length-append, length-drop, length-map, length-replicate, drop-append-le, replicate-append-replicate}
 use Rattle.std.proofs.lemmas.List.FromFn.{length-range_with_len}
 use Rattle.check_memory.specs.Known.{known, replaced}
 use Rattle.check_memory.specs.Place.{tabulate}
+use Rattle.tl_map.specs.declared.range.Range.{Range}
+use Rattle.check_description.specs.Mirror.{mirrors_kept, ranges_kept}
 use Rattle.check_description.specs.Laws.{KeepsItsStore, put_over}
 
 -- ---- cells that are all known
@@ -90,6 +92,15 @@ cells_are base count n reset image fits reset_fits image_fits =
     )
     (put_known before (put_over image zeros) beyond reset base start (omega (arith, filled)))
 
+-- a port of one range is seen there alone
+one_kept : (mirror : Bool) (range : Range) → ranges_kept mirror (range ∷ []) ≡ range ∷ []
+one_kept false range = refl
+one_kept true range = refl
+
+none_kept : (mirror : Bool) (range : Range) → mirrors_kept mirror (range ∷ []) ≡ []
+none_kept false range = refl
+none_kept true range = refl
+
 -- a plain port keeps its store
 pub keeps_its_store : KeepsItsStore
 keeps_its_store kind range port image plain fits =
@@ -104,6 +115,8 @@ keeps_its_store kind range port image plain fits =
       plain.kind_is,
       plain.sizes_are,
       plain.ranges_are,
+      one_kept port.mirror range,
+      none_kept port.mirror range,
       plain.known,
       plain.still,
       cells_are range.base range.length (2 ^ 64) reset image fits.in_space fits.reset_fits fits.image_fits,

@@ -8,7 +8,7 @@ use Rattle.tl_ops.specs.Support.{row_of_kind}
 use Rattle.check_description.specs.Laws.{ErrorPortIsWhole, KnownPortIsWhole}
 use Rattle.check_description.specs.Ranges.{first_base}
 use Rattle.check_description.specs.Slave.{ungiven_memory, memory_at_reset}
-use Rattle.check_description.proofs.Ends.{all_within, first_within}
+use Rattle.check_description.proofs.Ends.{first_within, kept_within}
 use Rattle.check_description.proofs.Stores.{blank_known, known-replaced}
 
 -- so many zeros; never computed, since there are 2 ^ 64
@@ -55,13 +55,13 @@ known_port_is_whole kind port image of =
       memory = memory_at_reset kind port image;
       bytes = replaced under base reset;
       is = rw (of.kind_is, of.known, cells_known (2 ^ 64) base image reset) refl;
-      within = rw counted (all_within port.ranges of.lawful);
+      within = rw counted (kept_within port.mirror port.ranges of.lawful);
       still = of.still;
     }
 
 pub error_port_is_whole : ErrorPortIsWhole
 error_port_is_whole order = record {
-  memory = ungiven_memory NoDevice (row_of_kind NoDevice) [] [] true;
+  memory = ungiven_memory NoDevice (row_of_kind NoDevice) [] [] [] true;
   bytes = zeros (2 ^ 64);
   is = rw (blank_zeros (2 ^ 64)) refl;
   within = λ place d inside. absurd (omega (arith, inside));

@@ -7,6 +7,7 @@ pub mod Name
 pub mod Description
 pub mod Kind
 pub mod Ranges
+pub mod Mirror
 pub mod Volatile
 pub mod Contents
 pub mod Sizes

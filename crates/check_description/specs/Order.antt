@@ -1,14 +1,17 @@
--- When the requests of a port take effect. This project's own.
-use Rattle.std.specs.Prelude.{ℕ, List, codes, Option, Some, None, Result, if◌then◌else◌, ok_or}
+-- When the requests of a port take effect, as each side judges it. This project's own.
+use Rattle.std.specs.Prelude.{ℕ, List, codes, Option, Some, None, option_map, Result, Ok, if◌then◌else◌, ok_or}
 use Rattle.std.specs.Str.{bytes_eq}
-use Rattle.toml.specs.Data.{Members}
+use Rattle.toml.specs.Data.{Data, Members, as_str, get_member}
 use Rattle.check_flight.specs.declared.order.Order.{Order}
 use Rattle.check_flight.specs.declared.order.Order.TheVariants.{Accept, Reply, Any}
 use Rattle.tl_text.specs.Reading.{◌>>=◌, if_any}
-use Rattle.check_keys.specs.Value.{text_if_any}
+use Rattle.check_keys.specs.Key.{key_name}
+use Rattle.check_keys.specs.Value.{table_of, text_of}
 use Rattle.check_keys.specs.declared.fault.Key.TheVariants.{Order as OrderKey}
 use Rattle.check_keys.specs.declared.fault.SystemFault.{SystemFault}
 use Rattle.check_keys.specs.declared.fault.SystemFault.TheVariants.{OutOfRange}
+use Rattle.check_description.specs.declared.order.OrderWords as code_words
+use Rattle.check_description.specs.declared.port.PortOrders.{PortOrders}
 
 -- the order that a word names
 abbrev pub order_of : List ℕ → Option Order
@@ -18,6 +21,60 @@ order_of word =
     else if bytes_eq word (codes "any") then Some Any
     else None
 
--- the order of a port, which may have none
-unfoldable pub order_at : Members → Result (Option Order) SystemFault
-order_at members = text_if_any OrderKey members >>= if_any (λ word. ok_or (order_of word) (OutOfRange OrderKey))
+-- ---- words, which are looked at as texts before any of them is looked at as an order
+
+-- the word of each side, if it is given
+pub record OrderWords : Type 0 where
+  pub masters : Option (List ℕ)
+  pub ports : Option (List ℕ)
+
+abbrev pub on_both_sides : List ℕ → OrderWords
+on_both_sides word = record { masters = Some word; ports = Some word }
+
+-- the word of a side, if a table has it
+unfoldable pub word_at : List ℕ → Members → Result (Option (List ℕ)) SystemFault
+word_at side members = if_any (text_of OrderKey) (get_member side members)
+
+unfoldable pub words_in_table : Members → Result OrderWords SystemFault
+words_in_table members = do
+  masters ← word_at (codes "masters") members
+  ports ← word_at (codes "ports") members
+  Ok (record { masters = masters; ports = ports })
+
+-- those that a value gives: a text is that of both sides, and what is no text has to be a table
+abbrev pub words_by : Option (List ℕ) → Data → Result OrderWords SystemFault
+words_by (Some word) value = Ok (on_both_sides word)
+words_by None value = table_of OrderKey value >>= words_in_table
+
+unfoldable pub words_in : Data → Result OrderWords SystemFault
+words_in value = words_by (as_str value) value
+
+-- what contracts see of words
+abbrev pub words_view : code_words.OrderWords → OrderWords
+words_view words = record {
+  masters = option_map (λ word. word.now) words.masters;
+  ports = option_map (λ word. word.now) words.ports;
+}
+
+-- ---- orders
+
+-- a port has none on either side
+abbrev pub no_orders : PortOrders
+no_orders = record { masters = None; ports = None }
+
+abbrev pub order_by_word : Option (List ℕ) → Result (Option Order) SystemFault
+order_by_word word = if_any (λ text. ok_or (order_of text) (OutOfRange OrderKey)) word
+
+unfoldable pub orders_of : OrderWords → Result PortOrders SystemFault
+orders_of words = do
+  masters ← order_by_word words.masters
+  ports ← order_by_word words.ports
+  Ok (record { masters = masters; ports = ports })
+
+-- the orders of a port, which may have none
+abbrev pub orders_by : Option Data → Result PortOrders SystemFault
+orders_by None = Ok no_orders
+orders_by (Some value) = words_in value >>= orders_of
+
+unfoldable pub orders_at : Members → Result PortOrders SystemFault
+orders_at members = orders_by (get_member (key_name OrderKey) members)

@@ -5,7 +5,6 @@ use Rattle.tl_map.specs.declared.range.Range.{Range}
 use Rattle.tl_map.specs.declared.limits.TheConstants.{MAX_JUDGED_PORTS}
 use Rattle.check_beats.specs.declared.bus.Bus.{Bus}
 use Rattle.tl_ops.specs.declared.sizes.SizeTable.{SizeTable}
-use Rattle.check_flight.specs.declared.order.Order.{Order}
 use Rattle.check_keys.specs.Bus.{bus_in_table}
 use Rattle.check_keys.specs.Key.{key_name}
 use Rattle.check_keys.specs.Name.{name_at}
@@ -15,25 +14,28 @@ use Rattle.check_keys.specs.declared.fault.Key.TheVariants.{Port as PortKey}
 use Rattle.check_keys.specs.declared.fault.SystemFault.{SystemFault}
 use Rattle.check_description.specs.Contents.{Contents, contents_at}
 use Rattle.check_description.specs.Kind.{kind_at}
-use Rattle.check_description.specs.Order.{order_at}
+use Rattle.check_description.specs.Mirror.{mirror_at}
+use Rattle.check_description.specs.Order.{orders_at}
 use Rattle.check_description.specs.Ranges.{first_length, ranges_at}
 use Rattle.check_description.specs.Sizes.{sizes_at}
 use Rattle.check_description.specs.Volatile.{volatile_at}
 use Rattle.check_description.specs.declared.kind.PortKind.{PortKind}
 use Rattle.check_description.specs.declared.port.Contents as code_contents
 use Rattle.check_description.specs.declared.port.Port as code_port
+use Rattle.check_description.specs.declared.port.PortOrders.{PortOrders}
 
 -- a slave port: its name, what stands there, where its bytes are, what it holds before any request, the sizes that it
--- supports, when its requests take effect, its data bus, and the addresses of the bytes that change by themselves. No
--- sizes are those of its kind; no order is the command line's
+-- supports, when its requests take effect, its data bus, whether its ranges are one memory, and the addresses of the bytes
+-- that change by themselves. No sizes are those of its kind; no order on a side is the command line's
 pub record Port : Type 0 where
   pub name : Option (List ℕ)
   pub kind : PortKind
   pub ranges : List Range
   pub contents : Contents
   pub sizes : Option SizeTable
-  pub order : Option Order
+  pub orders : PortOrders
   pub bus : Bus
+  pub mirror : Bool
   pub volatile : List Range
 
 -- lanes of its replies may be unknown: its bytes may be, or some change by themselves
@@ -49,8 +51,9 @@ port_of bus members = do
   ranges ← ranges_at members
   contents ← contents_at (first_length ranges) members
   sizes ← sizes_at members
-  order ← order_at members
+  orders ← orders_at members
   own ← bus_in_table bus members
+  mirror ← mirror_at ranges members
   volatile ← volatile_at ranges members
   Ok (record {
     name = name;
@@ -58,8 +61,9 @@ port_of bus members = do
     ranges = ranges;
     contents = contents;
     sizes = sizes;
-    order = order;
+    orders = orders;
     bus = own;
+    mirror = mirror;
     volatile = volatile;
   })
 
@@ -96,7 +100,8 @@ port_view port = record {
   ranges = port.ranges.items;
   contents = contents_view port.contents;
   sizes = port.sizes;
-  order = port.order;
+  orders = port.orders;
   bus = port.bus;
+  mirror = port.mirror;
   volatile = port.volatile.items;
 }

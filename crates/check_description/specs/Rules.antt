@@ -4,8 +4,8 @@ use Rattle.std.specs.Str.{bytes_eq}
 use Rattle.toml.specs.Data.{Members}
 use Rattle.tl_text.specs.Reading.{◌>>=◌, if_any}
 use Rattle.check_beats.specs.declared.rules.LinkRules.{LinkRules}
-use Rattle.check_keys.specs.Value.{flag_at, text_if_any}
-use Rattle.check_keys.specs.declared.fault.Key.TheVariants.{Unaligned, Decode}
+use Rattle.check_keys.specs.Value.{flag_at, last_integer, number_if_any, text_if_any}
+use Rattle.check_keys.specs.declared.fault.Key.TheVariants.{Unaligned, Decode, Period}
 use Rattle.check_keys.specs.declared.fault.SystemFault.{SystemFault}
 use Rattle.check_keys.specs.declared.fault.SystemFault.TheVariants.{OutOfRange}
 
@@ -20,9 +20,10 @@ by_address_in members =
     text_if_any Decode members >>= if_any (λ word. ok_or (by_address_of word) (OutOfRange Decode))
     >>= (λ by_address. Ok (unwrap_or by_address false))
 
--- what a document's table says: nothing beyond the standard, unless it has the keys
+-- what a document's table says: nothing beyond the standard, and a clock for each unit of time, unless it has the keys
 unfoldable pub rules_in : Members → Result LinkRules SystemFault
 rules_in members = do
   unaligned ← flag_at Unaligned members
   by_address ← by_address_in members
-  Ok (record { unaligned = unaligned; by_address = by_address })
+  period ← number_if_any Period 1 last_integer members
+  Ok (record { unaligned = unaligned; by_address = by_address; period = unwrap_or period 1 })

@@ -14,6 +14,7 @@ use Rattle.check_flight.specs.declared.order.Order.{Order}
 use Rattle.tl_text.specs.Reading.{unless}
 use Rattle.check_keys.specs.declared.fault.SystemFault.{SystemFault}
 use Rattle.check_keys.specs.declared.fault.SystemFault.TheVariants.{ImageTooLong}
+use Rattle.check_description.specs.Mirror.{mirrors_kept, ranges_kept}
 use Rattle.check_description.specs.Port.{Port, may_answer_unknown}
 use Rattle.check_description.specs.Ranges.{first_base, first_length}
 use Rattle.check_description.specs.declared.kind.PortKind.{PortKind}
@@ -23,20 +24,22 @@ use Rattle.check_description.specs.declared.kind.PortKind.TheVariants.{Memory, D
 abbrev pub sizes_of_port : Kind → Port → SizeTable
 sizes_of_port kind port = unwrap_or port.sizes (row_of_kind kind)
 
--- a memory of these ranges of which no byte was given: all are zero, or all are unknown. Those of the volatile ranges
--- change by themselves
-abbrev pub ungiven_memory : Kind → SizeTable → List Range → List Range → Bool → Partial
-ungiven_memory kind sizes ranges volatile known = record {
+-- a memory of these ranges, the first of which is also seen from these addresses on, and of which no byte was given: all
+-- are zero, or all are unknown. Those of the volatile ranges change by themselves
+abbrev pub ungiven_memory : Kind → SizeTable → List Range → List ℕ → List Range → Bool → Partial
+ungiven_memory kind sizes ranges mirrors volatile known = record {
   kind = kind;
   sizes = sizes;
   ranges = ranges;
+  mirrors = mirrors;
   volatile = volatile;
   cells = tabulate (λ _. fill_of known) (2 ^ 64);
 }
 
 abbrev pub blank_memory : Kind → Port → Partial
 blank_memory kind port =
-    ungiven_memory kind (sizes_of_port kind port) port.ranges port.volatile (not port.contents.unknown)
+    ungiven_memory kind (sizes_of_port kind port) (ranges_kept port.mirror port.ranges)
+    (mirrors_kept port.mirror port.ranges) port.volatile (not port.contents.unknown)
 
 -- the memory of a port with the bytes of its image from the base of its first range on, and over them those of its reset
 abbrev pub memory_at_reset : Kind → Port → List ℕ → Partial
@@ -52,13 +55,13 @@ kept_by Device port image = kept.Device
 abbrev pub kept_at_reset : Port → List ℕ → Slave
 kept_at_reset port image = kept_by port.kind port image
 
--- the slave of the port of this number, with these bytes of its image, and this order for a port that says none; or that
--- the image is longer than the first range
+-- the slave of the port of this number, with these bytes of its image, whose requests take effect in this order; or that the
+-- image is longer than the first range
 abbrev pub slave_at_reset : ℕ → Port → List ℕ → Order → Result PortSlave SystemFault
 slave_at_reset number port image order =
     unless (nat_lt (first_length port.ranges) (length image)) (ImageTooLong number)
-    (fresh_slave (kept_at_reset port image) (unwrap_or port.order order) (may_answer_unknown port))
+    (fresh_slave (kept_at_reset port image) order (may_answer_unknown port))
 
 -- the error port's: it has no range, so each request is denied
 abbrev pub error_slave : Order → PortSlave
-error_slave order = fresh_slave (kept.Memory (ungiven_memory NoDevice (row_of_kind NoDevice) [] [] true)) order false
+error_slave order = fresh_slave (kept.Memory (ungiven_memory NoDevice (row_of_kind NoDevice) [] [] [] true)) order false

@@ -4,7 +4,7 @@ use Rattle.toml.specs.Data.{Data, Members, as_array, as_table, get_member}
 use Rattle.tl_script.specs.Value.{list_of}
 use Rattle.check_keys.specs.Known.{first_unknown, near_key}
 use Rattle.check_keys.specs.declared.known.TableKind.{TableKind}
-use Rattle.check_keys.specs.declared.known.TableKind.TheVariants.{Top, Names, Port, Master, Sizes, Wires}
+use Rattle.check_keys.specs.declared.known.TableKind.TheVariants.{Top, Names, Port, Master, Sizes, Orders, Wires}
 use Rattle.check_keys.specs.declared.fault.SystemFault.{SystemFault}
 use Rattle.check_keys.specs.declared.fault.SystemFault.TheVariants.{UnknownKey}
 
@@ -32,10 +32,11 @@ stray_in_value kind value = option_and_then (stray_in kind) (option_and_then as_
 abbrev pub stray_at : List ℕ → TableKind → Members → Option Stray
 stray_at name kind members = stray_in_value kind (get_member name members)
 
--- that of a port's or of a master's table: a key of its own, or else of its sizes, or else of its wires
+-- that of a port's or of a master's table: a key of its own, or else of its sizes, of its order, or of its wires
 unfoldable pub stray_in_link : TableKind → Members → Option Stray
 stray_in_link kind members =
-    or_else (stray_in kind members) (or_else (stray_at (codes "sizes") Sizes members) (stray_at (codes "wires") Wires members))
+    or_else (stray_in kind members) (or_else (stray_at (codes "sizes") Sizes members)
+    (or_else (stray_at (codes "order") Orders members) (stray_at (codes "wires") Wires members)))
 
 -- that of the first table of an array that has one; what is no table is passed over
 abbrev pub stray_in_links : TableKind → List Data → Option Stray

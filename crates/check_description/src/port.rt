@@ -17,7 +17,15 @@ pub struct Contents {
     pub unknown: bool,
 }
 
-/// A slave port. Without sizes of its own it has those of its kind; without an order, that of the command line stands.
+/// When the requests of a port take effect, as they are judged at the masters' links and at its own, if it says so.
+#[derive(Debug, Clone, Copy, PartialEq, Eq)]
+pub struct PortOrders {
+    pub masters: Option<Order>,
+    pub ports: Option<Order>,
+}
+
+/// A slave port. Without sizes of its own it has those of its kind; without an order on a side, that of the command line
+/// stands.
 #[derive(Debug, Drop)]
 pub struct Port {
     pub name: Option<String>,
@@ -25,8 +33,10 @@ pub struct Port {
     pub ranges: Vec<Range>,
     pub contents: Contents,
     pub sizes: Option<Sizes>,
-    pub order: Option<Order>,
+    pub orders: PortOrders,
     pub bus: Bus,
+    /// Whether its ranges are one memory: byte k of each is byte k of the first.
+    pub mirror: bool,
     /// The addresses of the bytes that change by themselves.
     pub volatile: Vec<Range>,
     ghost lawful: { AreRangesOfPort ranges.items },

@@ -8,7 +8,8 @@ ghost use Rattle.check_description.specs.Port.{port_of, port_tables, port_view, 
 
 use crate::contents::contents_at;
 use crate::kind::kind_at;
-use crate::order::order_at;
+use crate::mirror::mirror_at;
+use crate::order::orders_at;
 use crate::port::Port;
 use crate::ranges::{first_length, ranges_at};
 use crate::sizes::sizes_at;
@@ -29,8 +30,9 @@ pub fn read_port(alloc: Global, bus: Bus, table: &Table) -> Result<Port, SystemF
     let ranges = ranges_at(alloc, table)?;
     let contents = contents_at(alloc, first_length(&ranges), table)?;
     let sizes = sizes_at(table)?;
-    let order = order_at(table)?;
+    let orders = orders_at(table)?;
     let bus = bus_in_table(table, bus)?;
+    let mirror = mirror_at(&ranges, table)?;
     let volatile = volatile_at(alloc, &ranges, table)?;
     Ok(Port {
         name,
@@ -38,8 +40,9 @@ pub fn read_port(alloc: Global, bus: Bus, table: &Table) -> Result<Port, SystemF
         ranges,
         contents,
         sizes,
-        order,
+        orders,
         bus,
+        mirror,
         volatile,
     })
 }

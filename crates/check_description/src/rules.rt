@@ -5,7 +5,7 @@ ghost use Rattle.check_keys.specs.Reading.{Gives};
 ghost use Rattle.check_description.specs.Rules.{by_address_in, by_address_of, rules_in};
 
 use check_beats::LinkRules;
-use check_keys::{Key, SystemFault, flag_at, text_if_any};
+use check_keys::{Key, LAST_INTEGER, SystemFault, flag_at, number_if_any, text_if_any};
 use toml::Table;
 
 /// Whether decoders look at the address alone, by the word for what they look at.
@@ -42,8 +42,10 @@ pub fn read_rules(table: &Table) -> Result<LinkRules, SystemFault>
 {
     let unaligned = flag_at(table, Key::Unaligned)?;
     let by_address = by_address_in(table)?;
+    let period = number_if_any(table, Key::Period, 1, LAST_INTEGER)?.unwrap_or(1);
     Ok(LinkRules {
         unaligned,
         by_address,
+        period,
     })
 }

@@ -6,6 +6,7 @@ ghost use Rattle.check_description.specs.Ranges.{first_length as length_of_first
 ghost use Rattle.check_description.specs.Slave.{blank_memory, error_slave as slave_of_error, kept_at_reset, memory_at_reset, sizes_of_port, slave_at_reset};
 
 use crate::kind::PortKind;
+use crate::mirror::{mirrors_kept, ranges_kept};
 use crate::port::Port;
 use crate::ranges::{first_base, first_length};
 use check_flight::{Order, PortSlave};
@@ -31,11 +32,12 @@ fn sizes_of(kind: Kind, port: &Port) -> Sizes
 fn blank_of(alloc: Global, kind: Kind, port: &Port) -> Result<PartialMemory, AllocError>
     ensures { IfOk result (λ memory. memory ≡ blank_memory kind (port_view port.now)) }
 {
-    let ranges = Vec::from_slice(alloc, &port.ranges)?;
+    let ranges = ranges_kept(alloc, port.mirror, &port.ranges)?;
+    let mirrors = mirrors_kept(alloc, port.mirror, &port.ranges)?;
     let volatile = Vec::from_slice(alloc, &port.volatile)?;
     let sizes = sizes_of(kind, port);
     let known = !port.contents.unknown;
-    Ok(PartialMemory::new(alloc, kind, sizes, ranges, volatile, known))
+    Ok(PartialMemory::new(alloc, kind, sizes, ranges, mirrors, volatile, known))
 }
 
 /// The memory of a port before any request, with these bytes of its image.
@@ -74,7 +76,7 @@ fn may_answer_unknown(port: &Port) -> bool
 }
 
 /// The slave that the port of this number is before any request, or that its image is longer than its first range. The
-/// bytes of the image are handed in, none if it names no image, and the order for a port that says none.
+/// bytes of the image are handed in, none if it names no image, and the order in which its requests take effect.
 pub fn slave_of(
     alloc: Global,
     number: usize,
@@ -89,7 +91,6 @@ pub fn slave_of(
         return Err(SystemFault::ImageTooLong(number));
     }
     let kept = kept_of(alloc, port, image)?;
-    let order = port.order.unwrap_or(order);
     Ok(PortSlave::new(alloc, kept, order, may_answer_unknown(port)))
 }
 
@@ -98,7 +99,7 @@ pub fn error_slave(alloc: Global, order: Order) -> PortSlave
     ensures { result ≡ slave_of_error order }
 {
     let sizes = Sizes::of(Kind::NoDevice);
-    let (nowhere, nothing) = (Vec::new(alloc), Vec::new(alloc));
-    let memory = PartialMemory::new(alloc, Kind::NoDevice, sizes, nowhere, nothing, true);
+    let (nowhere, alone, nothing) = (Vec::new(alloc), Vec::new(alloc), Vec::new(alloc));
+    let memory = PartialMemory::new(alloc, Kind::NoDevice, sizes, nowhere, alone, nothing, true);
     PortSlave::new(alloc, Slave::Memory(memory), order, false)
 }

@@ -32,7 +32,7 @@ fn stray_at<'a>(table: &'a Table, name: &str, kind: TableKind) -> Option<Stray<'
     stray_in(inner, kind)
 }
 
-/// That of a port's or of a master's table, its `sizes` and its `wires`.
+/// That of a port's or of a master's table, its `sizes`, its `order` and its `wires`.
 #[tactic(auto, unfolding(crate::specs::Unknown::stray_in_link))]
 fn stray_in_link(table: &Table, kind: TableKind) -> Option<Stray<'_>>
     ensures { option_map (λ stray. stray_of stray.kind stray.key.now) result
@@ -42,6 +42,9 @@ fn stray_in_link(table: &Table, kind: TableKind) -> Option<Stray<'_>>
         return Some(stray);
     }
     if let Some(stray) = stray_at(table, "sizes", TableKind::Sizes) {
+        return Some(stray);
+    }
+    if let Some(stray) = stray_at(table, "order", TableKind::Orders) {
         return Some(stray);
     }
     stray_at(table, "wires", TableKind::Wires)

@@ -6,7 +6,7 @@ use Rattle.std.specs.Str.{bytes_eq}
 use Rattle.toml.specs.Data.{Members, no_members, member}
 use Rattle.check_keys.specs.Nearest.{nearest}
 use Rattle.check_keys.specs.declared.known.TableKind.{TableKind}
-use Rattle.check_keys.specs.declared.known.TableKind.TheVariants.{Top, Names, Port, Master, Sizes, Wires}
+use Rattle.check_keys.specs.declared.known.TableKind.TheVariants.{Top, Names, Port, Master, Sizes, Orders, Wires}
 
 -- the name is one of these
 abbrev pub is_among : List (List ℕ) → List ℕ → Bool
@@ -23,19 +23,22 @@ wire_keys =
 -- the keys that a table of this kind may have. `slots` and `ops` are a script's, and mean nothing to a judge
 abbrev pub known_keys : TableKind → List (List ℕ)
 known_keys Top =
-    codes "bus" ∷ codes "unaligned" ∷ codes "decode" ∷ codes "port" ∷ codes "master" ∷ codes "clock" ∷
+    codes "bus" ∷ codes "unaligned" ∷ codes "decode" ∷ codes "period" ∷ codes "port" ∷ codes "master" ∷ codes "clock" ∷
     codes "reset" ∷ codes "reset_active" ∷ codes "edge" ∷ codes "bits" ∷ codes "names" ∷ codes "slots" ∷ codes "extra" ∷ []
 known_keys Names = wire_keys
 known_keys Port =
     codes "name" ∷ codes "kind" ∷ codes "base" ∷ codes "length" ∷ codes "ranges" ∷ codes "reset" ∷
-    codes "image" ∷ codes "unknown" ∷ codes "sizes" ∷ codes "order" ∷ codes "bus" ∷ codes "volatile" ∷
-    codes "signals" ∷ codes "wires" ∷ codes "bits" ∷ codes "extra" ∷ []
+    codes "image" ∷ codes "unknown" ∷ codes "sizes" ∷ codes "order" ∷ codes "bus" ∷ codes "mirror" ∷
+    codes "volatile" ∷ codes "signals" ∷ codes "wires" ∷ codes "bits" ∷ codes "clock" ∷ codes "link_reset" ∷
+    codes "reset_active" ∷ codes "edge" ∷ codes "extra" ∷ []
 known_keys Master =
     codes "name" ∷ codes "sources" ∷ codes "first" ∷ codes "stride" ∷ codes "bus" ∷ codes "reach" ∷ codes "signals" ∷
-    codes "wires" ∷ codes "bits" ∷ codes "ops" ∷ codes "extra" ∷ []
+    codes "wires" ∷ codes "bits" ∷ codes "clock" ∷ codes "link_reset" ∷ codes "reset_active" ∷ codes "edge" ∷
+    codes "ops" ∷ codes "extra" ∷ []
 known_keys Sizes =
     codes "get" ∷ codes "putfull" ∷ codes "putpart" ∷ codes "arithmetic" ∷ codes "logical" ∷ codes "intent" ∷
     codes "extra" ∷ []
+known_keys Orders = codes "masters" ∷ codes "ports" ∷ codes "extra" ∷ []
 known_keys Wires = wire_keys
 
 -- the first key of a table that one of this kind may not have; keys stand in the order of bytes

@@ -19,6 +19,8 @@ pub enum TableKind {
     Master,
     /// What a port's `sizes` has.
     Sizes,
+    /// What a port's `order` has, if it is a table.
+    Orders,
     /// What a link's `wires` has.
     Wires,
 }
@@ -102,6 +104,7 @@ impl TableKind {
                 b"bus",
                 b"unaligned",
                 b"decode",
+                b"period",
                 b"port",
                 b"master",
                 b"clock",
@@ -125,15 +128,33 @@ impl TableKind {
                 b"sizes",
                 b"order",
                 b"bus",
+                b"mirror",
                 b"volatile",
                 b"signals",
                 b"wires",
                 b"bits",
+                b"clock",
+                b"link_reset",
+                b"reset_active",
+                b"edge",
                 b"extra",
             ],
             TableKind::Master => &[
-                b"name", b"sources", b"first", b"stride", b"bus", b"reach", b"signals", b"wires",
-                b"bits", b"ops", b"extra",
+                b"name",
+                b"sources",
+                b"first",
+                b"stride",
+                b"bus",
+                b"reach",
+                b"signals",
+                b"wires",
+                b"bits",
+                b"clock",
+                b"link_reset",
+                b"reset_active",
+                b"edge",
+                b"ops",
+                b"extra",
             ],
             TableKind::Sizes => &[
                 b"get",
@@ -144,6 +165,7 @@ impl TableKind {
                 b"intent",
                 b"extra",
             ],
+            TableKind::Orders => &[b"masters", b"ports", b"extra"],
             TableKind::Names | TableKind::Wires => wire_keys(),
         }
     }

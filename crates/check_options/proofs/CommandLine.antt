@@ -1,10 +1,10 @@
 -- The command line, whose two lists of words may lie anywhere: what holds of it wherever they lie.
-use Rattle.std.proofs.Common.{◌≡◌, codes, true, ℕ, List, [], ◌∷◌, refl, sym, subst, ap, map}
+use Rattle.std.proofs.Common.{◌≡◌, true, ℕ, zero, suc, List, [], ◌∷◌, refl, sym, subst, ap, ap₂, map}
 use Rattle.std.specs.Borrow.{Bor}
 use Rattle.clap.specs.Words.{App, Text, fault_of, is_simple, is_simple_and_free}
 use Rattle.clap.specs.declared.error.ErrorKind.{ErrorKind}
 use Rattle.tl_cli.specs.Rules.{Refuses}
-use Rattle.check_options.specs.Options.{AreRefusedAs, AskFor, AskedOptions, Asks, IsCommandLine, WordSlice, asked_in, texts_of, with_rules}
+use Rattle.check_options.specs.Options.{AreRefusedAs, AskFor, AskedOptions, Asks, IsCommandLine, WordSlice, asked_in, links_words, order_words, texts_of, with_rules}
 
 -- a word that lies at a place
 abbrev pub at : ℕ × ℕ → Text → Bor Text
@@ -13,89 +13,72 @@ at place word = record { ref_ptr = place; now = word }
 abbrev pub list_at : ℕ × ℕ → List (Bor Text) → WordSlice
 list_at place words = record { ref_ptr = place; now = words }
 
-moved : (word : Bor Text) (text : Text) → word.now ≡ text → word ≡ at word.ref_ptr text
-moved word text e = ap (at word.ref_ptr) e
+-- words that lie at the places that a function gives them
+abbrev pub words_at : (ℕ → ℕ × ℕ) → List Text → List (Bor Text)
+words_at places [] = []
+words_at places (word ∷ words) = at (places 0) word ∷ words_at (λ n. places (suc n)) words
 
 -- the lists of the program, at any places
-abbrev pub links_at : ℕ × ℕ → ℕ × ℕ → ℕ × ℕ → ℕ × ℕ → ℕ × ℕ → WordSlice
-links_at place a b c f =
-    list_at place (at a (codes "both") ∷ at b (codes "masters") ∷ at c (codes "ports") ∷ at f (codes "each") ∷ [])
+abbrev pub links_at : ℕ × ℕ → (ℕ → ℕ × ℕ) → WordSlice
+links_at place places = list_at place (words_at places links_words)
 
-abbrev pub orders_at : ℕ × ℕ → ℕ × ℕ → ℕ × ℕ → ℕ × ℕ → WordSlice
-orders_at place a b c = list_at place (at a (codes "accept") ∷ at b (codes "reply") ∷ at c (codes "any") ∷ [])
+abbrev pub orders_at : ℕ × ℕ → (ℕ → ℕ × ℕ) → WordSlice
+orders_at place places = list_at place (words_at places order_words)
 
--- a list of four words is one at its places, and so is a list of three
-of_four : (P : WordSlice → Type 0) (s t u v : Text)
-    → ((place a b c f : ℕ × ℕ) → P (list_at place (at a s ∷ at b t ∷ at c u ∷ at f v ∷ [])))
-    → (names : WordSlice) → texts_of names ≡ s ∷ t ∷ u ∷ v ∷ [] → P names
-of_four P s t u v holds names listed = go names.now listed
-  where
-    go : (words : List (Bor Text)) → map (λ (word : Bor Text). word.now) words ≡ s ∷ t ∷ u ∷ v ∷ []
-        → P (list_at names.ref_ptr words)
-    go [] e = cc
-    go (a ∷ []) e = cc
-    go (a ∷ b ∷ []) e = cc
-    go (a ∷ b ∷ c ∷ []) e = cc
-    go (a ∷ b ∷ c ∷ f ∷ []) e =
-        let first : a ≡ at a.ref_ptr s = moved a s cc in
-        let second : b ≡ at b.ref_ptr t = moved b t cc in
-        let third : c ≡ at c.ref_ptr u = moved c u cc in
-        let fourth : f ≡ at f.ref_ptr v = moved f v cc in
-        let all : at a.ref_ptr s ∷ at b.ref_ptr t ∷ at c.ref_ptr u ∷ at f.ref_ptr v ∷ [] ≡ a ∷ b ∷ c ∷ f ∷ [] = cc in
-        subst (λ (words : List (Bor Text)). P (list_at names.ref_ptr words)) all
-        (holds names.ref_ptr a.ref_ptr b.ref_ptr c.ref_ptr f.ref_ptr)
-    go (a ∷ b ∷ c ∷ f ∷ g ∷ words) e = cc
+-- where each of some words lies
+abbrev places_of : List (Bor Text) → ℕ → ℕ × ℕ
+places_of [] n = (0, 0)
+places_of (word ∷ words) zero = word.ref_ptr
+places_of (word ∷ words) (suc n) = places_of words n
 
-of_three : (P : WordSlice → Type 0) (s t u : Text)
-    → ((place a b c : ℕ × ℕ) → P (list_at place (at a s ∷ at b t ∷ at c u ∷ [])))
-    → (names : WordSlice) → texts_of names ≡ s ∷ t ∷ u ∷ [] → P names
-of_three P s t u holds names listed = go names.now listed
-  where
-    go : (words : List (Bor Text)) → map (λ (word : Bor Text). word.now) words ≡ s ∷ t ∷ u ∷ []
-        → P (list_at names.ref_ptr words)
-    go [] e = cc
-    go (a ∷ []) e = cc
-    go (a ∷ b ∷ []) e = cc
-    go (a ∷ b ∷ c ∷ []) e =
-        let first : a ≡ at a.ref_ptr s = moved a s cc in
-        let second : b ≡ at b.ref_ptr t = moved b t cc in
-        let third : c ≡ at c.ref_ptr u = moved c u cc in
-        let all : at a.ref_ptr s ∷ at b.ref_ptr t ∷ at c.ref_ptr u ∷ [] ≡ a ∷ b ∷ c ∷ [] = cc in
-        subst (λ (words : List (Bor Text)). P (list_at names.ref_ptr words)) all
-        (holds names.ref_ptr a.ref_ptr b.ref_ptr c.ref_ptr)
-    go (a ∷ b ∷ c ∷ d ∷ words) e = cc
+-- words are those that lie where they do
+lie_there : (words : List (Bor Text)) (texts : List Text) → map (λ (word : Bor Text). word.now) words ≡ texts
+    → words_at (places_of words) texts ≡ words
+lie_there [] [] e = refl
+lie_there [] (text ∷ texts) e = cc
+lie_there (word ∷ words) [] e = cc
+lie_there (word ∷ words) (text ∷ texts) e =
+    let here : word.now ≡ text = cc in
+    let first : at word.ref_ptr text ≡ word = ap (at word.ref_ptr) (sym here) in
+    let rest : words_at (places_of words) texts ≡ words = lie_there words texts cc in
+    ap₂ (λ (w : Bor Text) (ws : List (Bor Text)). w ∷ ws) first rest
+
+list_lies : (names : WordSlice) (texts : List Text) → texts_of names ≡ texts
+    → list_at names.ref_ptr (words_at (places_of names.now) texts) ≡ names
+list_lies names texts listed = ap (list_at names.ref_ptr) (lie_there names.now texts listed)
 
 -- what holds at all places holds of the command line
 pub wherever : (P : App → Type 0)
-    → ((l a b c f o d e g : ℕ × ℕ) → P (with_rules (links_at l a b c f) (orders_at o d e g)))
+    → ((l : ℕ × ℕ) (f : ℕ → ℕ × ℕ) (o : ℕ × ℕ) (g : ℕ → ℕ × ℕ) → P (with_rules (links_at l f) (orders_at o g)))
     → (app : App) → IsCommandLine app → P app
 wherever P holds app line =
     subst P (sym line.is)
-    (of_four (λ (links : WordSlice). P (with_rules links line.orders)) _ _ _ _
-    (λ l a b c f. of_three (λ (orders : WordSlice). P (with_rules (links_at l a b c f) orders)) _ _ _
-    (holds l a b c f) line.orders line.orders_listed)
-    line.links line.links_listed)
+    (subst (λ (links : WordSlice). P (with_rules links line.orders))
+    (list_lies line.links links_words line.links_listed)
+    (subst (λ (orders : WordSlice). P (with_rules (links_at line.links.ref_ptr (places_of line.links.now)) orders))
+    (list_lies line.orders order_words line.orders_listed)
+    (holds line.links.ref_ptr (places_of line.links.now) line.orders.ref_ptr (places_of line.orders.now))))
 
 -- what words ask for, and what they are refused as, if clap's rules say so at all places; both are computed
 pub asks : (asked : AskedOptions) (words : List Text)
-    → ((l a b c f o d e g : ℕ × ℕ) → fault_of (with_rules (links_at l a b c f) (orders_at o d e g)) words ≡ [])
-    → ((l a b c f o d e g : ℕ × ℕ) → asked_in (with_rules (links_at l a b c f) (orders_at o d e g)) words ≡ asked)
+    → ((l : ℕ × ℕ) (f : ℕ → ℕ × ℕ) (o : ℕ × ℕ) (g : ℕ → ℕ × ℕ) → fault_of (with_rules (links_at l f) (orders_at o g)) words ≡ [])
+    → ((l : ℕ × ℕ) (f : ℕ → ℕ × ℕ) (o : ℕ × ℕ) (g : ℕ → ℕ × ℕ) → asked_in (with_rules (links_at l f) (orders_at o g)) words ≡ asked)
     → AskFor asked words
 asks asked words taken read =
-    wherever (Asks asked words) (λ l a b c f o d e g. (taken l a b c f o d e g, read l a b c f o d e g))
+    wherever (Asks asked words) (λ l f o g. (taken l f o g, read l f o g))
 
 pub refuses : (kind : ErrorKind) (words : List Text)
-    → ((l a b c f o d e g : ℕ × ℕ) → fault_of (with_rules (links_at l a b c f) (orders_at o d e g)) words ≡ kind ∷ [])
+    → ((l : ℕ × ℕ) (f : ℕ → ℕ × ℕ) (o : ℕ × ℕ) (g : ℕ → ℕ × ℕ) → fault_of (with_rules (links_at l f) (orders_at o g)) words ≡ kind ∷ [])
     → AreRefusedAs kind words
 refuses kind words is = wherever (Refuses kind words) is
 
 -- it is one whose matches and faults clap tells
 pub is_simple_line : (app : App) → IsCommandLine app → is_simple app ≡ true
-is_simple_line = wherever (λ (app : App). is_simple app ≡ true) (λ l a b c f o d e g. refl)
+is_simple_line = wherever (λ (app : App). is_simple app ≡ true) (λ l f o g. refl)
 
 pub is_free_line : (app : App) → IsCommandLine app → is_simple_and_free app ≡ true
-is_free_line = wherever (λ (app : App). is_simple_and_free app ≡ true) (λ l a b c f o d e g. refl)
+is_free_line = wherever (λ (app : App). is_simple_and_free app ≡ true) (λ l f o g. refl)
 
 -- there is one
-pub some_line : IsCommandLine (with_rules (links_at (0, 0) (0, 0) (0, 0) (0, 0) (0, 0)) (orders_at (0, 0) (0, 0) (0, 0) (0, 0)))
+pub some_line : IsCommandLine (with_rules (links_at (0, 0) (λ n. (0, 0))) (orders_at (0, 0) (λ n. (0, 0))))
 some_line = record { links = _; orders = _; links_listed = refl; orders_listed = refl; is = refl }

@@ -11,7 +11,8 @@ use Rattle.clap.specs.declared.error.ErrorKind.{ErrorKind}
 use Rattle.tl_cli.specs.Rules.{Refuses, file_of, flag_of, flag_rule, program_of, system_rule, value_of, valued_rule}
 use Rattle.check_watch.specs.declared.links.Links.{Links}
 use Rattle.check_watch.specs.declared.links.Links.TheVariants.{Both, Masters, Ports, Each}
-use Rattle.check_flight.specs.declared.order.Order.{Order}
+use Rattle.check_flight.specs.declared.order.SideOrders.{SideOrders}
+use Rattle.check_flight.specs.Order.{on_both}
 use Rattle.check_flight.specs.declared.order.Order.TheVariants.{Accept, Reply, Any}
 use Rattle.check_options.specs.declared.options.CheckOptions.{CheckOptions}
 
@@ -24,12 +25,27 @@ WordSlice = Bor (List (Bor Text))
 abbrev pub texts_of : WordSlice → List Text
 texts_of names = map (λ name. name.now) names.now
 
--- the words of `--links`, and those of `--order`
+-- the words of `--links`
 abbrev pub links_words : List Text
 links_words = codes "both" ∷ codes "masters" ∷ codes "ports" ∷ codes "each" ∷ []
 
+-- the words of `--order`, with the orders that they name: one that stands on both sides; or that of the masters' links, and
+-- behind a slash that of the ports'
+abbrev pub order_table : List (Text × SideOrders)
+order_table =
+    (codes "accept", on_both Accept) ∷ (codes "reply", on_both Reply) ∷ (codes "any", on_both Any)
+    ∷ (codes "accept/accept", on_both Accept)
+    ∷ (codes "accept/reply", record { masters = Accept; ports = Reply })
+    ∷ (codes "accept/any", record { masters = Accept; ports = Any })
+    ∷ (codes "reply/accept", record { masters = Reply; ports = Accept })
+    ∷ (codes "reply/reply", on_both Reply)
+    ∷ (codes "reply/any", record { masters = Reply; ports = Any })
+    ∷ (codes "any/accept", record { masters = Any; ports = Accept })
+    ∷ (codes "any/reply", record { masters = Any; ports = Reply })
+    ∷ (codes "any/any", on_both Any) ∷ []
+
 abbrev pub order_words : List Text
-order_words = codes "accept" ∷ codes "reply" ∷ codes "any" ∷ []
+order_words = map (λ (row : Text × SideOrders). row.0) order_table
 
 -- `--links`, one of its words, and `both` if it is not given
 abbrev pub links_rule : WordSlice → Rule
@@ -105,7 +121,7 @@ pub record IsCommandLine (app : App) : Type 0 where
 -- the options, without where their texts lie
 pub record AskedOptions : Type 0 where
   pub links : Links
-  pub order : Order
+  pub orders : SideOrders
   pub trace : Bool
   pub complete : Bool
   pub quiet : Bool
@@ -116,7 +132,7 @@ pub record AskedOptions : Type 0 where
 abbrev pub options_asked : CheckOptions → AskedOptions
 options_asked options = record {
   links = options.links;
-  order = options.order;
+  orders = options.orders;
   trace = options.trace;
   complete = options.complete;
   quiet = options.quiet;
@@ -125,21 +141,24 @@ options_asked options = record {
   capture = option_map (λ name. name.now) options.capture;
 }
 
--- the links that a word names, and the order
+-- the links that a word names, and the orders
 abbrev pub links_of : Text → Links
 links_of word =
     if bytes_eq word (codes "masters") then Masters
     else (if bytes_eq word (codes "ports") then Ports else (if bytes_eq word (codes "each") then Each else Both))
 
-abbrev pub order_of : Text → Order
-order_of word =
-    if bytes_eq word (codes "reply") then Reply else (if bytes_eq word (codes "any") then Any else Accept)
+abbrev pub orders_among : List (Text × SideOrders) → Text → SideOrders
+orders_among [] word = on_both Accept
+orders_among (row ∷ rows) word = if bytes_eq word row.0 then row.1 else orders_among rows word
+
+abbrev pub orders_of : Text → SideOrders
+orders_of word = orders_among order_table word
 
 -- the options that matches ask for, and those that words ask for
 abbrev pub asked_from : List Row → AskedOptions
 asked_from rows = record {
   links = links_of (value_of rows (codes "links"));
-  order = order_of (value_of rows (codes "order"));
+  orders = orders_of (value_of rows (codes "order"));
   trace = flag_of (value_of rows (codes "trace"));
   complete = flag_of (value_of rows (codes "complete"));
   quiet = flag_of (value_of rows (codes "quiet"));
@@ -167,7 +186,7 @@ Asks asked words app = (fault_of app words ≡ []) × (asked_in app words ≡ as
 abbrev pub plain : AskedOptions
 plain = record {
   links = Both;
-  order = Accept;
+  orders = on_both Accept;
   trace = false;
   complete = false;
   quiet = false;

@@ -3,6 +3,7 @@
 ghost use Rattle.std.specs.Prelude.{[], ◌∷◌, codes, true, false, Some, None};
 ghost use Rattle.clap.specs.declared.error.ErrorKind.TheVariants.{ArgumentConflict, DisplayHelp, DisplayVersion, InvalidValue, MissingRequiredArgument, TooManyValues, UnknownArgument};
 ghost use Rattle.check_watch.specs.declared.links.Links.TheVariants.{Both, Masters, Ports, Each};
+ghost use Rattle.check_flight.specs.Order.{on_both};
 ghost use Rattle.check_flight.specs.declared.order.Order.TheVariants.{Accept, Reply, Any};
 ghost use Rattle.check_options.specs.Options.{AskFor, AreRefusedAs, plain};
 
@@ -27,18 +28,28 @@ pub fn lines_ask_for_defaults()
 pub fn lines_ask_for_links()
     ensures masters { AskFor (record plain { links = Masters })
         (codes "tlcheck" ∷ codes "--links" ∷ codes "masters" ∷ codes "s.toml" ∷ []) }
-    ensures ports { AskFor (record plain { links = Ports; order = Reply; capture = Some (codes "c.csv") })
+    ensures ports { AskFor (record plain { links = Ports; orders = on_both Reply; capture = Some (codes "c.csv") })
         (codes "tlcheck" ∷ codes "--links=ports" ∷ codes "s.toml" ∷ codes "c.csv"
         ∷ codes "--order" ∷ codes "reply" ∷ []) }
 {}
 
 /// A line with `--links=each` and `--order`, and one with the third order.
 pub fn lines_ask_for_each()
-    ensures each { AskFor (record plain { links = Each; order = Reply; capture = Some (codes "c.csv") })
+    ensures each { AskFor (record plain { links = Each; orders = on_both Reply; capture = Some (codes "c.csv") })
         (codes "tlcheck" ∷ codes "--links=each" ∷ codes "s.toml" ∷ codes "c.csv"
         ∷ codes "--order" ∷ codes "reply" ∷ []) }
-    ensures any { AskFor (record plain { links = Masters; order = Any })
+    ensures any { AskFor (record plain { links = Masters; orders = on_both Any })
         (codes "tlcheck" ∷ codes "--links=masters" ∷ codes "--order=any" ∷ codes "s.toml" ∷ []) }
+{}
+
+/// The lines with two orders.
+pub fn lines_ask_for_orders()
+    ensures sides { AskFor (record plain { links = Each; orders = record { masters = Any; ports = Accept } })
+        (codes "tlcheck" ∷ codes "--links=each" ∷ codes "--order=any/accept" ∷ codes "s.toml" ∷ []) }
+    ensures ports { AskFor (record plain { orders = record { masters = Accept; ports = Reply } })
+        (codes "tlcheck" ∷ codes "--order" ∷ codes "accept/reply" ∷ codes "s.toml" ∷ []) }
+    ensures both { AskFor (record plain { orders = on_both Any })
+        (codes "tlcheck" ∷ codes "--order=any/any" ∷ codes "s.toml" ∷ []) }
 {}
 
 /// The lines with `--trace`, before SYSTEM and after CAPTURE.
@@ -83,6 +94,8 @@ pub fn lines_are_refused()
         (codes "tlcheck" ∷ codes "--links" ∷ codes "all" ∷ codes "s.toml" ∷ []) }
     ensures order { AreRefusedAs InvalidValue
         (codes "tlcheck" ∷ codes "--order=" ∷ codes "s.toml" ∷ []) }
+    ensures side { AreRefusedAs InvalidValue
+        (codes "tlcheck" ∷ codes "--order=accept/" ∷ codes "s.toml" ∷ []) }
     ensures stray { AreRefusedAs UnknownArgument
         (codes "tlcheck" ∷ codes "s.toml" ∷ codes "c.csv" ∷ codes "d.csv" ∷ []) }
     ensures trace { AreRefusedAs TooManyValues

@@ -1,9 +1,9 @@
-//! The command line: `tlcheck [--links both|masters|ports|each] [--order accept|reply|any] [--trace] [--complete] [--quiet] [--coverage FILE] SYSTEM [CAPTURE]`.
+//! The command line: `tlcheck [--links both|masters|ports|each] [--order ORDER] [--trace] [--complete] [--quiet] [--coverage FILE] SYSTEM [CAPTURE]`.
 ghost use Rattle.std.specs.Prelude.{◌≡◌, IfOk, map, false};
 ghost use Rattle.clap.specs.Words.{app_of, rule_of};
-ghost use Rattle.check_options.specs.Options.{AnswersCommandLine, IsCommandLine, IsLinksRule, IsOrderRule, capture_rule, coverage_rule, links_of, order_of, with_files, with_flags};
+ghost use Rattle.check_options.specs.Options.{AnswersCommandLine, IsCommandLine, IsLinksRule, IsOrderRule, capture_rule, coverage_rule, links_of, orders_of, with_files, with_flags};
 
-use check_flight::Order;
+use check_flight::{Order, SideOrders};
 use check_sides::Links;
 use clap::builder::ValueParser;
 use clap::{Arg, Command, Error};
@@ -24,6 +24,10 @@ SYSTEM describes the ports and masters. CAPTURE is a dump (VCD), or has a row fo
 Status: 0 lawful, 1 a fault of the system or the capture, 2 of the command line, 3 unlawful, incomplete or empty,
 4 memory refused, 5 a file could not be opened, read or written.";
 
+/// What help says of `--order`.
+const ORDER_HELP: &str =
+    "When a request takes effect at its port; of two orders the first is the masters' side's";
+
 /// What help says of each flag.
 const TRACE_HELP: &str = "Print a line for each request that was answered";
 
@@ -36,8 +40,8 @@ const QUIET_HELP: &str = "Show no progress; it is shown only on a terminal";
 pub struct CheckOptions<'a> {
     /// The links that were watched.
     pub links: Links,
-    /// When a request takes effect at its port.
-    pub order: Order,
+    /// When a request takes effect at its port, as each side judges it.
+    pub orders: SideOrders,
     /// Whether a line is printed for each request that was answered.
     pub trace: bool,
     /// Whether a capture at whose end requests are left is not lawful but incomplete.
@@ -66,7 +70,7 @@ pub fn read_check_options<'a, S: AsStr>(
     let matches = command(alloc)?.try_get_matches_from(words)?;
     Ok(CheckOptions {
         links: read_links(value(&matches, "links")),
-        order: read_order(value(&matches, "order")),
+        orders: read_orders(value(&matches, "order")),
         trace: read_flag(value(&matches, "trace")),
         complete: read_flag(value(&matches, "complete")),
         quiet: read_flag(value(&matches, "quiet")),
@@ -88,14 +92,27 @@ fn read_links(word: &str) -> Links
     }
 }
 
-/// The order that a word of `--order` names.
-fn read_order(word: &str) -> Order
-    ensures { result ≡ order_of word.now }
+/// An order of the masters' side, and one of the ports'.
+fn sides(masters: Order, ports: Order) -> SideOrders
+    ensures { result ≡ record { masters = masters; ports = ports } }
+{
+    SideOrders { masters, ports }
+}
+
+/// The orders that a word of `--order` names.
+fn read_orders(word: &str) -> SideOrders
+    ensures { result ≡ orders_of word.now }
 {
     match word {
-        "reply" => Order::Reply,
-        "any" => Order::Any,
-        _ => Order::Accept,
+        "reply" | "reply/reply" => SideOrders::both(Order::Reply),
+        "any" | "any/any" => SideOrders::both(Order::Any),
+        "accept/reply" => sides(Order::Accept, Order::Reply),
+        "accept/any" => sides(Order::Accept, Order::Any),
+        "reply/accept" => sides(Order::Reply, Order::Accept),
+        "reply/any" => sides(Order::Reply, Order::Any),
+        "any/accept" => sides(Order::Any, Order::Accept),
+        "any/reply" => sides(Order::Any, Order::Reply),
+        _ => SideOrders::both(Order::Accept),
     }
 }
 
@@ -116,16 +133,24 @@ fn order_option<'a>(alloc: Global) -> Arg<'a>
     ensures rule { IsOrderRule (rule_of result) }
     ensures local { result.global ≡ false }
 {
-    let words: &'a [&'a str] = &["accept", "reply", "any"];
-    valued(
-        alloc,
-        "order",
-        "ORDER",
-        "When a request takes effect at its port",
-    )
-    .long("order")
-    .value_parser(ValueParser::Names(words))
-    .default_value("accept")
+    let words: &'a [&'a str] = &[
+        "accept",
+        "reply",
+        "any",
+        "accept/accept",
+        "accept/reply",
+        "accept/any",
+        "reply/accept",
+        "reply/reply",
+        "reply/any",
+        "any/accept",
+        "any/reply",
+        "any/any",
+    ];
+    valued(alloc, "order", "ORDER", ORDER_HELP)
+        .long("order")
+        .value_parser(ValueParser::Names(words))
+        .default_value("accept")
 }
 
 /// `--coverage`.

@@ -7,7 +7,7 @@ use Rattle.check_review.specs.View.{Judges, is_asked, is_covered, is_traced}
 use Rattle.check_review.specs.declared.judge.Judge.{Judge}
 use Rattle.check_review.specs.declared.tally.Tally.{Tally}
 use Rattle.check_rows.specs.Row.{SeenRow}
-use Rattle.check_records.specs.Text.{TextPlace, start_of}
+use Rattle.check_records.specs.Text.{TextPlace, text_start}
 use Rattle.check_start.specs.Start.{ByThePlan, master_buses, port_buses}
 use Rattle.check_text.specs.Buses.{LinkBuses}
 use Rattle.check_text.specs.Capture.{IsCovered, IsFault, IsVerdict, IsWritten, OfCapture, TellsCovered}
@@ -69,45 +69,45 @@ by_the_traced_plan : (asked : Asked) (given : GivenParts) (system : Description)
     (old new : Option (List ℕ)) (answer : Result Verdict CaptureFault)
     → IsJudgeOf asked given system judge buses
     → ((plan : Plan) → Judges plan [] judge → IfSome given.capture
-    (λ text. IsWritten (is_asked judge) (is_traced judge) plan buses (start_of text) old new answer))
+    (λ text. IsWritten (is_asked judge) (is_traced judge) plan buses (text_start text) old new answer))
     → IsWrittenByJudge asked given system old new answer
 by_the_traced_plan asked given system judge buses old new answer of_it tells =
     let W : Bool → Bool → Type 0 = λ a t. ByThePlan asked.terms system given.images (λ plan. IfSome given.capture
-    (λ text. IsWritten a t plan (buses_of system) (start_of text) old new answer)) in
+    (λ text. IsWritten a t plan (buses_of system) (text_start text) old new answer)) in
     let is : W (is_asked judge) (is_traced judge) =
     by_the_plan asked given system judge buses (λ b plan. IfSome given.capture
-    (λ text. IsWritten (is_asked judge) (is_traced judge) plan b (start_of text) old new answer)) of_it tells in
+    (λ text. IsWritten (is_asked judge) (is_traced judge) plan b (text_start text) old new answer)) of_it tells in
     subst (λ a. W a asked.trace) of_it.complete (subst (λ t. W (is_asked judge) t) of_it.trace is)
 
 pub has_verdict : (asked : Asked) (given : GivenParts) (system : Description) (judge : Judge) (buses : LinkBuses)
     (old told : Option (List ℕ)) (verdict : Verdict)
     → IsJudgeOf asked given system judge buses → Makes given.parts system
     → ((plan : Plan) → Judges plan [] judge → IfSome given.capture
-    (λ text. IsVerdict (is_asked judge) plan buses (start_of text) verdict))
+    (λ text. IsVerdict (is_asked judge) plan buses (text_start text) verdict))
     → ((plan : Plan) → Judges plan [] judge → IfSome given.capture
-    (λ text. IsWritten (is_asked judge) (is_traced judge) plan buses (start_of text) old told (Ok verdict)))
+    (λ text. IsWritten (is_asked judge) (is_traced judge) plan buses (text_start text) old told (Ok verdict)))
     → HasVerdict asked given old told system verdict
 has_verdict asked given system judge buses old told verdict of_it made found tells = record {
   made = made;
   is = subst (λ a. ByThePlan asked.terms system given.images
-      (λ plan. IfSome given.capture (λ text. IsVerdict a plan (buses_of system) (start_of text) verdict))) of_it.complete
+      (λ plan. IfSome given.capture (λ text. IsVerdict a plan (buses_of system) (text_start text) verdict))) of_it.complete
       (by_the_plan asked given system judge buses
-      (λ b plan. IfSome given.capture (λ text. IsVerdict (is_asked judge) plan b (start_of text) verdict)) of_it found);
+      (λ b plan. IfSome given.capture (λ text. IsVerdict (is_asked judge) plan b (text_start text) verdict)) of_it found);
   tells = by_the_traced_plan asked given system judge buses old told (Ok verdict) of_it tells;
 }
 
 pub is_stopped : (asked : Asked) (given : GivenParts) (system : Description) (judge : Judge) (buses : LinkBuses)
     (old new : Option (List ℕ)) (fault : CaptureFault)
     → IsJudgeOf asked given system judge buses → Makes given.parts system
-    → ((plan : Plan) → Judges plan [] judge → IfSome given.capture (λ text. IsFault plan buses (start_of text) fault))
+    → ((plan : Plan) → Judges plan [] judge → IfSome given.capture (λ text. IsFault plan buses (text_start text) fault))
     → ((plan : Plan) → Judges plan [] judge → IfSome given.capture
-    (λ text. IsWritten (is_asked judge) (is_traced judge) plan buses (start_of text) old new (Err fault)))
+    (λ text. IsWritten (is_asked judge) (is_traced judge) plan buses (text_start text) old new (Err fault)))
     → IsStopped asked given old new fault
 is_stopped asked given system judge buses old new fault of_it made found tells = record {
   system = system;
   made = made;
   is = by_the_plan asked given system judge buses
-      (λ b plan. IfSome given.capture (λ text. IsFault plan b (start_of text) fault)) of_it found;
+      (λ b plan. IfSome given.capture (λ text. IsFault plan b (text_start text) fault)) of_it found;
   tells = by_the_traced_plan asked given system judge buses old new (Err fault) of_it tells;
 }
 
@@ -140,7 +140,7 @@ pub is_counted : (asked : Asked) (given : GivenParts) (system : Description) (ju
     → IsJudgeOf asked given system judge buses → Makes given.parts system → IsVerdictOf asked given system verdict
     → covered ≡ is_covered judge
     → ((plan : Plan) → Judges plan [] judge → IfSome given.capture
-    (λ text. IsCovered plan buses (start_of text) tally verdict))
+    (λ text. IsCovered plan buses (text_start text) tally verdict))
     → ((plan : Plan) (crossed : List SeenRow) → HasCovered plan crossed tally
     → AppendsCoverage covered plan crossed old new)
     → IsCounted asked given old new (is_lawful asked.complete verdict)
@@ -151,10 +151,10 @@ is_counted asked given system judge buses tally covered old new verdict of_it ma
   is = is;
   answered = refl;
   covered = by_the_plan asked given system judge buses (λ b plan. IfSome given.capture
-      (λ text. TellsCovered asked.coverage plan b (start_of text) old new verdict)) of_it (λ plan start.
-      of_known given.capture (λ text. IsCovered plan buses (start_of text) tally verdict)
-      (λ text. TellsCovered asked.coverage plan buses (start_of text) old new verdict) (λ text is_covered_there.
-      of_capture plan buses (start_of text) verdict (λ crossed. HasCovered plan crossed tally)
+      (λ text. TellsCovered asked.coverage plan b (text_start text) old new verdict)) of_it (λ plan start.
+      of_known given.capture (λ text. IsCovered plan buses (text_start text) tally verdict)
+      (λ text. TellsCovered asked.coverage plan buses (text_start text) old new verdict) (λ text is_covered_there.
+      of_capture plan buses (text_start text) verdict (λ crossed. HasCovered plan crossed tally)
       (λ crossed. AppendsCoverage asked.coverage plan crossed old new)
       (λ crossed has. subst (λ a. AppendsCoverage a plan crossed old new) (same ∙ of_it.coverage)
       (appends plan crossed has)) is_covered_there) (covers plan start));

@@ -7,7 +7,7 @@ use Rattle.check_review.specs.Covered.{AppendsCoverage}
 use Rattle.check_review.specs.Order.{are_masters_watched, are_ports_watched}
 use Rattle.check_samples.specs.Left.{RowsLeft}
 use Rattle.check_sides.specs.Plan.{Plan}
-use Rattle.check_signals.specs.Names.{SignalName, SignalNames, names_of_file}
+use Rattle.check_signals.specs.Names.{LinkNames, SignalNames, names_of_file}
 use Rattle.check_signals.specs.declared.fault.KeyFault.{KeyFault}
 use Rattle.check_start.specs.Start.{ByThePlan, system_names}
 use Rattle.check_text.specs.declared.fault.Verdict.{Verdict}
@@ -29,7 +29,7 @@ use Rattle.check_program.specs.declared.fault.CheckFault.TheVariants as check
 -- ---- the signals of links
 
 -- the number of the first link without signals, if the first of these has this number
-abbrev pub first_unnamed : List (Option (List SignalName)) → ℕ → Option ℕ
+abbrev pub first_unnamed : List (Option LinkNames) → ℕ → Option ℕ
 first_unnamed [] number = None
 first_unnamed (None ∷ links) number = Some number
 first_unnamed (Some names ∷ links) number = first_unnamed links (number + 1)

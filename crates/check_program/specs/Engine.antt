@@ -11,8 +11,8 @@ use Rattle.check_sides.specs.Plan.{Plan}
 use Rattle.check_lines.specs.Names.{NamesView}
 use Rattle.check_lines.specs.Verdict.{empty_line, incomplete_line, lawful_line, unlawful_line}
 use Rattle.check_lines.specs.declared.verdict.VerdictCounts.{VerdictCounts}
-use Rattle.check_records.specs.Text.{start_of}
-use Rattle.check_start.specs.Slaves.{slaves_at_reset}
+use Rattle.check_records.specs.Text.{text_start}
+use Rattle.check_start.specs.Slaves.{shared_slaves}
 use Rattle.check_start.specs.declared.start.Terms.{Terms}
 use Rattle.check_start.specs.Start.{ByThePlan, master_buses, system_names, port_buses}
 use Rattle.check_text.specs.Buses.{LinkBuses}
@@ -48,26 +48,26 @@ OfTheText asked given system Holds =
 abbrev pub IsVerdictOf : Asked → GivenParts → Description → Verdict → Type 0
 IsVerdictOf asked given system verdict =
     OfTheText asked given system
-    (λ plan text. IsVerdict asked.complete plan (buses_of system) (start_of text) verdict)
+    (λ plan text. IsVerdict asked.complete plan (buses_of system) (text_start text) verdict)
 
 -- the fault is one of the capture
 abbrev pub IsFaultOf : Asked → GivenParts → Description → CaptureFault → Type 0
 IsFaultOf asked given system fault =
-    OfTheText asked given system (λ plan text. IsFault plan (buses_of system) (start_of text) fault)
+    OfTheText asked given system (λ plan text. IsFault plan (buses_of system) (text_start text) fault)
 
 -- what is written while the capture is judged, before this answer
 abbrev pub IsWrittenByJudge : Asked → GivenParts → Description → Option (List ℕ) → Option (List ℕ) → Result Verdict CaptureFault
     → Type 0
 IsWrittenByJudge asked given system old new answer =
     OfTheText asked given system
-    (λ plan text. IsWritten asked.complete asked.trace plan (buses_of system) (start_of text) old new answer)
+    (λ plan text. IsWritten asked.complete asked.trace plan (buses_of system) (text_start text) old new answer)
 
 -- the fault is the first of the parts that make no system, or the first image of the system that is too long
 abbrev pub IsSystemFault : Asked → GivenParts → SystemFault → Type 0
 IsSystemFault asked given fault =
     IsFirstFaultOf given.parts fault
     ⊎ (system : Description) × Makes given.parts system
-    × (slaves_at_reset asked.terms.order given.images system.ports ≡ Err fault)
+    × (shared_slaves asked.terms given.images system.ports ≡ Err fault)
 
 -- ---- a verdict as it is told
 
@@ -158,7 +158,7 @@ pub record IsCounted (asked : Asked) (given : GivenParts) (old new : List ℕ) (
   pub is : IsVerdictOf asked given system verdict
   pub answered : lawful ≡ is_lawful asked.complete verdict
   pub covered : OfTheText asked given system
-      (λ plan text. TellsCovered asked.coverage plan (buses_of system) (start_of text) old new verdict)
+      (λ plan text. TellsCovered asked.coverage plan (buses_of system) (text_start text) old new verdict)
 
 -- ---- for the proofs
 
@@ -183,7 +183,7 @@ pub record IsPrepared (asked : Asked) (parts : Parts) (images : List (List ℕ))
 abbrev pub IsUnprepared : Terms → Parts → List (List ℕ) → CheckFault → Type 0
 IsUnprepared terms parts images (check.System fault) =
     IsFirstFaultOf parts fault
-    ⊎ (system : Description) × Makes parts system × (slaves_at_reset terms.order images system.ports ≡ Err fault)
+    ⊎ (system : Description) × Makes parts system × (shared_slaves terms images system.ports ≡ Err fault)
 IsUnprepared terms parts images (check.Capture fault) = ⊥
 IsUnprepared terms parts images (check.Keys fault) = ⊥
 IsUnprepared terms parts images (check.Unnamed link) = ⊥

@@ -47,7 +47,7 @@ pub fn check_as_asked<C: Read + Drop, W: Write>(
     let asked = Asked {
         terms: Terms {
             links: options.links,
-            order: options.order,
+            orders: options.orders,
         },
         trace: options.trace,
         complete: options.complete,

@@ -26,10 +26,11 @@ use Rattle.check_scripts.specs.Instance.{ArePortsOf, IsPlainPort, IsPortOf}
 use Rattle.check_keys.specs.Name.{name_at}
 use Rattle.check_description.specs.Contents.{contents_at, image_name_at, reset_at, reset_of}
 use Rattle.check_description.specs.Kind.{kind_at, port_kind_of as new_kind_of}
-use Rattle.check_description.specs.Order.{order_at}
+use Rattle.check_description.specs.Order.{no_orders, orders_at}
 use Rattle.check_description.specs.Port.{Port, port_of}
 use Rattle.check_description.specs.Ranges.{plain_ranges, ranges_at}
 use Rattle.check_description.specs.Sizes.{sizes_at}
+use Rattle.check_description.specs.Mirror.{mirror_at}
 use Rattle.check_description.specs.Volatile.{volatile_at}
 use Rattle.check_description.specs.declared.kind.PortKind.{PortKind}
 use Rattle.check_description.specs.declared.kind.PortKind.TheVariants.{Memory, Device}
@@ -272,7 +273,7 @@ pub record ReadsPort (members : Members) (store : Store) : Type 0 where
 
 pub port_same : (members : Members) (store : Store) → IsPlainPort members → (IsEmpty (range_of store) → ⊥)
     → old_port_of members ≡ Ok store → ReadsPort members store
-unfolding old_port_of port_of name_at ranges_at plain_ranges contents_at image_name_at flag_at sizes_at order_at bus_in_table volatile_at text_if_any number_if_any
+unfolding old_port_of port_of name_at ranges_at plain_ranges contents_at image_name_at flag_at sizes_at orders_at bus_in_table mirror_at volatile_at text_if_any number_if_any
 port_same members store plain some is =
     let read = read_keys (old_kind_at members) (old_number_at OldBase 0 last_base members)
     (old_number_at OldLength 0 MAX_LENGTH members) (λ count. old_reset_at count members) store is in
@@ -301,8 +302,9 @@ port_same members store plain some is =
         ranges = record { base = store.base; length = many } ∷ [];
         contents = record { reset = given; image = None; unknown = false };
         sizes = None;
-        order = None;
+        orders = no_orders;
         bus = Eight;
+        mirror = false;
         volatile = [];
       };
       reads = rw (
@@ -317,6 +319,7 @@ port_same members store plain some is =
         plain.sizes,
         plain.order,
         plain.bus,
+        plain.mirror,
         plain.volatile,
       ) refl;
       is = record {
@@ -330,7 +333,7 @@ port_same members store plain some is =
         holds = ap (λ bytes. record { kind = store.kind; base = store.base; bytes = bytes }) holds;
         name = refl;
         image = refl;
-        order = refl;
+        orders = refl;
         bus = refl;
       };
     }

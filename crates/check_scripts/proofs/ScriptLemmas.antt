@@ -41,7 +41,7 @@ use Rattle.check_beats.specs.declared.bus.Bus.TheVariants.{Eight}
 use Rattle.check_keys.specs.Bus.{bus_in_table}
 use Rattle.check_keys.specs.Value.{array_of, flag_at, number_at, number_if_any, table_of, tables_of, text_if_any, up_to, value_at}
 use Rattle.check_keys.specs.declared.fault.Key.{Key}
-use Rattle.check_keys.specs.declared.fault.Key.TheVariants.{Bus, Unaligned, Decode, Port as PortKey, Master as MasterKey, Sources}
+use Rattle.check_keys.specs.declared.fault.Key.TheVariants.{Bus, Unaligned, Decode, Period, Port as PortKey, Master as MasterKey, Sources}
 use Rattle.check_keys.specs.declared.fault.SystemFault.{SystemFault}
 use Rattle.check_keys.specs.declared.fault.SystemFault.TheVariants.{Missing, NotToml, TooLong, WrongType}
 use Rattle.tl_map.specs.declared.limits.TheConstants.{MAX_JUDGED_MASTERS, MAX_JUDGED_PORTS, MAX_JUDGED_SOURCES}
@@ -270,10 +270,10 @@ decode_read : (members : Members) → IsAbsent Decode members → by_address_in 
 unfolding by_address_in text_if_any
 decode_read members absent = rw absent refl
 
-rules_read : (members : Members) → IsAbsent Unaligned members → IsAbsent Decode members
+rules_read : (members : Members) → IsAbsent Unaligned members → IsAbsent Decode members → IsAbsent Period members
     → rules_in members ≡ Ok strict_rules
-unfolding rules_in flag_at
-rules_read members aligned decode = rw (aligned, decode_read members decode) refl
+unfolding rules_in flag_at number_if_any
+rules_read members aligned decode period = rw (aligned, decode_read members decode, period) refl
 
 parts_read : (members : Members) (ports : List Port) (masters : List Master) → bus_in_table Eight members ≡ Ok Eight
     → rules_in members ≡ Ok strict_rules
@@ -354,7 +354,8 @@ parts_of_same bytes parts plain ranges counts is =
     record {
       ports = ports.same.ports;
       read = rw document_is (parts_read members ports.same.ports (map plain_master (old_counts_of parts))
-          (bus_read members (plain.bus members document_is)) (rules_read members (plain.unaligned members document_is) (plain.decode members document_is))
+          (bus_read members (plain.bus members document_is)) (rules_read members (plain.unaligned members document_is) (plain.decode members document_is)
+          (plain.period members document_is))
           (ports_read members parts.stores ports) masters);
       slaves = ports.same.are;
       names = ports.same.names;

@@ -10,8 +10,9 @@ use Rattle.check_beats.specs.declared.bus.Bus.TheVariants.{Eight}
 use Rattle.check_beats.specs.declared.rules.LinkRules.{LinkRules}
 use Rattle.check_keys.specs.Key.{key_name}
 use Rattle.check_keys.specs.declared.fault.Key.{Key}
-use Rattle.check_keys.specs.declared.fault.Key.TheVariants.{Bus, Unaligned, Decode, Name, Ranges, Image, Unknown, Sizes, Order, Volatile, First, Stride, Reach}
+use Rattle.check_keys.specs.declared.fault.Key.TheVariants.{Bus, Unaligned, Decode, Period, Name, Ranges, Image, Unknown, Sizes, Order, Mirror, Volatile, First, Stride, Reach}
 use Rattle.check_description.specs.Laws.{IsPlainMemory, store_at_reset}
+use Rattle.check_description.specs.Order.{no_orders}
 use Rattle.check_description.specs.Port.{Port, port_tables}
 use Rattle.check_description.specs.Description.{Description, Makes}
 use Rattle.check_description.specs.File.{Parts, document_of, parts_of}
@@ -32,6 +33,7 @@ pub record IsPlainPort (members : Members) : Type 0 where
   pub sizes : IsAbsent Sizes members
   pub order : IsAbsent Order members
   pub bus : IsAbsent Bus members
+  pub mirror : IsAbsent Mirror members
   pub volatile : IsAbsent Volatile members
 
 -- a master's table has no such key
@@ -47,6 +49,7 @@ pub record SaysNothingNew (bytes : List ℕ) : Type 0 where
   pub bus : (members : Members) → document_of bytes ≡ Ok members → IsAbsent Bus members
   pub unaligned : (members : Members) → document_of bytes ≡ Ok members → IsAbsent Unaligned members
   pub decode : (members : Members) → document_of bytes ≡ Ok members → IsAbsent Decode members
+  pub period : (members : Members) → document_of bytes ≡ Ok members → IsAbsent Period members
   pub ports : (members : Members) (tables : List Members) → document_of bytes ≡ Ok members
       → port_tables members ≡ Ok tables → AllByRecursion IsPlainPort tables
   pub masters : (members : Members) (tables : List Members) → document_of bytes ≡ Ok members
@@ -61,7 +64,7 @@ pub record IsPortOf (store : Store) (port : Port) : Type 0 where
   pub holds : store_at_reset store.kind (range_of store) port [] ≡ store
   pub name : port.name ≡ None
   pub image : port.contents.image ≡ None
-  pub order : port.order ≡ None
+  pub orders : port.orders ≡ no_orders
   pub bus : port.bus ≡ Eight
 
 -- a port for each store, in order
@@ -77,7 +80,7 @@ plain_master count = record { name = None; sources = count; first = None; stride
 
 -- requests are aligned, and decoders look at all their bytes
 abbrev pub strict_rules : LinkRules
-strict_rules = record { unaligned = false; by_address = false }
+strict_rules = record { unaligned = false; by_address = false; period = 1 }
 
 -- ---- what is said of them
 

@@ -48,7 +48,7 @@ fresh_buses buses slaves port link is =
 
 pub fresh_keeps : (plan : Plan) (view : View) → IsPlan plan → view.layout ≡ plan.layout
     → group_view.KeepsGroup plan [] view.shared
-    → (IsTrue (are_apart plan.layout.links) → view.ports ≡ fresh_links plan.layout.port_buses plan.resets)
+    → (IsTrue (are_apart plan.layout.links) → view.ports ≡ fresh_links plan.layout.port_buses plan.own)
     → Keeps plan [] view
 fresh_keeps plan view lawful layout shared ports = record {
   suits = record { lawful = lawful; layout = layout };
@@ -59,10 +59,10 @@ fresh_keeps plan view lawful layout shared ports = record {
 }
   where
     fresh_port : (port : ℕ) (link : PortView)
-        → slice_get (fresh_links plan.layout.port_buses plan.resets) port ≡ Some link
+        → slice_get (fresh_links plan.layout.port_buses plan.own) port ≡ Some link
         → KeepsPort (port_plan plan) port [] link
     fresh_port port link found =
-        let is = link_fresh plan.layout.port_buses plan.resets port link found in
+        let is = link_fresh plan.layout.port_buses plan.own port link found in
         record {
           lawful = tt;
           under = ap (λ (l : PortView). l.under) is;

@@ -44,8 +44,8 @@ shared_past Each past = filter (λ (x : Sighting). is_at_master x.link) past
 abbrev pub everybody : Owner
 everybody = record { first = 0; count = 65536; stride = 1 }
 
--- by which plan it is judged: that of ports whose requests are anybody's, who has a path to each, with slaves of their own
--- from reset on
+-- by which plan it is judged: that of ports whose requests are anybody's, who has a path to each, with the slaves that are
+-- their links' own
 abbrev pub port_plan : Plan → Plan
 port_plan plan = record {
   layout = record {
@@ -57,7 +57,8 @@ port_plan plan = record {
     master_buses = plan.layout.master_buses;
     port_buses = plan.layout.port_buses;
   };
-  resets = plan.resets;
+  resets = plan.own;
+  own = plan.own;
   wide = λ master source. source;
   decode = plan.decode;
 }

@@ -60,8 +60,8 @@ fn links_of(
 
 impl Watch {
     /// The judge of a crossbar with these rules, ports, paths and sources, before any beat. There is a slave for each port, the error
-    /// port's last, as it is at reset; a bus for each master's link, and one for each port's. With `Links::Each` the same
-    /// slaves are given a second time, for the ports' side; otherwise that list is not looked at.
+    /// port's last, as it is at reset; a bus for each master's link, and one for each port's. With `Links::Each` slaves are
+    /// given a second time, which the ports' links have by themselves; otherwise that list is not looked at.
     pub fn new(
         alloc: Global,
         links: Links,
@@ -77,7 +77,7 @@ impl Watch {
         requires slaves { length slaves.items ≡ length map + 1 }
         requires masters { length master_buses.items ≡ length sources }
         requires ports { length port_buses.items ≡ length map }
-        requires own { links ≡ Links.Each → own.items ≡ slaves.items }
+        requires own { links ≡ Links.Each → length own.items ≡ length map + 1 }
         ensures layout { IfOk result (λ watch. watch.layout ≡ record {
           links = links;
           rules = rules;
@@ -88,7 +88,7 @@ impl Watch {
           port_buses = port_buses.items;
         }) }
         ensures plan { IfOk result (λ watch.
-            (plan : Plan) × (plan.resets ≡ slaves.items) × Keeps plan [] watch) }
+            (plan : Plan) × (plan.resets ≡ slaves.items) × (plan.own ≡ own.items) × Keeps plan [] watch) }
         ensures keeps { (plan : Plan) → IsPlan plan
             → plan.layout ≡ record {
               links = links;
@@ -99,7 +99,7 @@ impl Watch {
               master_buses = master_buses.items;
               port_buses = port_buses.items;
             }
-            → plan.resets ≡ slaves.items → IfOk result (Keeps plan []) }
+            → plan.resets ≡ slaves.items → (links ≡ Links.Each → plan.own ≡ own.items) → IfOk result (Keeps plan []) }
     {
         let ports = links_of(alloc, &port_buses, own)?;
         let shared = GroupWatch::new(
@@ -137,6 +137,13 @@ impl Watch {
         ensures { result ≡ self.now.layout.links }
     {
         self.shared.links()
+    }
+
+    /// What the system says of all its links.
+    pub fn rules(&self) -> LinkRules
+        ensures { result ≡ self.now.layout.rules }
+    {
+        self.shared.rules()
     }
 
     /// The wide sources of the masters.

@@ -2,23 +2,52 @@
 use Rattle.std.specs.Prelude.{ℕ, ◌+◌, List, [], ◌∷◌, ◌++◌, Result, Ok, slice_get, unwrap_or}
 use Rattle.check_flight.specs.PortSlave.{PortSlave}
 use Rattle.check_flight.specs.declared.order.Order.{Order}
+use Rattle.check_flight.specs.declared.order.SideOrders.{SideOrders}
+use Rattle.check_watch.specs.declared.links.Links.{Links}
+use Rattle.check_watch.specs.declared.links.Links.TheVariants as links
 use Rattle.tl_text.specs.Reading.{◌>>=◌}
 use Rattle.check_keys.specs.declared.fault.SystemFault.{SystemFault}
 use Rattle.check_description.specs.Port.{Port}
 use Rattle.check_description.specs.Slave.{error_slave, slave_at_reset}
+use Rattle.check_start.specs.declared.slaves.SlaveSide.{SlaveSide}
+use Rattle.check_start.specs.declared.slaves.SlaveSide.TheVariants.{Masters, Ports}
+use Rattle.check_start.specs.declared.start.Terms.{Terms}
+
+-- ---- orders
+
+-- when the requests of a port take effect, as they are seen on a side; a port that says nothing goes by the system's
+abbrev pub order_of : SlaveSide → SideOrders → Port → Order
+order_of Masters orders port = unwrap_or port.orders.masters orders.masters
+order_of Ports orders port = unwrap_or port.orders.ports orders.ports
+
+-- the side on which the slaves of links that are judged together see requests: the ports', if their links are among these
+abbrev pub shared_side : Links → SlaveSide
+shared_side links.Both = Ports
+shared_side links.Masters = Masters
+shared_side links.Ports = Ports
+shared_side links.Each = Masters
+
+-- ---- slaves
 
 -- the bytes of the image of the port of this number; none are given of a port that names no image
 abbrev pub image_at : List (List ℕ) → ℕ → List ℕ
 image_at images port = unwrap_or (slice_get images port) []
 
 -- the slaves of ports, the first of which has this number; or the first fault of one
-abbrev pub slaves_from : Order → List (List ℕ) → ℕ → List Port → Result (List PortSlave) SystemFault
-slaves_from order images number [] = Ok []
-slaves_from order images number (port ∷ ports) =
-    slave_at_reset number port (image_at images number) order
-    >>= (λ slave. slaves_from order images (number + 1) ports >>= (λ rest. Ok (slave ∷ rest)))
+abbrev pub slaves_from : SlaveSide → SideOrders → List (List ℕ) → ℕ → List Port → Result (List PortSlave) SystemFault
+slaves_from side orders images number [] = Ok []
+slaves_from side orders images number (port ∷ ports) =
+    slave_at_reset number port (image_at images number) (order_of side orders port)
+    >>= (λ slave. slaves_from side orders images (number + 1) ports >>= (λ rest. Ok (slave ∷ rest)))
 
--- the slaves of all ports, the error port's last
-abbrev pub slaves_at_reset : Order → List (List ℕ) → List Port → Result (List PortSlave) SystemFault
-slaves_at_reset order images ports =
-    slaves_from order images 0 ports >>= (λ slaves. Ok (slaves ++ error_slave order ∷ []))
+-- the slaves of all ports, the error port's last: its requests are seen at the masters' links alone
+abbrev pub slaves_at_reset : SlaveSide → SideOrders → List (List ℕ) → List Port → Result (List PortSlave) SystemFault
+slaves_at_reset side orders images ports =
+    slaves_from side orders images 0 ports >>= (λ slaves. Ok (slaves ++ error_slave orders.masters ∷ []))
+
+-- those of links that are judged together, and those of ports' links that are judged each by itself
+abbrev pub shared_slaves : Terms → List (List ℕ) → List Port → Result (List PortSlave) SystemFault
+shared_slaves terms images ports = slaves_at_reset (shared_side terms.links) terms.orders images ports
+
+abbrev pub own_slaves : Terms → List (List ℕ) → List Port → Result (List PortSlave) SystemFault
+own_slaves terms images ports = slaves_at_reset Ports terms.orders images ports

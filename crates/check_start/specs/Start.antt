@@ -6,7 +6,8 @@ use Rattle.check_description.specs.Description.{Description, ranges_of}
 use Rattle.check_description.specs.Master.{Master}
 use Rattle.check_sides.specs.Plan.{IsPlan, Layout, Plan}
 use Rattle.check_lines.specs.Names.{NamesView}
-use Rattle.check_start.specs.Slaves.{slaves_at_reset}
+use Rattle.check_start.specs.Slaves.{own_slaves, shared_slaves}
+use Rattle.check_watch.specs.declared.links.Links.TheVariants.{Each}
 use Rattle.check_start.specs.declared.start.Terms.{Terms}
 
 abbrev pub master_buses : List Master → List Bus
@@ -35,7 +36,8 @@ layout_of terms system = record {
 pub record IsPlanOf (terms : Terms) (system : Description) (images : List (List ℕ)) (plan : Plan) : Type 0 where
   pub is : IsPlan plan
   pub layout : plan.layout ≡ layout_of terms system
-  pub resets : slaves_at_reset terms.order images system.ports ≡ Ok plan.resets
+  pub resets : shared_slaves terms images system.ports ≡ Ok plan.resets
+  pub own : terms.links ≡ Each → own_slaves terms images system.ports ≡ Ok plan.own
 
 -- something holds by each plan of the system; and there is one
 pub record ByThePlan (terms : Terms) (system : Description) (images : List (List ℕ)) (Holds : Plan → Type 0)

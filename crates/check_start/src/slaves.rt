@@ -2,12 +2,43 @@
 ghost use Rattle.std.specs.Prelude.{◌≡◌, map};
 ghost use Rattle.check_keys.specs.Reading.{Gives};
 ghost use Rattle.check_description.specs.Port.{port_view};
-ghost use Rattle.check_start.specs.Slaves.{image_at, slaves_at_reset, slaves_from};
+ghost use Rattle.check_description.specs.Slave.{slave_at_reset};
+ghost use Rattle.check_start.specs.Slaves.{image_at, order_of, shared_side as side_that_is_shared, slaves_at_reset, slaves_from};
 
 use check_description::{Port, error_slave, slave_of};
-use check_flight::{Order, PortSlave};
+use check_flight::{Order, PortSlave, SideOrders};
 use check_keys::SystemFault;
+use check_sides::Links;
 use std::alloc::Global;
+
+/// The side on which a slave sees its requests.
+#[derive(Debug, Clone, Copy, PartialEq, Eq)]
+pub enum SlaveSide {
+    /// At the masters' links.
+    Masters,
+    /// At its own link.
+    Ports,
+}
+
+/// The side on which the slaves of links that are judged together see requests.
+pub fn shared_side(links: Links) -> SlaveSide
+    ensures { result ≡ side_that_is_shared links }
+{
+    match links {
+        Links::Both | Links::Ports => SlaveSide::Ports,
+        Links::Masters | Links::Each => SlaveSide::Masters,
+    }
+}
+
+/// When the requests of a port take effect, as they are seen on a side.
+fn order_of(side: SlaveSide, orders: SideOrders, port: &Port) -> Order
+    ensures { result ≡ order_of side orders (port_view port.now) }
+{
+    match side {
+        SlaveSide::Masters => port.orders.masters.unwrap_or(orders.masters),
+        SlaveSide::Ports => port.orders.ports.unwrap_or(orders.ports),
+    }
+}
 
 /// The bytes of the image of the port of this number, none if none are given.
 fn image_at(images: &[Vec<u8>], port: usize) -> &[u8]
@@ -19,19 +50,37 @@ fn image_at(images: &[Vec<u8>], port: usize) -> &[u8]
     }
 }
 
-/// The slaves of the ports, with these bytes of their images, and this order for a port that says none.
+/// The slave of the port of this number.
+fn port_slave(
+    alloc: Global,
+    number: usize,
+    port: &Port,
+    images: &[Vec<u8>],
+    side: SlaveSide,
+    orders: SideOrders,
+) -> Result<PortSlave, SystemFault>
+    ensures { Gives (λ slave. slave) result
+        (slave_at_reset number (port_view port.now) (image_at (map (λ image. image.items) images.now) number)
+        (order_of side orders (port_view port.now))) }
+{
+    let order = order_of(side, orders, port);
+    slave_of(alloc, number, port, image_at(images, number), order)
+}
+
+/// The slaves of the ports, with these bytes of their images, as a side sees them, by these orders for ports that say none.
 fn port_slaves(
     alloc: Global,
     ports: &[Port],
     images: &[Vec<u8>],
-    order: Order,
+    side: SlaveSide,
+    orders: SideOrders,
 ) -> Result<Vec<PortSlave>, SystemFault>
     ensures { Gives (λ slaves. slaves.items) result
-        (slaves_from order (map (λ image. image.items) images.now) 0 (map port_view ports.now)) }
+        (slaves_from side orders (map (λ image. image.items) images.now) 0 (map port_view ports.now)) }
 {
     let mut slaves = Vec::with_capacity(alloc, ports.len() + 1)?;
     for (number, port) in ports.iter().enumerate() {
-        slaves.push(slave_of(alloc, number, port, image_at(images, number), order)?)?;
+        slaves.push(port_slave(alloc, number, port, images, side, orders)?)?;
     }
     Ok(slaves)
 }
@@ -41,12 +90,13 @@ pub fn slaves_of(
     alloc: Global,
     ports: &[Port],
     images: &[Vec<u8>],
-    order: Order,
+    side: SlaveSide,
+    orders: SideOrders,
 ) -> Result<Vec<PortSlave>, SystemFault>
     ensures { Gives (λ slaves. slaves.items) result
-        (slaves_at_reset order (map (λ image. image.items) images.now) (map port_view ports.now)) }
+        (slaves_at_reset side orders (map (λ image. image.items) images.now) (map port_view ports.now)) }
 {
-    let mut slaves = port_slaves(alloc, ports, images, order)?;
-    slaves.push(error_slave(alloc, order))?;
+    let mut slaves = port_slaves(alloc, ports, images, side, orders)?;
+    slaves.push(error_slave(alloc, orders.masters))?;
     Ok(slaves)
 }

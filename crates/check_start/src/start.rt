@@ -8,13 +8,13 @@ ghost use Rattle.check_sides.specs.Plan.{Plan};
 ghost use Rattle.check_sides.specs.View.{Keeps};
 ghost use Rattle.check_unanswered.specs.View.{Holds};
 ghost use Rattle.check_lines.specs.Names.{texts_of};
-ghost use Rattle.check_start.specs.Slaves.{slaves_at_reset};
+ghost use Rattle.check_start.specs.Slaves.{own_slaves as slaves_of_links, shared_slaves};
 ghost use Rattle.check_start.specs.Start.{ByThePlan, layout_of, master_buses as buses_of_masters, master_paths as paths_of_masters, system_names, port_buses as buses_of_ports};
 
-use crate::slaves::slaves_of;
+use crate::slaves::{SlaveSide, shared_side, slaves_of};
 use check_beats::Bus;
 use check_description::{Described, Description, Master, Port};
-use check_flight::{Order, PortSlave};
+use check_flight::{PortSlave, SideOrders};
 use check_keys::SystemFault;
 use check_lines::Names;
 use check_sides::{Links, Paths, Watch};
@@ -22,12 +22,12 @@ use check_unanswered::Pending;
 use std::alloc::{AllocError, Global};
 use tl_map::{AddressMap, SourceOwners};
 
-/// By what terms beats are judged: which links are watched, and when the requests of a port take effect for which the
-/// system does not say it.
+/// By what terms beats are judged: which links are watched, and when the requests of a port take effect on a side for which
+/// the system does not say it.
 #[derive(Debug, Clone, Copy, PartialEq, Eq)]
 pub struct Terms {
     pub links: Links,
-    pub order: Order,
+    pub orders: SideOrders,
 }
 
 /// The judge of a system's beats, and the names and buses of its links.
@@ -156,7 +156,7 @@ fn buses_of(alloc: Global, parts: &Described) -> Result<LinkBuses, AllocError>
     Ok(LinkBuses { masters, ports })
 }
 
-/// The slaves that ports' links have by themselves: the same once more if each is judged by itself, else none.
+/// The slaves that ports' links have by themselves: those of their side if each is judged by itself, else none.
 fn own_slaves(
     alloc: Global,
     ports: &[Port],
@@ -164,14 +164,12 @@ fn own_slaves(
     terms: Terms,
 ) -> Result<Vec<PortSlave>, SystemFault>
     ensures own { IfOk result (λ own. terms.links ≡ Links.Each
-        → slaves_at_reset terms.order (map (λ image. image.items) images.now) (map port_view ports.now)
-        ≡ Ok own.items) }
+        → slaves_of_links terms (map (λ image. image.items) images.now) (map port_view ports.now) ≡ Ok own.items) }
     ensures fault { IfErr result (λ fault. fault ≢ Memory
-        → slaves_at_reset terms.order (map (λ image. image.items) images.now) (map port_view ports.now)
-        ≡ Err fault) }
+        → slaves_of_links terms (map (λ image. image.items) images.now) (map port_view ports.now) ≡ Err fault) }
 {
     match terms.links {
-        Links::Each => slaves_of(alloc, ports, images, terms.order),
+        Links::Each => slaves_of(alloc, ports, images, SlaveSide::Ports, terms.orders),
         Links::Both | Links::Masters | Links::Ports => Ok(Vec::new(alloc)),
     }
 }
@@ -191,16 +189,15 @@ fn reset_slaves(
     terms: Terms,
 ) -> Result<Slaves, SystemFault>
     ensures shared { IfOk result (λ slaves.
-        slaves_at_reset terms.order (map (λ image. image.items) images.now) (map port_view ports.now)
+        shared_slaves terms (map (λ image. image.items) images.now) (map port_view ports.now)
         ≡ Ok slaves.shared.items) }
     ensures own { IfOk result (λ slaves. terms.links ≡ Links.Each
-        → slaves_at_reset terms.order (map (λ image. image.items) images.now) (map port_view ports.now)
+        → slaves_of_links terms (map (λ image. image.items) images.now) (map port_view ports.now)
         ≡ Ok slaves.own.items) }
     ensures fault { IfErr result (λ fault. fault ≢ Memory
-        → slaves_at_reset terms.order (map (λ image. image.items) images.now) (map port_view ports.now)
-        ≡ Err fault) }
+        → shared_slaves terms (map (λ image. image.items) images.now) (map port_view ports.now) ≡ Err fault) }
 {
-    let shared = slaves_of(alloc, ports, images, terms.order)?;
+    let shared = slaves_of(alloc, ports, images, shared_side(terms.links), terms.orders)?;
     let own = own_slaves(alloc, ports, images, terms)?;
     Ok(Slaves { shared, own })
 }
@@ -223,7 +220,7 @@ pub fn begin(
     ensures few_masters { IfOk result (λ begun. length begun.master_buses.items ≤ MAX_JUDGED_MASTERS) }
     ensures few_ports { IfOk result (λ begun. length begun.port_buses.items ≤ MAX_JUDGED_PORTS) }
     ensures fault { IfErr result (λ fault. fault ≢ Memory
-        → slaves_at_reset terms.order (map (λ image. image.items) images.now) system.ports ≡ Err fault) }
+        → shared_slaves terms (map (λ image. image.items) images.now) system.ports ≡ Err fault) }
 {
     let names = system_names(alloc, &system)?;
     let parts = system.into_parts();

@@ -2,6 +2,7 @@
 use Rattle.std.proofs.Common.{◌≡◌, ◌∙◌, ℕ, ◌+◌, ◌≤◌, ◌%◌, ◌^◌, Bool, true, false, if◌then◌else◌, List, [], ◌∷◌, ◌++◌, length, Option, Some, None, refl, ap, sym, subst, arith}
 use Rattle.std.specs.Prelude.{◌==◌, ◌&&◌, find}
 use Rattle.std.specs.List.{list_any}
+use Rattle.check_beats.specs.declared.rules.LinkRules.{LinkRules}
 use Rattle.check_beats.specs.State.{ends_reply}
 use Rattle.check_beats.specs.declared.beat.AskHead.{AskHead}
 use Rattle.check_beats.specs.declared.beat.ReplyHead.{ReplyHead}
@@ -56,26 +57,30 @@ one_if false = 0
 
 -- ---- bins of other kinds
 
-again_none : (k : Bool) (flight : InFlight) (time : ℕ) (answered : Option ℕ) → how_many (kind k) (again flight time answered) ≡ 0
-again_none true flight time None = refl
-again_none true flight time (Some at) = refl
-again_none false flight time None = refl
-again_none false flight time (Some at) = refl
+again_none : (k : Bool) (rules : LinkRules) (flight : InFlight) (time : ℕ) (answered : Option ℕ)
+    → how_many (kind k) (again rules flight time answered) ≡ 0
+again_none true rules flight time None = refl
+again_none true rules flight time (Some at) = refl
+again_none false rules flight time None = refl
+again_none false rules flight time (Some at) = refl
 
-begin_none : (k : Bool) (flights : List InFlight) (flight : InFlight) (time : ℕ) (answered : Option ℕ)
-    → how_many (kind k) (begin_bins flights flight time answered) ≡ 0
-begin_none true flights flight time answered = let h = again_none true flight time answered in omega (arith, h)
-begin_none false flights flight time answered = let h = again_none false flight time answered in omega (arith, h)
+begin_none : (k : Bool) (rules : LinkRules) (flights : List InFlight) (flight : InFlight) (time : ℕ) (answered : Option ℕ)
+    → how_many (kind k) (begin_bins rules flights flight time answered) ≡ 0
+begin_none true rules flights flight time answered =
+    let h = again_none true rules flight time answered in omega (arith, h)
+begin_none false rules flights flight time answered =
+    let h = again_none false rules flight time answered in omega (arith, h)
 
 first_none : (k : Bool) (plan : Plan) (wide : ℕ) (flights : List InFlight) (time : ℕ) (answered : Option ℕ)
     (beat : AskHead) → how_many (kind k) (first_bins plan wide flights time answered beat) ≡ 0
 first_none k plan wide flights time answered beat = go k (list_any (is_of wide) flights)
   where
-    go : (k b : Bool) → how_many (kind k) (if b then [] else begin_bins flights (begun plan wide beat) time answered) ≡ 0
+    go : (k b : Bool)
+        → how_many (kind k) (if b then [] else begin_bins plan.layout.rules flights (begun plan wide beat) time answered) ≡ 0
     go true true = refl
     go false true = refl
-    go true false = begin_none true flights (begun plan wide beat) time answered
-    go false false = begin_none false flights (begun plan wide beat) time answered
+    go true false = begin_none true plan.layout.rules flights (begun plan wide beat) time answered
+    go false false = begin_none false plan.layout.rules flights (begun plan wide beat) time answered
 
 mask_none : (k : Bool) (flight : InFlight) → how_many (kind k) (mask_bins flight) ≡ 0
 mask_none k flight = go k (flight.first.opcode == 1)

@@ -13,8 +13,9 @@ use Rattle.tl_map.specs.Map.{IsLawfulAddressMap}
 use Rattle.check_beats.specs.Message.{arith_of, logic_of, op_of}
 use Rattle.check_beats.specs.declared.beat.AskHead.{AskHead}
 use Rattle.check_contests.specs.Laws.{AreUncontested}
-use Rattle.check_contests.specs.Writes.{writes as writes_at}
-use Rattle.check_memory.specs.Partial.{Partial, permits}
+use Rattle.check_contests.specs.Writes.{in_window, writes as writes_at}
+use Rattle.check_memory.specs.Partial.{Partial, permits, placed}
+use Rattle.check_memory.proofs.SeenWindows.{unmoved}
 use Rattle.check_memory.specs.declared.slave.Slave.{Slave}
 use Rattle.check_memory.specs.declared.slave.Slave.TheVariants.{Memory, Device}
 use Rattle.check_watch.specs.Plan.{Plan, Sighting}
@@ -37,7 +38,7 @@ use Rattle.check_coverage.specs.Text.{TellsCoverage}
 use Rattle.check_coverage.specs.View.{bin_cmp, how_often}
 use Rattle.check_coverage.proofs.Counted.{how_often-append}
 use Rattle.check_coverage.proofs.Exact.{exact_eq}
-use Rattle.check_text_laws.specs.Sums.{TellsNoContest}
+use Rattle.check_text_laws.specs.Sums.{IsSeenOnce, TellsNoContest}
 use Rattle.check_text_laws.proofs.Apart.{OfFronts, fronts_more, fronts_none}
 use Rattle.check_text_laws.proofs.Finding.{found}
 use Rattle.check_text_laws.proofs.Heads.{IsHead, head}
@@ -87,19 +88,28 @@ no_write false written is = refl
 -- requests that do not meet as they are counted are not contested
 uncontested : (memory : Partial) (port : ℕ) (ask other : Request) (one two : Option InFlight)
     (first : IsHead port one ask) (second : IsHead port two other)
-    → meets first.flight.first second.flight.first ≡ false → AreUncontested memory ask other
-uncontested memory port ask other one two first second apart address inside its_inside = (
-  no_write (permits memory ask) (writes_at ask.op ask address)
-      (ap (λ o. writes_at o ask address) first.op ∙ writes_none first.flight.first ask address none.0),
-  no_write (permits memory other) (writes_at other.op other address)
-      (ap (λ o. writes_at o other address) second.op ∙ writes_none second.flight.first other address none.1),
+    → meets first.flight.first second.flight.first ≡ false → memory.mirrors ≡ [] → AreUncontested memory ask other
+uncontested memory port ask other one two first second apart alone address inside its_inside = (
+  no_write (permits memory ask) (writes_at ask.op (placed memory ask) address)
+      (ap (λ o. writes_at o (placed memory ask) address) first.op
+      ∙ writes_none first.flight.first (placed memory ask) address none.0),
+  no_write (permits memory other) (writes_at other.op (placed memory other) address)
+      (ap (λ o. writes_at o (placed memory other) address) second.op
+      ∙ writes_none second.flight.first (placed memory other) address none.1),
 )
   where
+    -- a window stands where its address says
+    by_address : (request : Request) → in_window (placed memory request) address ≡ true
+        → in_window request address ≡ true
+    by_address request is =
+        let P : ℕ → Type 0 = λ n. in_window (record request { address = n }) address ≡ true in
+        subst P (sym (unmoved memory request alone)) is
+
     mine : (nat_le ask.address address ≡ true) × (nat_lt address (ask.address + 2 ^ ask.size) ≡ true)
-    mine = both_true (nat_le ask.address address) (nat_lt address (ask.address + 2 ^ ask.size)) inside
+    mine = both_true (nat_le ask.address address) (nat_lt address (ask.address + 2 ^ ask.size)) (by_address ask inside)
 
     its : (nat_le other.address address ≡ true) × (nat_lt address (other.address + 2 ^ other.size) ≡ true)
-    its = both_true (nat_le other.address address) (nat_lt address (other.address + 2 ^ other.size)) its_inside
+    its = both_true (nat_le other.address address) (nat_lt address (other.address + 2 ^ other.size)) (by_address other its_inside)
 
     below : nat_lt first.flight.first.address (second.flight.first.address + 2 ^ second.flight.first.size) ≡ true
     below =
@@ -136,10 +146,10 @@ module _ (plan : Plan) (is_plan : IsPlan plan) (map : IsLawfulAddressMap plan.la
 
   -- two requests that are open at a memory
   pair_apart : (rows : List SeenRow) → AreWatched p.layout (past_of rows) → IsLawful plan (beats_of rows)
-      → how_often (bin.Contested port) (bins plan rows) ≡ 0 → (memory : Partial) (wide other : ℕ) (ask with : Request)
+      → how_often (bin.Contested port) (bins plan rows) ≡ 0 → (memory : Partial) → memory.mirrors ≡ [] → (wide other : ℕ) (ask with : Request)
       → wide ≢ other → IsOpen (moments p port (past_of rows)) wide ask → IsOpen (moments p port (past_of rows)) other with
       → AreUncontested memory ask with
-  pair_apart rows watched lawful none memory wide other ask with apart is_open its_open =
+  pair_apart rows watched lawful none memory alone wide other ask with apart is_open its_open =
       let heads = λ (w : ℕ) (r : Request) (o : IsOpen (moments p port (past_of rows)) w r).
       head plan is_plan map (past_of rows) watched (shared_part plan (beats_of rows) lawful)
       (in_flight plan rows) (are_kept plan rows lawful) port w r o in
@@ -147,25 +157,26 @@ module _ (plan : Plan) (is_plan : IsPlan plan) (map : IsLawfulAddressMap plan.la
       let second = heads other with its_open in
       uncontested memory port ask with (found wide (in_flight plan rows)) (found other (in_flight plan rows)) first second
       (all_apart plan port rows none wide other first.flight second.flight (apart_by wide other apart) first.is second.is
-      first.whole second.whole first.port_is second.port_is)
+      first.whole second.whole first.port_is second.port_is) alone
 
   now_apart : (rows : List SeenRow) → AreWatched p.layout (past_of rows) → IsLawful plan (beats_of rows)
-      → how_often (bin.Contested port) (bins plan rows) ≡ 0 → (kept : Slave) → AreApart kept (moments p port (past_of rows))
-  now_apart rows watched lawful none Device = tt
-  now_apart rows watched lawful none (Memory memory) = pair_apart rows watched lawful none memory
+      → how_often (bin.Contested port) (bins plan rows) ≡ 0 → (kept : Slave) → IsSeenOnce kept
+      → AreApart kept (moments p port (past_of rows))
+  now_apart rows watched lawful none Device once = tt
+  now_apart rows watched lawful none (Memory memory) once = pair_apart rows watched lawful none memory once
 
   all_fronts : (rows : List SeenRow) → AreWatched p.layout (past_of rows) → IsLawful plan (beats_of rows)
-      → how_often (bin.Contested port) (bins plan rows) ≡ 0
+      → how_often (bin.Contested port) (bins plan rows) ≡ 0 → IsSeenOnce slave
       → OfFronts (AreApart slave) (moments p port (past_of rows))
-  all_fronts [] watched lawful none =
+  all_fronts [] watched lawful none once =
       subst (λ l. OfFronts (AreApart slave) (moments p port l)) (sym (shared_none plan.layout.links))
       (fronts_none (AreApart slave)
       (subst (λ l. AreApart slave (moments p port l)) (shared_none plan.layout.links)
-      (now_apart [] watched lawful none slave)))
-  all_fronts (row ∷ before) watched lawful none =
+      (now_apart [] watched lawful none slave once)))
+  all_fronts (row ∷ before) watched lawful none once =
       go (is_alone plan.layout.links row.sighting.link) refl
-      (all_fronts before (watched_before (is_alone plan.layout.links row.sighting.link) refl) lawful.0 earlier)
-      (now_apart (row ∷ before) watched lawful none slave)
+      (all_fronts before (watched_before (is_alone plan.layout.links row.sighting.link) refl) lawful.0 earlier once)
+      (now_apart (row ∷ before) watched lawful none slave once)
     where
       earlier : how_often (bin.Contested port) (bins plan before) ≡ 0
       earlier =
@@ -215,8 +226,9 @@ none_found bin (e ∷ es) none = go (is_eq (bin_cmp bin e.0)) refl (none_found b
 pub nothing_is_contested : (plan : Plan) (rows : List SeenRow) (old new : List ℕ) (port : ℕ) → IsPlan plan
     → IsLawfulAddressMap plan.layout.ports → AreWatched plan.layout (shared_past plan.layout.links (beats_of rows))
     → IsLawful plan (beats_of rows) → (tells : TellsCoverage plan rows old new) → TellsNoContest port tells.entries
+    → IsSeenOnce (reset_of plan port).kept
     → NothingIsContested plan port (shared_past plan.layout.links (beats_of rows))
-nothing_is_contested plan rows old new port is_plan map watched lawful tells none =
+nothing_is_contested plan rows old new port is_plan map watched lawful tells none once =
     let counts = tells.counts (bin.Contested port) in
     let zero_there = none_found (bin.Contested port) tells.entries none in
-    all_fronts plan is_plan map port rows watched lawful (omega (arith, counts, zero_there))
+    all_fronts plan is_plan map port rows watched lawful (omega (arith, counts, zero_there)) once

@@ -51,11 +51,13 @@ pub record RoutesWide (layout : Layout) (wide address size port : ℕ) : Type 0 
   pub owns : IsOf layout.owners master wide
   pub routes : RoutesAt layout master address size port
 
--- the slave of each port at reset, the error port's last; and as functions the wide source of a master's source, and the
--- port that decoders find for requests at an address and of a size
+-- the slave of each port at reset, the error port's last; the slaves that ports' links have at reset where each is judged by
+-- itself; and as functions the wide source of a master's source, and the port that decoders find for requests at an address
+-- and of a size
 pub record Plan : Type 0 where
   pub layout : Layout
   pub resets : List PortSlave
+  pub own : List PortSlave
   pub wide : ℕ → ℕ → ℕ
   pub decode : ℕ → ℕ → ℕ
 

@@ -3,13 +3,14 @@ use Rattle.std.proofs.Common.{◌≡◌, ◌∙◌, ℕ, zero, suc, ◌+◌, ◌
 use Rattle.std.specs.declared.alloc.Global.{Global}
 use Rattle.std.proofs.lemmas.Bool.Decides.{nat_tests}
 use Rattle.std.proofs.lemmas.List.{length-replicate, length-set, map-set, replicate-append-replicate}
-use Rattle.check_flight.specs.declared.order.Order.{Order}
+use Rattle.check_flight.specs.declared.order.SideOrders.{SideOrders}
 use Rattle.tl_text.specs.Reading.{◌>>=◌}
 use Rattle.check_keys.specs.declared.fault.SystemFault.{SystemFault}
 use Rattle.check_description.specs.Port.{Port}
 use Rattle.check_description.specs.Ranges.{first_length}
 use Rattle.check_description.specs.Slave.{error_slave}
 use Rattle.check_start.specs.Slaves.{image_at, slaves_at_reset, slaves_from}
+use Rattle.check_start.specs.declared.slaves.SlaveSide.{SlaveSide}
 use Rattle.check_description.specs.File.{Parts}
 use Rattle.tl_c.specs.Calls.{HoldsDraft}
 use Rattle.tl_c.specs.Draft.{DraftView, IsDraft, image_bytes, fault_at, image_fault, slots_of, with_image}
@@ -83,30 +84,30 @@ bind_err (Ok x) f fault is = absurd (cc)
 bind_err (Err e) f fault is = cc
 
 -- no image is too long, so each port has its slave
-pub slaves_fit : (order : Order) (images : List (List ℕ)) (number : ℕ) (ports : List Port)
+pub slaves_fit : (side : SlaveSide) (orders : SideOrders) (images : List (List ℕ)) (number : ℕ) (ports : List Port)
     → ((k : ℕ) (said : Port) → slice_get ports k ≡ Some said → length (image_at images (number + k)) ≤ first_length said.ranges)
-    → (fault : SystemFault) → slaves_from order images number ports ≡ Err fault → ⊥
-slaves_fit order images number [] fit fault is = cc
-slaves_fit order images number (said ∷ ports) fit fault is =
+    → (fault : SystemFault) → slaves_from side orders images number ports ≡ Err fault → ⊥
+slaves_fit side orders images number [] fit fault is = cc
+slaves_fit side orders images number (said ∷ ports) fit fault is =
     let least : length (image_at images (number + 0)) ≤ first_length said.ranges = fit 0 said refl in
     let zeroth : number + 0 ≡ number = omega arith in
     let fits : nat_lt (first_length said.ranges) (length (image_at images number)) ≡ false =
     (let few : length (image_at images number) ≤ first_length said.ranges =
     subst (λ k. length (image_at images k) ≤ first_length said.ranges) zeroth least in grind (arith, nat_tests)) in
-    let rest : ((slaves_from order images (number + 1) ports) >>= (λ slaves. Ok (_ ∷ slaves))) ≡ Err fault = rw fits at is in
-    slaves_fit order images (number + 1) ports
+    let rest : ((slaves_from side orders images (number + 1) ports) >>= (λ slaves. Ok (_ ∷ slaves))) ≡ Err fault = rw fits at is in
+    slaves_fit side orders images (number + 1) ports
     (λ k at there. let next : number + suc k ≡ number + 1 + k = omega arith in
     subst (λ n. length (image_at images n) ≤ first_length at.ranges) next (fit (suc k) at there)) fault
-    (bind_err (slaves_from order images (number + 1) ports) (λ slaves. _ ∷ slaves) fault rest)
+    (bind_err (slaves_from side orders images (number + 1) ports) (λ slaves. _ ∷ slaves) fault rest)
 
-pub slaves_are : (order : Order) (images : List (List ℕ)) (ports : List Port)
+pub slaves_are : (side : SlaveSide) (orders : SideOrders) (images : List (List ℕ)) (ports : List Port)
     → ((k : ℕ) (said : Port) → slice_get ports k ≡ Some said → length (image_at images k) ≤ first_length said.ranges)
-    → (fault : SystemFault) → slaves_at_reset order images ports ≡ Err fault → ⊥
-slaves_are order images ports fit fault is =
-    slaves_fit order images 0 ports
+    → (fault : SystemFault) → slaves_at_reset side orders images ports ≡ Err fault → ⊥
+slaves_are side orders images ports fit fault is =
+    slaves_fit side orders images 0 ports
     (λ k said there. let same : k ≡ 0 + k = omega arith in
     subst (λ n. length (image_at images n) ≤ first_length said.ranges) same (fit k said there)) fault
-    (bind_err (slaves_from order images 0 ports) (λ slaves. slaves ++ error_slave order ∷ []) fault is)
+    (bind_err (slaves_from side orders images 0 ports) (λ slaves. slaves ++ error_slave orders.masters ∷ []) fault is)
 
 -- ---- what a handle holds
 

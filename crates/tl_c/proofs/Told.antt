@@ -53,9 +53,10 @@ pub no_file : (file : List ℕ) (number : ℕ) → (number ≢ OK → number ≡
 no_file file number only = λ more. dite (ℕ_discrete number 0) (λ none. absurd (omega (arith, more, none)))
     (λ some. let four = only some in absurd (omega (arith, more, four)))
 
-pub by_terms : (links order : ℕ) (terms : Terms) (Is : Terms → Type 0) → links_of links ≡ Some terms.links
-    → order_of order ≡ Some terms.order → Is terms → ByTerms links order Is
-by_terms links order terms Is l o is = rw (l, o) is
+pub by_terms : (links masters ports : ℕ) (terms : Terms) (Is : Terms → Type 0) → links_of links ≡ Some terms.links
+    → order_of masters ≡ Some terms.orders.masters → order_of ports ≡ Some terms.orders.ports → Is terms
+    → ByTerms links masters ports Is
+by_terms links masters ports terms Is l m p is = rw (l, m, p) is
 
 -- a fault of the parts is one of the draft, if no image lacks
 pub parts_fault : (draft : DraftView) (fault : SystemFault) → LacksNone draft → IsFirstFaultOf draft.parts fault

@@ -131,11 +131,12 @@ order_of n =
     else if n == 2 then Some Any
     else None
 
--- both have a meaning
-abbrev pub AreTerms : ℕ → ℕ → Type 0
-AreTerms links order = IsSome (links_of links) × IsSome (order_of order)
+-- the number of links has a meaning, and so have those of the order of each side
+abbrev pub AreTerms : ℕ → ℕ → ℕ → Type 0
+AreTerms links masters ports = IsSome (links_of links) × IsSome (order_of masters) × IsSome (order_of ports)
 
 -- something holds by the terms that they mean
-abbrev pub ByTerms : ℕ → ℕ → (Terms → Type 0) → Type 0
-ByTerms links order Is =
-    IsSomeAnd (links_of links) (λ l. IsSomeAnd (order_of order) (λ o. Is (record { links = l; order = o })))
+abbrev pub ByTerms : ℕ → ℕ → ℕ → (Terms → Type 0) → Type 0
+ByTerms links masters ports Is =
+    IsSomeAnd (links_of links) (λ l. IsSomeAnd (order_of masters) (λ m. IsSomeAnd (order_of ports) (λ p.
+    Is (record { links = l; orders = record { masters = m; ports = p } }))))

@@ -16,7 +16,7 @@ use crate::system::{hold, is_full, put_fault};
 use crate::text::put_text;
 use crate::version::VERSION;
 use check_description::describe;
-use check_flight::Order;
+use check_flight::{Order, SideOrders};
 use check_keys::SystemFault;
 use check_sides::Links;
 use check_start::{Terms, begin, pending_of};
@@ -57,14 +57,18 @@ fn order_of(number: u8) -> Option<Order>
     }
 }
 
-/// The terms of two numbers.
-fn terms_of(links: u8, order: u8) -> Option<Terms>
-    ensures some { IfSome result (λ terms. (links_of links ≡ Some terms.links) × (order_of order ≡ Some terms.order)) }
-    ensures none { IfNone result (AreTerms links order → ⊥) }
+/// The terms of three numbers.
+fn terms_of(links: u8, masters: u8, ports: u8) -> Option<Terms>
+    ensures links { IfSome result (λ terms. links_of links ≡ Some terms.links) }
+    ensures masters { IfSome result (λ terms. order_of masters ≡ Some terms.orders.masters) }
+    ensures ports { IfSome result (λ terms. order_of ports ≡ Some terms.orders.ports) }
+    ensures none { IfNone result (AreTerms links masters ports → ⊥) }
 {
     let links = links_of(links)?;
-    let order = order_of(order)?;
-    Some(Terms { links, order })
+    let masters = order_of(masters)?;
+    let ports = order_of(ports)?;
+    let orders = SideOrders { masters, ports };
+    Some(Terms { links, orders })
 }
 
 /// The judge of a draft of which no image lacks, before any beat; or the first fault of its parts.
@@ -111,17 +115,18 @@ pub extern "C" fn tlx_judge_make_at(
     judge: &mut Handle,
     system: &mut Handle,
     links: u8,
-    order: u8,
+    masters: u8,
+    ports: u8,
     room: &mut [u8],
     written: &mut usize,
 ) -> u32
-    ensures bad_argument { result ≡ BAD_ARGUMENT ↔ (AreTerms links order → ⊥) }
-    ensures full { result ≡ FULL ↔ (AreTerms links order × (judge.old.value ≢ None)) }
+    ensures bad_argument { result ≡ BAD_ARGUMENT ↔ (AreTerms links masters ports → ⊥) }
+    ensures full { result ≡ FULL ↔ (AreTerms links masters ports × (judge.old.value ≢ None)) }
     ensures empty { result ≡ EMPTY
-        ↔ (AreTerms links order × (judge.old.value ≡ None) × (HasDraft system.old.value → ⊥)) }
+        ↔ (AreTerms links masters ports × (judge.old.value ≡ None) × (HasDraft system.old.value → ⊥)) }
     ensures unreadable { result ≡ IMAGE_UNREADABLE
-        ↔ (AreTerms links order × (judge.old.value ≡ None) × HoldsDraft LacksSome system.old.value) }
-    ensures ok { result ≡ OK → ByTerms links order (λ terms.
+        ↔ (AreTerms links masters ports × (judge.old.value ≡ None) × HoldsDraft LacksSome system.old.value) }
+    ensures ok { result ≡ OK → ByTerms links masters ports (λ terms.
         HoldsDraft (λ draft. HoldsJudge (IsJudgeOf terms draft) judge.new.value) system.old.value) }
     ensures fault { MEMORY < result → result ≢ BAD_ARGUMENT
         → HoldsDraft (λ draft. IsFaultOfDraft draft result) system.old.value }
@@ -134,7 +139,7 @@ pub extern "C" fn tlx_judge_make_at(
     ensures written { IsWritten room.old room.new written.new }
 {
     *written = put_text(room, b"");
-    let Some(terms) = terms_of(links, order) else {
+    let Some(terms) = terms_of(links, masters, ports) else {
         return BAD_ARGUMENT;
     };
     if is_full(alloc, judge) {
@@ -160,17 +165,18 @@ pub extern "C" fn tlx_judge_read_at(
     judge: &mut Handle,
     file: &[u8],
     links: u8,
-    order: u8,
+    masters: u8,
+    ports: u8,
     version: u32,
     room: &mut [u8],
     written: &mut usize,
 ) -> u32
     ensures version { result ≡ OTHER_VERSION ↔ (version ≢ VERSION) }
-    ensures bad_argument { result ≡ BAD_ARGUMENT ↔ ((version ≡ VERSION) × (AreTerms links order → ⊥)) }
+    ensures bad_argument { result ≡ BAD_ARGUMENT ↔ ((version ≡ VERSION) × (AreTerms links masters ports → ⊥)) }
     ensures full { result ≡ FULL
-        ↔ ((version ≡ VERSION) × AreTerms links order × (judge.old.value ≢ None)) }
+        ↔ ((version ≡ VERSION) × AreTerms links masters ports × (judge.old.value ≢ None)) }
     ensures ok { result ≡ OK
-        → ByTerms links order (λ terms. HoldsJudge (IsJudgeOfFile terms file.now) judge.new.value) }
+        → ByTerms links masters ports (λ terms. HoldsJudge (IsJudgeOfFile terms file.now) judge.new.value) }
     ensures fault { IsFileAnswer file.now result }
     ensures err { result ≢ OK → judge.new.value ≡ judge.old.value }
     ensures first { result ≢ OK → FULL ≤ result }
@@ -180,7 +186,7 @@ pub extern "C" fn tlx_judge_read_at(
     if version != VERSION {
         return OTHER_VERSION;
     }
-    let Some(terms) = terms_of(links, order) else {
+    let Some(terms) = terms_of(links, masters, ports) else {
         return BAD_ARGUMENT;
     };
     if is_full(alloc, judge) {

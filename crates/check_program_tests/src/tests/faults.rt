@@ -74,22 +74,22 @@ const OF_DUMPS: [(WaveFault, &str, u8); 14] = [
         1,
     ),
     (
-        WaveFault::Edges(EdgeFault::NeverRises),
+        WaveFault::Edges(EdgeFault::NeverRises(None)),
         "tlvcd: the clock never rises",
         1,
     ),
     (
-        WaveFault::Edges(EdgeFault::NeverFalls),
+        WaveFault::Edges(EdgeFault::NeverFalls(None)),
         "tlvcd: the clock never falls",
         1,
     ),
     (
-        WaveFault::Edges(EdgeFault::ResetAtEdges(true)),
+        WaveFault::Edges(EdgeFault::ResetAtEdges(None, true)),
         "tlvcd: the reset is active at every edge",
         1,
     ),
     (
-        WaveFault::Edges(EdgeFault::ResetAtEdges(false)),
+        WaveFault::Edges(EdgeFault::ResetAtEdges(None, false)),
         "tlvcd: the reset is active at every edge (reset_active = \"low\"?)",
         1,
     ),

@@ -1,11 +1,12 @@
--- The ranges of the memory are those of the port.
-use Rattle.std.proofs.Common.{◌∙◌, ◌^◌, subst, sym}
-use Rattle.check_memory.specs.Partial.{AreWithin}
-use Rattle.check_description.proofs.Ends.{all_within}
+-- The ranges of the memory are some of the port's.
+use Rattle.std.proofs.Common.{subst, sym}
+use Rattle.check_description.specs.Ranges.{AreRangesOfPort}
 use Rattle.check_description.proofs.slave.blank_of.Goals as goal
 
-pub new-requires : goal.new-requires
-new-requires c =
-    let port = c.args.port.now in
-    subst (λ ranges. AreWithin ranges (2 ^ 64)) (sym (c.in_ok-ranges.ensures.items ∙ c.deref.ensures.value))
-    (all_within port.ranges.items port.lawful)
+pub ranges_kept-requires : goal.ranges_kept-requires
+ranges_kept-requires c =
+    subst AreRangesOfPort (sym c.deref.ensures.value) c.args.port.now.lawful
+
+pub mirrors_kept-requires : goal.mirrors_kept-requires
+mirrors_kept-requires c =
+    subst AreRangesOfPort (sym c.deref-2.ensures.value) c.args.port.now.lawful

@@ -6,6 +6,6 @@ use Rattle.check_options.proofs.laws.coverage_is_refused.Goals as goal
 pub returns : goal.returns
 unfolding clap_on_literals
 returns c = record {
-  missing = refuses _ _ (λ l a b c f o d e g. refl);
-  twice = refuses _ _ (λ l a b c f o d e g. refl);
+  missing = refuses _ _ (λ l f o g. refl);
+  twice = refuses _ _ (λ l f o g. refl);
 }

@@ -10,8 +10,8 @@ unfolding clap_on_literals
 returns c = record {
   complete =
       asks (record plain { complete = true; capture = Some (codes "c.csv") }) _
-      (λ l a b c f o d e g. refl) (λ l a b c f o d e g. refl);
+      (λ l f o g. refl) (λ l f o g. refl);
   complete_behind =
       asks (record plain { links = Masters; trace = true; complete = true }) _
-      (λ l a b c f o d e g. refl) (λ l a b c f o d e g. refl);
+      (λ l f o g. refl) (λ l f o g. refl);
 }

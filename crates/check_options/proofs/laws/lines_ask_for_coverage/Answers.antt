@@ -10,8 +10,8 @@ unfolding clap_on_literals
 returns c = record {
   coverage =
       asks (record plain { coverage = Some (codes "c.cov"); capture = Some (codes "c.csv") }) _
-      (λ l a b c f o d e g. refl) (λ l a b c f o d e g. refl);
+      (λ l f o g. refl) (λ l f o g. refl);
   coverage_behind =
       asks (record plain { links = Masters; coverage = Some (codes "c.cov") }) _
-      (λ l a b c f o d e g. refl) (λ l a b c f o d e g. refl);
+      (λ l f o g. refl) (λ l f o g. refl);
 }

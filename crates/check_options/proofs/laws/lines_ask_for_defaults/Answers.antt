@@ -9,8 +9,8 @@ unfolding clap_on_literals
 returns c = record {
   input =
       asks plain _
-      (λ l a b c f o d e g. refl) (λ l a b c f o d e g. refl);
+      (λ l f o g. refl) (λ l f o g. refl);
   defaults =
       asks plain _
-      (λ l a b c f o d e g. refl) (λ l a b c f o d e g. refl);
+      (λ l f o g. refl) (λ l f o g. refl);
 }

@@ -9,8 +9,8 @@ unfolding clap_on_literals
 returns c = record {
   alone =
       asks plain _
-      (λ l a b c f o d e g. refl) (λ l a b c f o d e g. refl);
+      (λ l f o g. refl) (λ l f o g. refl);
   file =
       asks (record plain { capture = Some (codes "c.csv") }) _
-      (λ l a b c f o d e g. refl) (λ l a b c f o d e g. refl);
+      (λ l f o g. refl) (λ l f o g. refl);
 }

@@ -1,6 +1,7 @@
 use Rattle.std.proofs.Common.{refl, codes, Some}
 use Rattle.clap.proofs.OnLiterals.{clap_on_literals}
 use Rattle.check_watch.specs.declared.links.Links.TheVariants.{Masters, Ports}
+use Rattle.check_flight.specs.Order.{on_both}
 use Rattle.check_flight.specs.declared.order.Order.TheVariants.{Reply}
 use Rattle.check_options.specs.Options.{plain}
 use Rattle.check_options.proofs.CommandLine.{asks}
@@ -11,8 +12,8 @@ unfolding clap_on_literals
 returns c = record {
   masters =
       asks (record plain { links = Masters }) _
-      (λ l a b c f o d e g. refl) (λ l a b c f o d e g. refl);
+      (λ l f o g. refl) (λ l f o g. refl);
   ports =
-      asks (record plain { links = Ports; order = Reply; capture = Some (codes "c.csv") }) _
-      (λ l a b c f o d e g. refl) (λ l a b c f o d e g. refl);
+      asks (record plain { links = Ports; orders = on_both Reply; capture = Some (codes "c.csv") }) _
+      (λ l f o g. refl) (λ l f o g. refl);
 }

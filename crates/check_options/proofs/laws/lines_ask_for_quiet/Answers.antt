@@ -8,4 +8,4 @@ pub returns : goal.returns
 unfolding clap_on_literals
 returns c =
     asks (record plain { complete = true; quiet = true; capture = Some (codes "c.csv") }) _
-    (λ l a b c f o d e g. refl) (λ l a b c f o d e g. refl)
+    (λ l f o g. refl) (λ l f o g. refl)

@@ -3,7 +3,7 @@ use Rattle.std.specs.Prelude.{option_map, unwrap_or}
 use Rattle.clap.specs.Words.{Text, app_of, first_of, matches_of}
 use Rattle.tl_cli.specs.Rules.{file_of, flag_of, value_of}
 use Rattle.tl_cli.proofs.Rules.{first_read}
-use Rattle.check_options.specs.Options.{links_of, order_of}
+use Rattle.check_options.specs.Options.{links_of, orders_of}
 use Rattle.check_options.proofs.CommandLine.{is_free_line, is_simple_line, some_line}
 use Rattle.check_options.proofs.options.read_check_options.Goals as goal
 
@@ -27,8 +27,8 @@ returns g c =
     let or_none : Option Text → Text = λ o. unwrap_or o [] in
     let links : c.read_links.result ≡ links_of (value_of rows (codes "links")) =
     c.read_links.ensures ∙ ap links_of (c.value.ensures ∙ ap or_none (read (codes "links"))) in
-    let order : c.read_order.result ≡ order_of (value_of rows (codes "order")) =
-    c.read_order.ensures ∙ ap order_of (c.value-2.ensures ∙ ap or_none (read (codes "order"))) in
+    let orders : c.read_orders.result ≡ orders_of (value_of rows (codes "order")) =
+    c.read_orders.ensures ∙ ap orders_of (c.value-2.ensures ∙ ap or_none (read (codes "order"))) in
     let trace : c.read_flag.result ≡ flag_of (value_of rows (codes "trace")) =
     c.read_flag.ensures ∙ ap flag_of (c.value-3.ensures ∙ ap or_none (read (codes "trace"))) in
     let complete : c.read_flag-2.result ≡ flag_of (value_of rows (codes "complete")) =
@@ -47,6 +47,6 @@ returns g c =
         app = app_of command;
         is = line;
         faults = c.in_ok-matches.ensures.kinds (is_free_line _ line);
-        asked = rw (links, order, trace, complete, quiet, coverage, system, capture) refl;
+        asked = rw (links, orders, trace, complete, quiet, coverage, system, capture) refl;
       };
     }

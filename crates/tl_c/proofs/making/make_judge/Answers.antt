@@ -8,7 +8,7 @@ use Rattle.check_description.proofs.BlockLemmas.{error_is}
 use Rattle.check_description.specs.Description.{IsFirstFaultOf, Makes}
 use Rattle.check_description.specs.File.{Parts}
 use Rattle.check_sides.specs.View.{Keeps}
-use Rattle.check_start.specs.Slaves.{image_at}
+use Rattle.check_start.specs.Slaves.{image_at, shared_side}
 use Rattle.check_start.specs.Start.{ByThePlan}
 use Rattle.tl_c.specs.Draft.{image_bytes}
 use Rattle.tl_c.proofs.Drafts.{slaves_are}
@@ -31,7 +31,7 @@ returns-in_err-begun-clause-fault c =
     (subst (λ l. slice_get l k ≡ Some said) ports there))) in
     error_is (λ (fault : SystemFault). fault ≢ Memory → IsFirstFaultOf draft.parts fault) fault
     c.from_residual-in_err-begun.result c.from_residual-in_err-begun.ensures.1
-    (λ real. absurd (slaves_are c.args.terms.order given system.ports fits fault (c.in_err-begun.ensures.fault real)))
+    (λ real. absurd (slaves_are (shared_side c.args.terms.links) c.args.terms.orders given system.ports fits fault (c.in_err-begun.ensures.fault real)))
 
 pub returns-clause-ok : goal.returns-clause-ok
 returns-clause-ok c =

@@ -10,9 +10,9 @@ use Rattle.tl_c.proofs.making.tlx_judge_read_at.Goals as goal
 pub returns-in-Ok-clause-ok : goal.returns-in-Ok-clause-ok
 returns-in-Ok-clause-ok c ok =
     let file = c.args.file.now in
-    by_terms c.args.links c.args.order c.in-Some.terms
+    by_terms c.args.links c.args.masters c.args.ports c.in-Some.terms
     (λ (t : Terms). HoldsJudge (IsJudgeOfFile t file) c.hold.new.handle.value)
-    c.in-Some.ensures.some.0 c.in-Some.ensures.some.1
+    c.in-Some.ensures.links c.in-Some.ensures.masters c.in-Some.ensures.ports
     (subst (λ (v : Option HandleContent). HoldsJudge (IsJudgeOfFile c.in-Some.terms file) v) (sym (c.hold.ensures.ok ok))
     c.in-Ok.ensures.ok)
 

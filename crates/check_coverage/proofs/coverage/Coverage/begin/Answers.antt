@@ -1,5 +1,6 @@
 -- One is in flight, or it begins.
-use Rattle.std.proofs.Common.{◌≡◌, ◌∙◌, List, [], ◌∷◌, ◌++◌, Bool, true, false, ap, sym, subst}
+use Rattle.std.proofs.Common.{◌≡◌, ◌∙◌, List, [], ◌∷◌, ◌++◌, Bool, true, false, ap, ap₂, sym, subst}
+use Rattle.check_sides.specs.Plan.{Layout}
 use Rattle.std.specs.Prelude.{if◌then◌else◌, map}
 use Rattle.std.specs.Ordering.{nat_cmp}
 use Rattle.std.specs.BTreeMap.{get}
@@ -26,7 +27,7 @@ returns-then-is_some-clause-counts c = λ plan before suits is.
     any_is c.args.wide before c.deref.result.now (c.deref.ensures.value ∙ is) c.find_of.result c.find_of.ensures
     ∙ sym c.is_some.ensures ∙ c.if-is_some.true in
     let answered = get nat_cmp c.args.self.now.answered c.args.wide in
-    let some : List Bin = begin_bins before (begun plan c.args.wide c.args.beat.now) c.args.time answered in
+    let some : List Bin = begin_bins plan.layout.rules before (begun plan c.args.wide c.args.beat.now) c.args.time answered in
     subst (λ (l : List Bin). Adds c.args.self.now.counts c.args.self.now.counts l)
     (ap (λ (b : Bool). if b then [] else some) (sym there)) (adds_none c.args.self.now.counts)
 
@@ -48,7 +49,8 @@ returns-clause-counts c = λ plan before suits is.
     let this = begun plan c.args.wide c.args.beat.now in
     let answered = get nat_cmp c.args.self.now.answered c.args.wide in
     let same : c.copied-answered.result ≡ answered = c.copied-answered.ensures ∙ c.get.ensures.value in
-    let some : List Bin = begin_bins before this c.args.time answered in
+    let some : List Bin = begin_bins plan.layout.rules before this c.args.time answered in
+    let rules : c.rules.result ≡ plan.layout.rules = c.rules.ensures ∙ ap (λ (l : Layout). l.rules) suits.layout in
     subst (λ (l : List Bin). Adds c.args.self.now.counts c.count_begin.new.counts l)
-    (ap (begin_bins before this c.args.time) same ∙ ap (λ (b : Bool). if b then [] else some) (sym none))
+    (ap₂ (λ r a. begin_bins r before this c.args.time a) rules same ∙ ap (λ (b : Bool). if b then [] else some) (sym none))
     (c.in_ok-count_begin.ensures before this (c.deref-2.ensures.value ∙ is) (c.begun-flight.ensures plan suits))

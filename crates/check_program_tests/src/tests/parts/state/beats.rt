@@ -11,6 +11,7 @@ use std::process::Abort;
 const STRICT: LinkRules = LinkRules {
     unaligned: false,
     by_address: false,
+    period: 1,
 };
 
 /// The lanes of the widest bus.

@@ -1,8 +1,9 @@
-use Rattle.std.proofs.Common.{◌≡◌, ◌∙◌, ◌≤◌, [], List, length, ap, sym, subst, arith}
+use Rattle.std.proofs.Common.{◌≡◌, ◌∙◌, ◌≤◌, [], List, length, refl, ap, sym, subst, arith}
 use Rattle.std.specs.Prelude.{IsTrue}
 use Rattle.check_beats.specs.declared.bus.Bus.{Bus}
 use Rattle.check_flight.specs.PortSlave.{PortSlave}
 use Rattle.check_watch.specs.Plan.{IsPlan, Layout, Plan}
+use Rattle.check_watch.specs.declared.links.Links.TheVariants.{Each}
 use Rattle.check_sides.specs.Groups.{are_apart}
 use Rattle.check_sides.specs.View.{HaveBuses, Keeps, PortView, View, fresh_links}
 use Rattle.check_sides.proofs.Fresh.{each_is, fresh_buses, fresh_keeps, length-fresh_links}
@@ -16,10 +17,10 @@ made c = c.in_ok-ports.ensures ∙ ap (λ (b : List Bus). fresh_links b c.args.o
 pub invariant_of-result : goal.invariant_of-result
 invariant_of-result c = record {
   ports = λ apart.
-      let own = ap (λ (s : List PortSlave). length s) (c.requires.own (each_is c.args.links
-      (subst (λ (l : Layout). IsTrue (are_apart l.links)) c.in_ok-shared.ensures.layout apart))) in
+      let own = c.requires.own (each_is c.args.links
+      (subst (λ (l : Layout). IsTrue (are_apart l.links)) c.in_ok-shared.ensures.layout apart)) in
       let fits : length c.args.port_buses.items ≤ length c.args.own.items =
-      omega (arith, own, c.requires.slaves, c.requires.ports) in
+      omega (arith, own, c.requires.ports) in
       let links = ap (λ (l : List PortView). length l) (made c)
       ∙ length-fresh_links c.args.port_buses.items c.args.own.items fits in
       let ports = ap (λ (l : Layout). length l.ports) c.in_ok-shared.ensures.layout in
@@ -46,22 +47,33 @@ keeps_by : (c : goal.In_ok-shared) (plan : Plan) → IsPlan plan
       master_buses = c.args.master_buses.items;
       port_buses = c.args.port_buses.items;
     }
-    → plan.resets ≡ c.args.slaves.items → Keeps plan [] (made_of c)
-keeps_by c plan lawful layout resets =
+    → plan.resets ≡ c.args.slaves.items → (c.args.links ≡ Each → plan.own ≡ c.args.own.items)
+    → Keeps plan [] (made_of c)
+keeps_by c plan lawful layout resets own =
     fresh_keeps plan (made_of c) lawful (c.in_ok-shared.ensures.layout ∙ sym layout)
     (c.in_ok-shared.ensures.keeps plan lawful layout resets)
     (λ apart. made c
     ∙ ap (λ (s : List PortSlave). fresh_links c.args.port_buses.items s)
-    (c.requires.own (each_is c.args.links (subst (λ (l : Layout). IsTrue (are_apart l.links)) layout apart)) ∙ sym resets)
-    ∙ ap (λ (l : Layout). fresh_links l.port_buses plan.resets) (sym layout))
+    (sym (own (each_is c.args.links (subst (λ (l : Layout). IsTrue (are_apart l.links)) layout apart))))
+    ∙ ap (λ (l : Layout). fresh_links l.port_buses plan.own) (sym layout))
 
 pub returns-clause-keeps : goal.returns-clause-keeps
-returns-clause-keeps c plan lawful layout resets = keeps_by c plan lawful layout resets
+returns-clause-keeps c plan lawful layout resets own = keeps_by c plan lawful layout resets own
+
+-- a plan with other slaves of the ports' links is one as well
+abbrev with_own : Plan → List PortSlave → Plan
+with_own plan own = record plan { own = own }
+
+is_plan_with : (plan : Plan) (own : List PortSlave) → IsPlan plan → IsPlan (with_own plan own)
+is_plan_with plan own is = record { owners = is.owners; wide = is.wide; decode = is.decode }
 
 pub returns-clause-plan : goal.returns-clause-plan
 returns-clause-plan c =
-    let found = c.in_ok-shared.ensures.plan in (
-      found.0,
+    let found = c.in_ok-shared.ensures.plan in
+    let plan = with_own found.0 c.args.own.items in (
+      plan,
       found.1,
-      keeps_by c found.0 found.2.suits.lawful (sym found.2.suits.layout ∙ c.in_ok-shared.ensures.layout) found.1,
+      refl,
+      keeps_by c plan (is_plan_with found.0 c.args.own.items found.2.suits.lawful)
+          (sym found.2.suits.layout ∙ c.in_ok-shared.ensures.layout) found.1 (λ each. refl),
     )

@@ -1,4 +1,4 @@
-use Rattle.std.proofs.Common.{◌∙◌, length, refl, ap, subst, sym}
+use Rattle.std.proofs.Common.{◌∙◌, [], length, refl, ap, subst, sym}
 use Rattle.tl_map.specs.Map.{RoutesBytes}
 use Rattle.tl_map.proofs.Routing.{one_port}
 use Rattle.check_beats.specs.Rules.{decoded_size}
@@ -37,6 +37,7 @@ returns-clause-plan c =
         port_buses = c.args.port_buses.items;
       };
       resets = c.args.slaves.items;
+      own = [];
       wide = wide_by c.args.sources;
       decode = λ address size. c.ports-slots.ensures.routes.0 address (decoded_size c.args.rules size);
     } in

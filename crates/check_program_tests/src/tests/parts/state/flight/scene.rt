@@ -17,8 +17,9 @@ pub fn ram(rt: &impl Abort, alloc: Global, order: Order) -> Result<PortSlave, Al
         length: 0x1000,
     })?;
     assert!(rt; are_within(&ranges));
-    let (sizes, volatile) = (Sizes::of(Kind::Ram), Vec::new(alloc));
-    let memory = PartialMemory::new(alloc, Kind::Ram, sizes, ranges, volatile, false);
+    let (sizes, alone) = (Sizes::of(Kind::Ram), Vec::new(alloc));
+    let volatile = Vec::new(alloc);
+    let memory = PartialMemory::new(alloc, Kind::Ram, sizes, ranges, alone, volatile, false);
     Ok(PortSlave::new(alloc, Slave::Memory(memory), order, true))
 }
 

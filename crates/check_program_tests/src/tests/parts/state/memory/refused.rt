@@ -18,8 +18,9 @@ fn ram(rt: &impl Abort, alloc: Global) -> Result<PartialMemory, AllocError> {
         length: 0x1_0000,
     })?;
     assert!(rt; are_within(&ranges));
-    let (sizes, volatile) = (Sizes::of(Kind::Ram), Vec::new(alloc));
-    Ok(PartialMemory::new(alloc, Kind::Ram, sizes, ranges, volatile, false))
+    let (sizes, alone) = (Sizes::of(Kind::Ram), Vec::new(alloc));
+    let volatile = Vec::new(alloc);
+    Ok(PartialMemory::new(alloc, Kind::Ram, sizes, ranges, alone, volatile, false))
 }
 
 /// These bytes stand at an address.

@@ -30,7 +30,15 @@ pub fn memory_of(
         kept.push(*range).expect(rt, "memory refused");
     }
     assert!(rt; are_within(&kept));
-    PartialMemory::new(alloc, kind, sizes, kept, Vec::new(alloc), known)
+    PartialMemory::new(
+        alloc,
+        kind,
+        sizes,
+        kept,
+        Vec::new(alloc),
+        Vec::new(alloc),
+        known,
+    )
 }
 
 /// A request's operation, size, address and bytes; whether its reply is denied, and the bytes that it has to have.
