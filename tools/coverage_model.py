@@ -17,10 +17,11 @@ def shape_of(data):
     return next((shape for shape, is_so in shapes.items() if is_so), "other")
 
 
-def meets(one, other):
-    """Whether two requests have a byte in common that one of them writes."""
-    low, high = sorted((one.row, other.row), key=lambda row: row.address)
-    return high.address < low.address + (1 << low.size) and (carries_data(one.name) or carries_data(other.name))
+def meets(slave, one, other):
+    """Whether two requests have a byte in common, where the memory of the slave has their bytes, and one of them writes."""
+    here, there = slave.start_of(one.ask()), slave.start_of(other.ask())
+    overlap = here < there + (1 << other.row.size) and there < here + (1 << one.row.size)
+    return overlap and (carries_data(one.name) or carries_data(other.name))
 
 
 class CoveringJudge(Judge):
@@ -60,7 +61,7 @@ class CoveringJudge(Judge):
             if name == "putpart":
                 self.count("mask", flight, shape_of(flight.data))
             others = [other for other in self.flights() if other is not flight and other.port == flight.port and other.is_whole]
-            if any(meets(flight, other) for other in others):
+            if any(meets(self.slaves[self.told][flight.port], flight, other) for other in others):
                 self.count("contested", flight, has_master=False)
 
     def end_reply(self, link, flight, reply):

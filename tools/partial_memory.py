@@ -95,7 +95,7 @@ class Slave:
         self.kind, self.sizes = port["kind"], port.get("sizes")
         self.is_unknown, self.served, self.kept = port.get("unknown", False), 0, []
         self.ranges = ranges_of(port)
-        self.is_mirror, base = port.get("mirror", False), self.ranges[0][0]
+        self.is_mirror, base = port.get("mirror", False) and self.kind != "device", self.ranges[0][0]
         self.volatile = [(base + offset, length) for offset, length in port.get("volatile", [])]
         self.cells = {base + place: byte for given in (image, bytes.fromhex(port.get("reset", ""))) for place, byte in enumerate(given)}
 
@@ -114,7 +114,8 @@ class Slave:
         return self.cells.get(address, None if self.is_unknown else 0)
 
     def start_of(self, ask):
-        """Where the bytes of a request stand: if the ranges are one memory, as far from the base of the first as from that of their own."""
+        """Where the bytes of a request stand: if the ranges are one memory, as far from the base of the first as from that of their own. A device
+        sees them at the address that is sent."""
         own = next((base for base, length in self.ranges if holds([(base, length)], ask.address, ask.size)), None)
         return ask.address if own is None or not self.is_mirror else self.ranges[0][0] + ask.address - own
 

@@ -1,5 +1,5 @@
 -- What one beat adds, as it is counted from what is kept of the requests in flight.
-use Rattle.std.proofs.Common.{◌≡◌, ◌∙◌, ℕ, Bool, true, false, List, [], ◌∷◌, length, Option, Some, None, refl, ap, sym}
+use Rattle.std.proofs.Common.{◌≡◌, ◌∙◌, ℕ, Bool, false, List, [], ◌∷◌, length, Option, Some, None, refl, ap, sym}
 use Rattle.std.specs.Prelude.{if◌then◌else◌, ◌==◌, not, map, filter, find, is_some, option_map, Result, OnOk}
 use Rattle.std.specs.List.{list_any}
 use Rattle.std.proofs.lemmas.Option.{none-some, same_Some}
@@ -9,7 +9,9 @@ use Rattle.check_coverage.specs.declared.bin.Bin.TheVariants as bin
 use Rattle.check_coverage.specs.declared.counts.Counts.{Counts}
 use Rattle.check_coverage.specs.declared.flight.CountedFlight.{CountedFlight}
 use Rattle.check_coverage.specs.Bins.{again, begin_bins, contested_bins, contests, is_of_master, is_of_port, is_younger, overtook_bins, bin_pair, with_one}
+use Rattle.check_sides.specs.Plan.{Plan}
 use Rattle.check_coverage.specs.Flights.{InFlight, is_of, kept}
+use Rattle.check_coverage.specs.Mirrors.{MirrorsView, mirrors_at}
 use Rattle.check_coverage.specs.View.{Adds}
 use Rattle.check_coverage.proofs.Counted.{adds_ok}
 use Rattle.check_coverage.proofs.Places.{filter_count, find_kept, found_any}
@@ -41,11 +43,12 @@ module _ (before : List InFlight) (this : InFlight) (flights : List CountedFligh
   begin_is m p rules time answered rest is_m is_p is_rest =
       λ i. bin.InFlight (is_this i).master (is_m i) ∷ bin.AtPort (is_this i).port (is_p i) ∷ is_rest i
 
-  pub contested_is : (b : Bool) → b ≡ list_any (contests this) before → b ≡ true
-      → (bin.Contested flight.port ∷ []) ≡ contested_bins before this
-  contested_is b tells is_true =
-      ap (λ (f : CountedFlight). bin.Contested f.port ∷ []) is_this
-      ∙ ap (λ t. if t then bin.Contested this.port ∷ [] else []) (sym is_true ∙ tells)
+  pub contested_is : (plan : Plan) (mirrors : MirrorsView) (b : Bool) → mirrors ≡ mirrors_at plan this.port
+      → b ≡ list_any (contests mirrors this) before
+      → (if b then bin.Contested flight.port ∷ [] else []) ≡ contested_bins plan before this
+  contested_is plan mirrors b seen tells =
+      (λ i. if tells i then bin.Contested (is_this i).port ∷ [] else [])
+      ∙ ap (λ m. if list_any (contests m this) before then bin.Contested this.port ∷ [] else []) seen
 
   -- the oldest one of its master
   pub oldest_is : find (λ (other : CountedFlight). other.master == flight.master) flights

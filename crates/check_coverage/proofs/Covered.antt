@@ -9,6 +9,7 @@ use Rattle.check_coverage.specs.declared.bin.Bin.{Bin}
 use Rattle.check_coverage.specs.declared.coverage.Coverage.{Coverage}
 use Rattle.check_coverage.specs.Bins.{bins, bins_by, bins_of}
 use Rattle.check_coverage.specs.Flights.{InFlight, answered_at, end_of, ends_at_reply, flights_after, in_flight, is_counted, kept, wide_at}
+use Rattle.check_coverage.specs.Mirrors.{mirrors_in}
 use Rattle.check_coverage.specs.Text.{TellsCoverage, bin_line}
 use Rattle.check_coverage.specs.View.{Covers, IsNoted, bin_cmp, capped, how_often}
 use Rattle.check_coverage.proofs.Counted.{how_often-append}
@@ -38,6 +39,7 @@ module _ (plan : Plan) (before : List SeenRow) (row : SeenRow) where
   pub covers_uncounted : (coverage : Coverage) → Covers plan before coverage
       → is_counted plan.layout.links row.sighting.link ≡ false → Covers plan (row ∷ before) coverage
   covers_uncounted coverage covers is = record {
+    mirrors = covers.mirrors;
     flights = covers.flights ∙ ap (λ b. map kept (flights_by b)) (sym is);
     answered = λ wide. covers.answered wide ∙ ap (λ b. answered_by wide b) (sym is);
     counts = λ bin. covers.counts bin ∙ ap (λ b. capped (how_often bin (bins_with b ++ bins plan before))) (sym is);
@@ -49,6 +51,7 @@ module _ (plan : Plan) (before : List SeenRow) (row : SeenRow) where
       → IsNoted plan bus (wide_at plan row.sighting) row.time row.sighting.beat (end_of plan before row) old new
       → Covers plan (row ∷ before) new
   covers_counted old new bus covers is is_bus noted = record {
+    mirrors = λ port. ap (λ m. mirrors_in m.items port) noted.mirrors ∙ covers.mirrors port;
     flights = noted.flights (in_flight plan before) covers.flights
         ∙ ap (λ b. map kept (flights_after plan b (wide_at plan row.sighting) (in_flight plan before)
         row.sighting.beat (end_of plan before row))) is_bus

@@ -27,7 +27,8 @@ ok_then (Err fault) next first = tt
 -- ---- a beat of channel A: its request begins if none is in flight, has one beat more, and ends
 
 module _ (plan : Plan) (bus wide time : ℕ) (beat : AskHead) (end : Ended) (old mid : Coverage)
-    (grown : Vec CountedFlight Global) (whole : Bool) (new : Coverage) (answered : mid.answered ≡ old.answered)
+    (grown : Vec CountedFlight Global) (whole : Bool) (new : Coverage) (mirrors : mid.mirrors ≡ old.mirrors)
+    (answered : mid.answered ≡ old.answered)
     (flights : (before : List InFlight) → old.flights.items ≡ map kept before
     → mid.flights.items ≡ map kept (with_begun plan wide beat before))
     (counts : (before : List InFlight) → old.flights.items ≡ map kept before
@@ -41,17 +42,19 @@ module _ (plan : Plan) (bus wide time : ℕ) (beat : AskHead) (end : Ended) (old
       grows (with_begun plan wide beat before) (flights before is)
       ∙ ap (λ w. map kept (map (with_beat bus wide beat w) (with_begun plan wide beat before))) is_whole
 
-  pub ask_noted : {E : Type 0} (r : Result (Unit {0}) E) → new.answered ≡ mid.answered → new.flights ≡ grown
+  pub ask_noted : {E : Type 0} (r : Result (Unit {0}) E) → new.mirrors ≡ mid.mirrors → new.answered ≡ mid.answered
+      → new.flights ≡ grown
       → ((after : List InFlight) → grown.items ≡ map kept after
-      → OnOk r (Adds mid.counts new.counts (last_bins bus wide after beat end)))
+      → OnOk r (Adds mid.counts new.counts (last_bins plan bus wide after beat end)))
       → OnOk r (IsNoted plan bus wide time (A beat) end old new)
-  ask_noted (Err fault) kept_answered kept_flights ended = tt
-  ask_noted (Ok done) kept_answered kept_flights ended = record {
+  ask_noted (Err fault) kept_mirrors kept_answered kept_flights ended = tt
+  ask_noted (Ok done) kept_mirrors kept_answered kept_flights ended = record {
+    mirrors = kept_mirrors ∙ mirrors;
     answered = λ other. ap (λ m. get nat_cmp m other) (kept_answered ∙ answered);
     flights = λ before is. ap (λ v. v.items) kept_flights ∙ after_grown before is;
     counts = λ before is. adds_then old.counts mid.counts new.counts
         (first_bins plan wide before time (get nat_cmp old.answered wide) beat)
-        (last_bins bus wide (flights_after plan bus wide before (A beat) end) beat end)
+        (last_bins plan bus wide (flights_after plan bus wide before (A beat) end) beat end)
         (counts before is)
         (ended (flights_after plan bus wide before (A beat) end) (after_grown before is));
   }
@@ -73,13 +76,14 @@ same_number a b = go (cases_lt a b)
         ap (λ t. is_eq (cond t Less (cond (a == b) Equal Greater))) (le-ltb a b above) ∙ equal_is (a == b)
 
 pub reply_noted : (plan : Plan) (bus wide time : ℕ) (beat : ReplyHead) (old mid : Coverage) (left : Vec CountedFlight Global)
-    (times : BTreeMap ℕ ℕ) → mid.answered ≡ old.answered → mid.flights ≡ old.flights
+    (times : BTreeMap ℕ ℕ) → mid.mirrors ≡ old.mirrors → mid.answered ≡ old.answered → mid.flights ≡ old.flights
     → ((before : List InFlight) → old.flights.items ≡ map kept before
     → Adds old.counts mid.counts (of_found (find (is_of wide) before) (reply_bins bus before beat)))
     → left.items ≡ filter (λ (flight : CountedFlight). not (flight.wide == wide)) mid.flights.items
     → Updates nat_cmp mid.answered times wide (Some time)
     → IsNoted plan bus wide time (D beat) ends.Reply old (record mid { flights = left; answered = times })
-reply_noted plan bus wide time beat old mid left times answered flights counts lefts updates = record {
+reply_noted plan bus wide time beat old mid left times mirrors answered flights counts lefts updates = record {
+  mirrors = mirrors;
   answered = λ other. updates.0 other
       ∙ ap (λ b. cond b (Some time) (get nat_cmp mid.answered other)) (same_number wide other)
       ∙ ap (λ m. cond (wide == other) (Some time) (get nat_cmp m other)) answered;

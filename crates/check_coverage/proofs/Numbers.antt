@@ -14,6 +14,7 @@ use Rattle.check_coverage.specs.declared.bin.Bin.{Bin}
 use Rattle.check_coverage.specs.declared.bin.Bin.TheVariants as bin
 use Rattle.check_coverage.specs.Bins.{IsUpTo64, again, ask_bins, begin_bins, bins, bins_by, bins_of, contested_bins, contests, first_bins, is_of_master, is_younger, last_bins, mask_bins, of_found, bin_pair, reply_bins, with_one}
 use Rattle.check_coverage.specs.Flights.{InFlight, answered_at, begun, end_of, flights_after, in_flight, is_counted, is_of, ends_an_ask, ends_a_reply, wide_at}
+use Rattle.check_coverage.specs.Mirrors.{mirrors_at}
 use Rattle.check_coverage.specs.Shape.{shape_of}
 
 abbrev AllUpTo64 : List Bin → Type 0
@@ -35,14 +36,14 @@ begin_up : (rules : LinkRules) (flights : List InFlight) (flight : InFlight) (ti
     → AllUpTo64 (begin_bins rules flights flight time answered)
 begin_up rules flights flight time answered = (up_to_64 _, (up_to_64 _, again_up rules flight time answered))
 
-ask_up : (bus : ℕ) (flights : List InFlight) (beat : AskHead) (flight : InFlight)
-    → AllUpTo64 (ask_bins bus flights beat flight)
-ask_up bus flights beat flight = (
+ask_up : (plan : Plan) (bus : ℕ) (flights : List InFlight) (beat : AskHead) (flight : InFlight)
+    → AllUpTo64 (ask_bins plan bus flights beat flight)
+ask_up plan bus flights beat flight = (
   tt,
   (
     tt,
-    both (mask_bins flight) (contested_bins flights flight) (mask (flight.first.opcode == 1))
-        (contested (list_any (contests flight) flights)),
+    both (mask_bins flight) (contested_bins plan flights flight) (mask (flight.first.opcode == 1))
+        (contested (list_any (contests (mirrors_at plan flight.port) flight) flights)),
   ),
 )
   where
@@ -73,7 +74,7 @@ module _ (plan : Plan) (bus wide : ℕ) (flights : List InFlight) (time : ℕ) (
   beat_up : (beat : Beat) → AllUpTo64 (bins_by plan bus wide flights time answered beat end)
   beat_up (A beat) =
       both (first_bins plan wide flights time answered beat)
-      (last_bins bus wide (flights_after plan bus wide flights (A beat) end) beat end)
+      (last_bins plan bus wide (flights_after plan bus wide flights (A beat) end) beat end)
       (first (list_any (is_of wide) flights)) (last (ends_an_ask end))
     where
       first : (b : Bool)
@@ -83,9 +84,9 @@ module _ (plan : Plan) (bus wide : ℕ) (flights : List InFlight) (time : ℕ) (
 
       last : (b : Bool) → AllUpTo64 (if b then of_found (find (is_of wide)
           (flights_after plan bus wide flights (A beat) end))
-          (ask_bins bus (flights_after plan bus wide flights (A beat) end) beat) else [])
+          (ask_bins plan bus (flights_after plan bus wide flights (A beat) end) beat) else [])
       last true = found_up (find (is_of wide) (flights_after plan bus wide flights (A beat) end)) _
-          (ask_up bus (flights_after plan bus wide flights (A beat) end) beat)
+          (ask_up plan bus (flights_after plan bus wide flights (A beat) end) beat)
       last false = tt
   beat_up (D beat) = go (ends_a_reply end)
     where

@@ -18,6 +18,7 @@ use Rattle.check_coverage.specs.declared.bin.CountedChannel.TheVariants as chann
 use Rattle.check_coverage.specs.declared.bin.Operation.{Operation}
 use Rattle.check_coverage.specs.declared.bin.Pair.{Pair}
 use Rattle.check_coverage.specs.Flights.{InFlight, answered_at, begun, end_of, flights_after, in_flight, is_counted, is_of, is_unaligned, ends_an_ask, ends_a_reply, wide_at}
+use Rattle.check_coverage.specs.Mirrors.{MirrorsView, mirrors_at, place_of}
 use Rattle.check_coverage.specs.Shape.{shape_of}
 
 -- ---- a request begins
@@ -60,31 +61,37 @@ operation_of flight = record { opcode = flight.first.opcode; param = flight.firs
 abbrev pub writes : AskHead → Bool
 writes beat = nat_lt beat.opcode 4
 
--- the requests have a byte in common, and one of them writes
-abbrev pub meets : AskHead → AskHead → Bool
-meets one other =
-    (nat_lt one.address (other.address + 2 ^ other.size) && nat_lt other.address (one.address + 2 ^ one.size))
-    && (writes one || writes other)
+-- the requests have a byte in common: their windows overlap where the memory has them
+abbrev pub overlap : MirrorsView → AskHead → AskHead → Bool
+overlap mirrors one other =
+    nat_lt (place_of mirrors one) (place_of mirrors other + 2 ^ other.size)
+    && nat_lt (place_of mirrors other) (place_of mirrors one + 2 ^ one.size)
 
--- another request of the same port, which is whole, meets this one
-abbrev pub contests : InFlight → InFlight → Bool
-contests flight other =
-    (not (is_of flight.wide other) && is_of_port flight.port other) && (other.is_whole && meets flight.first other.first)
+-- they have, and one of them writes
+abbrev pub meets : MirrorsView → AskHead → AskHead → Bool
+meets mirrors one other = overlap mirrors one other && (writes one || writes other)
+
+-- another request of the same port, which is whole, meets this one; the memory of the port is seen from here
+abbrev pub contests : MirrorsView → InFlight → InFlight → Bool
+contests mirrors flight other =
+    (not (is_of flight.wide other) && is_of_port flight.port other)
+    && (other.is_whole && meets mirrors flight.first other.first)
 
 -- a partial put gives bytes
 abbrev pub mask_bins : InFlight → List Bin
 mask_bins flight =
     if flight.first.opcode == 1 then bin.Mask (bin_pair flight) (shape_of flight.first.size flight.given) ∷ [] else []
 
-abbrev pub contested_bins : List InFlight → InFlight → List Bin
-contested_bins flights flight = if list_any (contests flight) flights then bin.Contested flight.port ∷ [] else []
+abbrev pub contested_bins : Plan → List InFlight → InFlight → List Bin
+contested_bins plan flights flight =
+    if list_any (contests (mirrors_at plan flight.port) flight) flights then bin.Contested flight.port ∷ [] else []
 
 -- what the last beat of a request adds on a bus of so many bytes, when these are in flight, and it is one of them
-abbrev pub ask_bins : ℕ → List InFlight → AskHead → InFlight → List Bin
-ask_bins bus flights beat flight =
+abbrev pub ask_bins : Plan → ℕ → List InFlight → AskHead → InFlight → List Bin
+ask_bins plan bus flights beat flight =
     bin.Asked (bin_pair flight) (operation_of flight) (is_unaligned flight.first)
     ∷ bin.Beats (bin_pair flight) channel.A (ask_beats bus beat)
-    ∷ (mask_bins flight ++ contested_bins flights flight)
+    ∷ (mask_bins flight ++ contested_bins plan flights flight)
 
 -- ---- a reply is whole
 
@@ -117,15 +124,15 @@ first_bins plan wide flights time answered beat =
     if list_any (is_of wide) flights then [] else begin_bins plan.layout.rules flights (begun plan wide beat) time answered
 
 -- what it adds as the last one, when these are in flight after it
-abbrev pub last_bins : ℕ → ℕ → List InFlight → AskHead → Ended → List Bin
-last_bins bus wide flights beat end =
-    if ends_an_ask end then of_found (find (is_of wide) flights) (ask_bins bus flights beat) else []
+abbrev pub last_bins : Plan → ℕ → ℕ → List InFlight → AskHead → Ended → List Bin
+last_bins plan bus wide flights beat end =
+    if ends_an_ask end then of_found (find (is_of wide) flights) (ask_bins plan bus flights beat) else []
 
 -- what one beat more adds when these are in flight before it
 abbrev pub bins_by : Plan → ℕ → ℕ → List InFlight → ℕ → Option ℕ → Beat → Ended → List Bin
 bins_by plan bus wide flights time answered (A beat) end =
     first_bins plan wide flights time answered beat
-    ++ last_bins bus wide (flights_after plan bus wide flights (A beat) end) beat end
+    ++ last_bins plan bus wide (flights_after plan bus wide flights (A beat) end) beat end
 bins_by plan bus wide flights time answered (D beat) end =
     if ends_a_reply end then of_found (find (is_of wide) flights) (reply_bins bus flights beat) else []
 

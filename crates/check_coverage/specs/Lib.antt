@@ -1,5 +1,6 @@
 pub mod Shape
 pub mod Flights
+pub mod Mirrors
 pub mod Bins
 pub mod View
 pub mod Text

@@ -9,6 +9,7 @@ use Rattle.check_sides.specs.Plan.{Plan}
 use Rattle.check_rows.specs.Row.{SeenRow}
 use Rattle.check_coverage.specs.Bins.{bins, bins_by}
 use Rattle.check_coverage.specs.Flights.{InFlight, answered_at, ends_at_reply, flights_after, in_flight, kept}
+use Rattle.check_coverage.specs.Mirrors.{HasMirrors}
 use Rattle.check_coverage.specs.contracts.bin.BinOrd.TheImpl as bin_ord
 use Rattle.check_coverage.specs.declared.bin.Bin.{Bin}
 use Rattle.check_coverage.specs.declared.counts.Counts.{Counts}
@@ -39,6 +40,7 @@ Adds old new bins =
 
 -- one beat more was noted, of a wide source and at a link that is counted: its bus has so many bytes, and it ends this
 pub record IsNoted (plan : Plan) (bus wide time : ℕ) (beat : Beat) (end : Ended) (old new : Coverage) : Type 0 where
+  pub mirrors : new.mirrors ≡ old.mirrors
   pub answered : (other : ℕ) → get nat_cmp new.answered other
       ≡ (if ends_at_reply beat end && (wide == other) then Some time else get nat_cmp old.answered other)
   pub flights : (before : List InFlight) → old.flights.items ≡ map kept before
@@ -46,9 +48,10 @@ pub record IsNoted (plan : Plan) (bus wide time : ℕ) (beat : Beat) (end : Ende
   pub counts : (before : List InFlight) → old.flights.items ≡ map kept before
       → Adds old.counts new.counts (bins_by plan bus wide before time (get nat_cmp old.answered wide) beat end)
 
--- this is what is kept of these rows: of each bin how often they add it, up to 2 ^ 64 - 1, which requests are in flight
--- after them, and when the last reply to each source ended
+-- this is what is kept of these rows: from where the memories of the ports are seen, of each bin how often the rows add
+-- it, up to 2 ^ 64 - 1, which requests are in flight after them, and when the last reply to each source ended
 pub record Covers (plan : Plan) (rows : List SeenRow) (coverage : Coverage) : Type 0 where
+  pub mirrors : HasMirrors plan coverage.mirrors.items
   pub flights : coverage.flights.items ≡ map kept (in_flight plan rows)
   pub answered : (wide : ℕ) → get nat_cmp coverage.answered wide ≡ answered_at plan rows wide
   pub counts : (bin : Bin) → count_of coverage.counts bin ≡ capped (how_often bin (bins plan rows))

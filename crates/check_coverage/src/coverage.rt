@@ -12,6 +12,7 @@ ghost use Rattle.check_unanswered.specs.Began.{beats_of, row_with};
 ghost use Rattle.check_watch.specs.declared.beat.Beat.TheVariants.{A, D};
 ghost use Rattle.check_coverage.specs.Bins.{ask_bins, begin_bins, contested_bins, first_bins, last_bins, mask_bins, of_found, reply_bins, step_of, with_one};
 ghost use Rattle.check_coverage.specs.Flights.{HasSize, InFlight, begun, end_of, is_counted, is_of, ends_an_ask, kept, master_of, with_begun};
+ghost use Rattle.check_coverage.specs.Mirrors.{HasMirrors};
 ghost use Rattle.check_coverage.specs.Text.{TellsCoverage};
 ghost use Rattle.check_coverage.specs.View.{Adds, Covers, IsNoted};
 
@@ -22,6 +23,7 @@ use crate::lists::{
     count_of_master, count_of_port, find_of, grow, is_contested, oldest_of, remove,
 };
 use crate::marks::Marks;
+use crate::mirrors::Mirrors;
 use check_beats::{AskHead, Bus, LinkRules, ReplyHead, beat_count_on_bus};
 use check_rows::Row;
 use check_sides::{Beat, Ended, Link, Links, Watch};
@@ -36,6 +38,8 @@ pub const MOST_IN_FLIGHT: usize = 64;
 /// What the rows that were judged have covered.
 #[derive(Drop)]
 pub struct Coverage {
+    /// From where the memory of each port is seen.
+    mirrors: Vec<Mirrors>,
     /// Those that are counted, the one that began first in front.
     flights: Vec<CountedFlight>,
     /// When the last reply to each wide source ended.
@@ -161,39 +165,43 @@ fn count_mask(counts: &mut Counts, flight: &CountedFlight) -> Result<(), AllocEr
     }
 }
 
-/// Counts a request that meets another one.
+/// Counts a request that meets another one. The memories of the ports are seen from here.
 fn count_contested(
     counts: &mut Counts,
     flights: &[CountedFlight],
     flight: &CountedFlight,
+    mirrors: &[Mirrors],
 ) -> Result<(), AllocError>
-    ensures { (after : List InFlight) (this : InFlight) → flights.now ≡ map kept after → flight.now ≡ kept this
-        → OnOk result (Adds counts.old counts.new (contested_bins after this)) }
+    ensures { (plan : Plan) (after : List InFlight) (this : InFlight) → HasMirrors plan mirrors.now
+        → flights.now ≡ map kept after → flight.now ≡ kept this
+        → OnOk result (Adds counts.old counts.new (contested_bins plan after this)) }
 {
-    if is_contested(flights, flight) {
+    if is_contested(flights, flight, mirrors) {
         counts.add(Bin::Contested(flight.port))
     } else {
         Ok(())
     }
 }
 
-/// Counts what the last beat of a request adds.
+/// Counts what the last beat of a request adds. The memories of the ports are seen from here.
 fn count_ask(
     counts: &mut Counts,
     flights: &[CountedFlight],
     flight: &CountedFlight,
+    mirrors: &[Mirrors],
     bus: Bus,
     beat: &AskHead,
 ) -> Result<(), AllocError>
     requires { beat.now.size ≤ MAX_SIZE }
-    ensures { (after : List InFlight) (this : InFlight) → flights.now ≡ map kept after → flight.now ≡ kept this
-        → OnOk result (Adds counts.old counts.new (ask_bins (bus_bytes bus) after beat.now this)) }
+    ensures { (plan : Plan) (after : List InFlight) (this : InFlight) → HasMirrors plan mirrors.now
+        → flights.now ≡ map kept after → flight.now ≡ kept this
+        → OnOk result (Adds counts.old counts.new (ask_bins plan (bus_bytes bus) after beat.now this)) }
 {
     let beats = beat_count_on_bus(bus, beat.opcode < 4, beat.size);
     counts.add(Bin::Asked(flight.pair(), flight.operation(), flight.is_unaligned))?;
     counts.add(Bin::Beats(flight.pair(), CountedChannel::A, beats))?;
     count_mask(counts, flight)?;
-    count_contested(counts, flights, flight)
+    count_contested(counts, flights, flight, mirrors)
 }
 
 /// Counts what the last beat of a reply adds.
@@ -224,11 +232,13 @@ fn count_reply(
 }
 
 impl Coverage {
-    /// Nothing is covered.
-    pub fn new(alloc: Global) -> Coverage
-        ensures { (plan : Plan) → Covers plan [] result }
+    /// Nothing is covered. The memory of each port is seen from here; that of a port that is not listed, at the addresses
+    /// that are sent.
+    pub fn new(alloc: Global, mirrors: Vec<Mirrors>) -> Coverage
+        ensures { (plan : Plan) → HasMirrors plan mirrors.items → Covers plan [] result }
     {
         Coverage {
+            mirrors,
             flights: Vec::new(alloc),
             answered: BTreeMap::new(alloc),
             counts: Counts::new(alloc),
@@ -244,6 +254,7 @@ impl Coverage {
         beat: &AskHead,
     ) -> Result<(), AllocError>
         requires { beat.now.size ≤ MAX_SIZE }
+        ensures mirrors { self.new.mirrors ≡ self.old.mirrors }
         ensures answered { self.new.answered ≡ self.old.answered }
         ensures flights { (plan : Plan) (before : List InFlight) → Suits plan watch.now
             → self.old.flights.items ≡ map kept before
@@ -273,17 +284,26 @@ impl Coverage {
     /// Counts the last beat of a request, if it is that.
     fn end(&mut self, wide: u16, beat: &AskHead, bus: Bus, end: Ended) -> Result<(), AllocError>
         requires { beat.now.size ≤ MAX_SIZE }
+        ensures mirrors { self.new.mirrors ≡ self.old.mirrors }
         ensures answered { self.new.answered ≡ self.old.answered }
         ensures flights { self.new.flights ≡ self.old.flights }
-        ensures counts { (after : List InFlight) → self.old.flights.items ≡ map kept after
+        ensures counts { (plan : Plan) (after : List InFlight) → HasMirrors plan self.old.mirrors.items
+            → self.old.flights.items ≡ map kept after
             → OnOk result (Adds self.old.counts self.new.counts
-            (last_bins (bus_bytes bus) wide after beat.now end)) }
+            (last_bins plan (bus_bytes bus) wide after beat.now end)) }
     {
         if !ends_an_ask(end) {
             return Ok(());
         }
         match find_of(&self.flights, wide) {
-            Some(flight) => count_ask(&mut self.counts, &self.flights, &flight, bus, beat),
+            Some(flight) => count_ask(
+                &mut self.counts,
+                &self.flights,
+                &flight,
+                &self.mirrors,
+                bus,
+                beat,
+            ),
             None => Ok(()),
         }
     }
@@ -299,7 +319,7 @@ impl Coverage {
         end: Ended,
     ) -> Result<(), AllocError>
         requires { beat.now.size ≤ MAX_SIZE }
-        ensures { (plan : Plan) → Suits plan watch.now
+        ensures { (plan : Plan) → Suits plan watch.now → HasMirrors plan self.old.mirrors.items
             → OnOk result (IsNoted plan (bus_bytes bus) wide time (A beat.now) end self.old self.new) }
     {
         self.begin(watch, wide, time, beat)?;
@@ -310,6 +330,7 @@ impl Coverage {
     /// Counts the last beat of a reply.
     fn answer(&mut self, wide: u16, beat: &ReplyHead, bus: Bus) -> Result<(), AllocError>
         requires { beat.now.size ≤ MAX_SIZE }
+        ensures mirrors { self.new.mirrors ≡ self.old.mirrors }
         ensures answered { self.new.answered ≡ self.old.answered }
         ensures flights { self.new.flights ≡ self.old.flights }
         ensures counts { (before : List InFlight) → self.old.flights.items ≡ map kept before
@@ -369,7 +390,7 @@ impl Coverage {
         bus: Bus,
         end: Ended,
     ) -> Result<(), AllocError>
-        ensures { (plan : Plan) → Suits plan watch.now → HasSize beat.now
+        ensures { (plan : Plan) → Suits plan watch.now → HasMirrors plan self.old.mirrors.items → HasSize beat.now
             → OnOk result (IsNoted plan (bus_bytes bus) wide time beat.now end self.old self.new) }
     {
         match beat {

@@ -1,11 +1,14 @@
 //! A request in flight, as it is kept.
-ghost use Rattle.std.specs.Prelude.{◌≡◌, ◌≤◌, ◌<◌, ◌+◌, ◌&&◌, ◌||◌, ◌==◌, not, nat_lt};
+ghost use Rattle.std.specs.Prelude.{◌≡◌, ◌≤◌, ◌<◌, ◌^◌};
 ghost use Rattle.check_beats.specs.Bus.{bus_bytes};
-ghost use Rattle.check_coverage.specs.Bins.{contests, operation_of, bin_pair};
+ghost use Rattle.check_coverage.specs.Bins.{bin_pair, contests, meets, operation_of, overlap};
 ghost use Rattle.check_coverage.specs.Flights.{InFlight, kept, with_beat};
+ghost use Rattle.check_coverage.specs.Mirrors.{mirrors_in};
+ghost use Rattle.check_memory.specs.Partial.{start_in};
 
 use crate::bin::{Operation, Pair};
 use crate::marks::Marks;
+use crate::mirrors::{Mirrors, start_at};
 use check_beats::{AskHead, Bus};
 use tl_types::MAX_SIZE;
 
@@ -66,30 +69,42 @@ impl CountedFlight {
         }
     }
 
-    /// Whether the requests have a byte in common.
-    fn overlaps(&self, other: &CountedFlight) -> bool
-        ensures { result ≡ (nat_lt self.now.first.address (other.now.first.address + other.now.span)
-            && nat_lt other.now.first.address (self.now.first.address + self.now.span)) }
+    /// Where the memory of the port of this request has another one.
+    fn place_of(&self, other: &CountedFlight, mirrors: &[Mirrors]) -> u128
+        ensures value { result ≡ start_in (mirrors_in mirrors.now self.now.port).range
+            (mirrors_in mirrors.now self.now.port).others other.now.first.address other.now.span }
+        ensures bound { result < 2 ^ 65 }
     {
-        u128::from(self.first.address) < u128::from(other.first.address) + u128::from(other.span)
-            && u128::from(other.first.address)
-                < u128::from(self.first.address) + u128::from(self.span)
+        start_at(mirrors, self.port, other.first.address, other.span)
+    }
+
+    /// Whether the requests have a byte of that memory in common.
+    fn overlaps(&self, other: &CountedFlight, mirrors: &[Mirrors]) -> bool
+        ensures { (flight rival : InFlight) → self.now ≡ kept flight → other.now ≡ kept rival
+            → result ≡ overlap (mirrors_in mirrors.now flight.port) flight.first rival.first }
+    {
+        let here = self.place_of(self, mirrors);
+        let there = self.place_of(other, mirrors);
+        here < there + u128::from(other.span) && there < here + u128::from(self.span)
     }
 
     /// Whether they have, and one of them writes.
-    fn meets(&self, other: &CountedFlight) -> bool
-        ensures { result ≡ ((nat_lt self.now.first.address (other.now.first.address + other.now.span)
-            && nat_lt other.now.first.address (self.now.first.address + self.now.span))
-            && (nat_lt self.now.first.opcode 4 || nat_lt other.now.first.opcode 4)) }
+    fn meets(&self, other: &CountedFlight, mirrors: &[Mirrors]) -> bool
+        ensures { (flight rival : InFlight) → self.now ≡ kept flight → other.now ≡ kept rival
+            → result ≡ meets (mirrors_in mirrors.now flight.port) flight.first rival.first }
     {
-        self.overlaps(other) && (self.first.opcode < 4 || other.first.opcode < 4)
+        self.overlaps(other, mirrors) && (self.first.opcode < 4 || other.first.opcode < 4)
     }
 
-    /// Whether another request of the same port, which is whole, meets this one.
-    pub fn contests(&self, other: &CountedFlight) -> bool
+    /// Whether another request of the same port, which is whole, meets this one. The memories of the ports are seen from
+    /// here.
+    pub fn contests(&self, other: &CountedFlight, mirrors: &[Mirrors]) -> bool
         ensures { (flight rival : InFlight) → self.now ≡ kept flight → other.now ≡ kept rival
-            → result ≡ contests flight rival }
+            → result ≡ contests (mirrors_in mirrors.now flight.port) flight rival }
     {
-        other.wide != self.wide && other.port == self.port && other.is_whole && self.meets(other)
+        other.wide != self.wide
+            && other.port == self.port
+            && other.is_whole
+            && self.meets(other, mirrors)
     }
 }

@@ -4,8 +4,10 @@ ghost use Rattle.std.specs.List.{list_any};
 ghost use Rattle.check_beats.specs.Bus.{bus_bytes};
 ghost use Rattle.check_coverage.specs.Bins.{contests};
 ghost use Rattle.check_coverage.specs.Flights.{InFlight, is_of, kept, with_beat};
+ghost use Rattle.check_coverage.specs.Mirrors.{mirrors_in};
 
 use crate::flight::CountedFlight;
+use crate::mirrors::Mirrors;
 use check_beats::{AskHead, Bus};
 use tl_types::MAX_SIZE;
 
@@ -43,13 +45,13 @@ pub fn count_of_port(flights: &[CountedFlight], port: usize) -> usize
     flights.iter().filter(|flight| flight.port == port).count()
 }
 
-/// Whether another request contests this one.
-pub fn is_contested(flights: &[CountedFlight], flight: &CountedFlight) -> bool
+/// Whether another request contests this one. The memories of the ports are seen from here.
+pub fn is_contested(flights: &[CountedFlight], flight: &CountedFlight, mirrors: &[Mirrors]) -> bool
     ensures { (before : List InFlight) (this : InFlight) → flights.now ≡ map kept before → flight.now ≡ kept this
-        → result ≡ list_any (contests this) before }
+        → result ≡ list_any (contests (mirrors_in mirrors.now this.port) this) before }
 {
     for other in flights {
-        if flight.contests(other) {
+        if flight.contests(other, mirrors) {
             return true;
         }
     }

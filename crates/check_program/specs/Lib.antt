@@ -5,3 +5,4 @@ pub mod System
 pub mod Engine
 pub mod Front
 pub mod Dump
+pub mod Mirrors

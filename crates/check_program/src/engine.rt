@@ -5,6 +5,8 @@ ghost use Rattle.check_description.specs.File.{parts_view, Parts as PartsView};
 ghost use Rattle.check_sides.specs.Plan.{Plan};
 ghost use Rattle.check_sides.specs.View.{Keeps};
 ghost use Rattle.check_unanswered.specs.View.{Holds};
+ghost use Rattle.check_start.specs.Start.{IsPlanOf};
+ghost use Rattle.check_start.specs.declared.start.Terms.{Terms as IsTerms};
 ghost use Rattle.check_coverage.specs.View.{Covers};
 ghost use Rattle.check_review.specs.View.{Judges, is_asked, is_covered, is_traced};
 ghost use Rattle.check_lines.specs.Verdict.{empty_line, lawful_line};
@@ -17,10 +19,11 @@ use crate::asked::Asked;
 use crate::dump::check_dump;
 use crate::fault::CheckFault;
 use crate::front::{begins_dump, read_front};
+use crate::mirrors::mirrors_of;
 use crate::system::SystemFile;
 use check_beats::Bus;
 use check_coverage::Coverage;
-use check_description::{Parts, describe};
+use check_description::{Description, Parts, describe};
 use check_lines::{Names, VerdictCounts, push_empty, push_incomplete, push_lawful, push_unlawful};
 use check_review::Judge;
 use check_rows::Buses;
@@ -97,28 +100,39 @@ fn pending_if(alloc: Global, watch: &Watch, asked: bool) -> Result<Option<Pendin
     }
 }
 
-/// What a judge has covered that has seen no beat, if it is asked for.
-fn coverage_if(alloc: Global, asked: bool) -> Option<Coverage>
-    ensures asked { is_some result ≡ asked }
-    ensures none_yet { (plan : Plan) → IfSome result (Covers plan []) }
+/// What a judge of a system has covered that has seen no beat, if it is asked for.
+fn coverage_if(
+    alloc: Global,
+    system: &Description,
+    asked: bool,
+) -> Result<Option<Coverage>, AllocError>
+    ensures asked { IfOk result (λ coverage. is_some coverage ≡ asked) }
+    ensures none_yet { IfOk result (λ coverage. (terms : IsTerms) (images : List (List ℕ)) (plan : Plan)
+        → IsPlanOf terms system.now images plan → IfSome coverage (Covers plan [])) }
 {
     if asked {
-        Some(Coverage::new(alloc))
+        Ok(Some(Coverage::new(alloc, mirrors_of(alloc, system)?)))
     } else {
-        None
+        Ok(None)
     }
 }
 
-/// The judge of a capture, of a judge of beats that has seen none, which tells what is asked for.
-fn judge_of(alloc: Global, watch: Watch, asked: Asked) -> Result<Judge, AllocError>
-    ensures judges { IfOk result (λ judge. (plan : Plan) → Keeps plan [] watch → Judges plan [] judge) }
+/// The judge of a capture, of a judge of beats that has seen none, which tells what is asked for. If it is given what is
+/// covered, which is nothing yet, it counts what the rows cover.
+fn judge_of(
+    alloc: Global,
+    watch: Watch,
+    coverage: Option<Coverage>,
+    asked: Asked,
+) -> Result<Judge, AllocError>
+    ensures judges { IfOk result (λ judge. (plan : Plan) → Keeps plan [] watch → IfSome coverage (Covers plan [])
+        → Judges plan [] judge) }
     ensures layout { IfOk result (λ judge. judge.tally.watch.layout ≡ watch.layout) }
     ensures trace { IfOk result (λ judge. is_traced judge ≡ asked.trace) }
     ensures complete { IfOk result (λ judge. is_asked judge ≡ asked.complete) }
-    ensures coverage { IfOk result (λ judge. is_covered judge ≡ asked.coverage) }
+    ensures coverage { IfOk result (λ judge. is_covered judge ≡ is_some coverage) }
 {
     let pending = pending_if(alloc, &watch, asked.complete)?;
-    let coverage = coverage_if(alloc, asked.coverage);
     Ok(Judge::new(watch, asked.trace, pending, coverage))
 }
 
@@ -150,8 +164,9 @@ fn prepare(
         (IsUnprepared asked.terms (parts_view parts) (map (λ image. image.items) images.now)) }
 {
     let system = describe(alloc, parts)?;
+    let coverage = coverage_if(alloc, &system, asked.coverage)?;
     let begun = begin(alloc, system, images, asked.terms)?;
-    let judge = judge_of(alloc, begun.watch, asked)?;
+    let judge = judge_of(alloc, begun.watch, coverage, asked)?;
     Ok(Prepared {
         judge,
         complete: asked.complete,

@@ -23,6 +23,7 @@ mod front;
 mod images;
 mod line;
 mod meter;
+mod mirrors;
 mod program;
 mod shown;
 mod system;

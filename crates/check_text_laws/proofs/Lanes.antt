@@ -1,5 +1,5 @@
 -- A row that columns spell has as many lanes as its link's bus has bytes.
-use Rattle.std.proofs.Common.{◌≡◌, ◌∙◌, ℕ, suc, ◌*◌, ◌-◌, ◌^◌, Bool, true, false, if◌then◌else◌, List, [], ◌∷◌, length, map, replicate, Option, None, Some, Result, Ok, Err, IfSome, option_map, option_and_then, refl, ap, subst}
+use Rattle.std.proofs.Common.{◌≡◌, ◌∙◌, ℕ, suc, ◌-◌, ◌^◌, Bool, true, false, if◌then◌else◌, List, [], ◌∷◌, length, map, Option, None, Some, Result, Ok, Err, IfSome, option_map, refl, ap, subst}
 use Rattle.std.specs.Prelude.{◌==◌, ok_or}
 use Rattle.std.specs.List.{range_with_len}
 use Rattle.std.proofs.lemmas.List.{length-map, length-replicate}

@@ -17,17 +17,18 @@ use Rattle.check_coverage.specs.declared.bin.Bin.TheVariants as bin
 use Rattle.check_coverage.specs.declared.bin.CountedChannel.TheVariants as channel
 use Rattle.check_coverage.specs.Bins.{ask_bins, bins, bins_by, bins_of, contested_bins, contests, first_bins, is_of_port, last_bins, mask_bins, meets, of_found, operation_of, bin_pair, writes}
 use Rattle.check_coverage.specs.Flights.{InFlight, answered_at, end_of, flights_after, in_flight, is_counted, is_of, is_unaligned, ends_an_ask, ends_a_reply, wide_at}
+use Rattle.check_coverage.specs.Mirrors.{MirrorsView, mirrors_at, place_of}
 use Rattle.check_coverage.specs.View.{bin_cmp, how_often}
 use Rattle.check_coverage.proofs.Counted.{how_often-append}
 use Rattle.check_coverage.proofs.Exact.{same}
 use Rattle.check_text_laws.proofs.Finding.{found, found_of, left, other_left, other_stays, own_found, own_left}
 
 -- two whole requests of the port, of different sources, do not meet
-abbrev pub ApartAt : ℕ → List InFlight → Type 0
-ApartAt port flights =
+abbrev pub ApartAt : Plan → ℕ → List InFlight → Type 0
+ApartAt plan port flights =
     (wide other : ℕ) (one two : InFlight) → (wide == other) ≡ false → found wide flights ≡ Some one
     → found other flights ≡ Some two → one.is_whole ≡ true → two.is_whole ≡ true → one.port ≡ port → two.port ≡ port
-    → meets one.first two.first ≡ false
+    → meets (mirrors_at plan port) one.first two.first ≡ false
 
 -- ---- counts
 
@@ -65,17 +66,17 @@ last_of_four true true false m fails is_a is_b is_c = absurd (cc)
 last_of_four true false c m fails is_a is_b is_c = absurd (cc)
 last_of_four false b c m fails is_a is_b is_c = absurd (cc)
 
-not_contests : (one two : InFlight) → contests one two ≡ false → is_of one.wide two ≡ false → two.port ≡ one.port
-    → two.is_whole ≡ true → meets one.first two.first ≡ false
-not_contests one two fails apart port whole =
-    last_of_four (not (is_of one.wide two)) (is_of_port one.port two) two.is_whole (meets one.first two.first) fails
+not_contests : (mirrors : MirrorsView) (one two : InFlight) → contests mirrors one two ≡ false → is_of one.wide two ≡ false
+    → two.port ≡ one.port → two.is_whole ≡ true → meets mirrors one.first two.first ≡ false
+not_contests mirrors one two fails apart port whole =
+    last_of_four (not (is_of one.wide two)) (is_of_port one.port two) two.is_whole (meets mirrors one.first two.first) fails
     (ap not apart) (eq-eqb two.port one.port port) whole
 
 -- requests meet each other
-meets_turned : (one two : AskHead) → meets one two ≡ meets two one
-meets_turned one two =
-    go (nat_lt one.address (two.address + 2 ^ two.size)) (nat_lt two.address (one.address + 2 ^ one.size))
-    (writes one) (writes two)
+meets_turned : (mirrors : MirrorsView) (one two : AskHead) → meets mirrors one two ≡ meets mirrors two one
+meets_turned mirrors one two =
+    go (nat_lt (place_of mirrors one) (place_of mirrors two + 2 ^ two.size))
+    (nat_lt (place_of mirrors two) (place_of mirrors one + 2 ^ one.size)) (writes one) (writes two)
   where
     go : (a b c d : Bool) → ((a && b) && (c || d)) ≡ ((b && a) && (d || c))
     go true true true true = refl
@@ -107,7 +108,7 @@ some_same x y is = cc
 -- ---- one beat more
 
 module _ (plan : Plan) (port bus own : ℕ) (flights : List InFlight) (time : ℕ) (at : Option ℕ) (end : Ended)
-    (before : ApartAt port flights) where
+    (before : ApartAt plan port flights) where
   abbrev contested : Bin
   contested = bin.Contested port
 
@@ -118,27 +119,27 @@ module _ (plan : Plan) (port bus own : ℕ) (flights : List InFlight) (time : �
 
     -- a request of the port that ends with this beat is contested by none
     uncontested : (one : InFlight) → found own next ≡ Some one → ends_an_ask end ≡ true → one.port ≡ port
-        → list_any (contests one) next ≡ false
-    uncontested one here whole is_port = by (list_any (contests one) next) refl
+        → list_any (contests (mirrors_at plan one.port) one) next ≡ false
+    uncontested one here whole is_port = by (list_any (contests (mirrors_at plan one.port) one) next) refl
       where
-        last : how_often contested (last_bins bus own next beat end) ≡ 0
-        last = never_last contested (first_bins plan own flights time at beat) (last_bins bus own next beat end) none
+        last : how_often contested (last_bins plan bus own next beat end) ≡ 0
+        last = never_last contested (first_bins plan own flights time at beat) (last_bins plan bus own next beat end) none
 
-        all : how_often contested (ask_bins bus next beat one) ≡ 0
+        all : how_often contested (ask_bins plan bus next beat one) ≡ 0
         all =
-            let same_bins : last_bins bus own next beat end ≡ ask_bins bus next beat one =
-            λ i. if whole i then of_found (here i) (ask_bins bus next beat) else [] in
+            let same_bins : last_bins plan bus own next beat end ≡ ask_bins plan bus next beat one =
+            λ i. if whole i then of_found (here i) (ask_bins plan bus next beat) else [] in
             sym (ap (λ l. how_often contested l) same_bins) ∙ last
 
-        mine : how_often contested (contested_bins next one) ≡ 0
+        mine : how_often contested (contested_bins plan next one) ≡ 0
         mine =
             let pair = bin.Asked (bin_pair one) (operation_of one) (is_unaligned one.first) in
             let beats = bin.Beats (bin_pair one) channel.A (ask_beats bus beat) in
-            let tail = mask_bins one ++ contested_bins next one in
-            never_last contested (mask_bins one) (contested_bins next one)
+            let tail = mask_bins one ++ contested_bins plan next one in
+            never_last contested (mask_bins one) (contested_bins plan next one)
             (never_more contested beats tail (never_more contested pair (beats ∷ tail) all))
 
-        by : (b : Bool) → list_any (contests one) next ≡ b → b ≡ false
+        by : (b : Bool) → list_any (contests (mirrors_at plan one.port) one) next ≡ b → b ≡ false
         by true is =
             let once : how_often contested (bin.Contested one.port ∷ []) ≡ 0 =
             sym (ap (λ b. how_often contested (if b then bin.Contested one.port ∷ [] else [])) is) ∙ mine in
@@ -150,27 +151,30 @@ module _ (plan : Plan) (port bus own : ℕ) (flights : List InFlight) (time : �
     -- it meets none of the port
     own_apart : (other : ℕ) (one two : InFlight) → (own == other) ≡ false → found own next ≡ Some one
         → found other next ≡ Some two → one.is_whole ≡ true → two.is_whole ≡ true → one.port ≡ port → two.port ≡ port
-        → meets one.first two.first ≡ false
+        → meets (mirrors_at plan port) one.first two.first ≡ false
     own_apart other one two apart here there whole its_whole is_port its_port =
         let mine = own_found plan own beat flights bus end in
         let same_one : mine.0 ≡ one = some_same mine.0 one (sym mine.1 ∙ here) in
         let ends : ends_an_ask end ≡ true = sym mine.2 ∙ ap (λ (f : InFlight). f.is_whole) same_one ∙ whole in
-        not_contests one two
-        (found_fails (contests one) other next two (uncontested one here ends is_port) there)
+        let there_none = found_fails (contests (mirrors_at plan one.port) one) other next two
+        (uncontested one here ends is_port) there in
+        ap (λ p. meets (mirrors_at plan p) one.first two.first) (sym is_port)
+        ∙ not_contests (mirrors_at plan one.port) one two there_none
         (found_apart own other next one two apart here there) (its_port ∙ sym is_port) its_whole
 
-    pub ask_apart : ApartAt port (flights_after plan bus own flights (A beat) end)
+    pub ask_apart : ApartAt plan port (flights_after plan bus own flights (A beat) end)
     ask_apart wide other one two apart here there whole its_whole is_port its_port =
         go (own == wide) refl (own == other) refl
       where
-        go : (a : Bool) → (own == wide) ≡ a → (b : Bool) → (own == other) ≡ b → meets one.first two.first ≡ false
+        go : (a : Bool) → (own == wide) ≡ a → (b : Bool) → (own == other) ≡ b
+            → meets (mirrors_at plan port) one.first two.first ≡ false
         go true is b so =
             let mine : own ≡ wide = eqb-true own wide is in
             own_apart other one two (ap (λ w. w == other) mine ∙ apart)
             (ap (λ w. found w next) mine ∙ here) there whole its_whole is_port its_port
         go false is true so =
             let mine : own ≡ other = eqb-true own other so in
-            meets_turned one.first two.first
+            meets_turned (mirrors_at plan port) one.first two.first
             ∙ own_apart wide two one is (ap (λ w. found w next) mine ∙ there) here its_whole whole its_port is_port
         go false is false so =
             before wide other one two apart (sym (other_stays plan own beat flights bus end wide is) ∙ here)
@@ -187,28 +191,28 @@ module _ (plan : Plan) (port bus own : ℕ) (flights : List InFlight) (time : �
           absurd (cc)
       go false so = sym (other_left own wide so flights) ∙ is
 
-  pub reply_apart : (beat : ReplyHead) → ApartAt port (flights_after plan bus own flights (D beat) end)
+  pub reply_apart : (beat : ReplyHead) → ApartAt plan port (flights_after plan bus own flights (D beat) end)
   reply_apart beat = go (ends_a_reply end)
     where
-      go : (b : Bool) → ApartAt port (if b then left own flights else flights)
+      go : (b : Bool) → ApartAt plan port (if b then left own flights else flights)
       go true = λ wide other one two apart here there.
           before wide other one two apart (still wide one here) (still other two there)
       go false = before
 
   beat_apart : (beat : Beat) → how_often (bin.Contested port) (bins_by plan bus own flights time at beat end) ≡ 0
-      → ApartAt port (flights_after plan bus own flights beat end)
+      → ApartAt plan port (flights_after plan bus own flights beat end)
   beat_apart (A beat) none = ask_apart beat none
   beat_apart (D beat) none = reply_apart beat
 
 -- ---- all rows
 
-none_apart : (port : ℕ) → ApartAt port []
-none_apart port wide other one two apart here there whole its_whole is_port its_port =
+none_apart : (plan : Plan) (port : ℕ) → ApartAt plan port []
+none_apart plan port wide other one two apart here there whole its_whole is_port its_port =
     let impossible : None ≡ Some one = here in absurd (cc)
 
 pub all_apart : (plan : Plan) (port : ℕ) (rows : List SeenRow) → how_often (bin.Contested port) (bins plan rows) ≡ 0
-    → ApartAt port (in_flight plan rows)
-all_apart plan port [] none = none_apart port
+    → ApartAt plan port (in_flight plan rows)
+all_apart plan port [] none = none_apart plan port
 all_apart plan port (row ∷ before) none =
     go (is_counted plan.layout.links row.sighting.link) (never_first (bin.Contested port) (bins_of plan before row)
     (bins plan before) none)
@@ -219,8 +223,8 @@ all_apart plan port (row ∷ before) none =
         then bins_by plan (bus_of plan.layout row.sighting.link) (wide_at plan row.sighting) (in_flight plan before) row.time
         (answered_at plan before (wide_at plan row.sighting)) row.sighting.beat (end_of plan before row)
         else []) ≡ 0
-        → ApartAt port (in_flight plan before)
-        → ApartAt port (if counted
+        → ApartAt plan port (in_flight plan before)
+        → ApartAt plan port (if counted
         then flights_after plan (bus_of plan.layout row.sighting.link) (wide_at plan row.sighting) (in_flight plan before)
         row.sighting.beat (end_of plan before row)
         else in_flight plan before)

@@ -13,7 +13,6 @@ use Rattle.check_watch.specs.declared.beat.Beat.{Beat}
 use Rattle.check_watch.specs.declared.beat.Beat.TheVariants.{A, D}
 use Rattle.check_watch.specs.declared.beat.Link.{Link}
 use Rattle.check_watch.specs.declared.seen.Ended.{Ended}
-use Rattle.check_watch.specs.declared.seen.Ended.TheVariants as ends
 use Rattle.check_watch.specs.declared.seen.Seen.TheVariants.{Part}
 use Rattle.check_flight.specs.Flight.{Turn}
 use Rattle.check_flight.specs.Flight.Turn.{Idle, Asking, Asked}
@@ -29,6 +28,7 @@ use Rattle.check_coverage.specs.declared.bin.Bin.{Bin}
 use Rattle.check_coverage.specs.declared.bin.Bin.TheVariants as bin
 use Rattle.check_coverage.specs.Bins.{again, ask_bins, begin_bins, bins, bins_by, bins_of, contested_bins, contests, first_bins, last_bins, mask_bins, of_found, is_of_master, is_younger, bin_pair, reply_bins}
 use Rattle.check_coverage.specs.Flights.{InFlight, answered_at, begun, end_of, flights_after, in_flight, is_counted, is_of, ends_an_ask, ends_a_reply, wide_at}
+use Rattle.check_coverage.specs.Mirrors.{mirrors_at}
 use Rattle.check_coverage.specs.Shape.{shape_of}
 use Rattle.check_review.specs.Count.{answered_in_past, asked_in_past, one_more}
 use Rattle.check_text_laws.specs.Sums.{is_answered, is_asked}
@@ -92,9 +92,9 @@ mask_none k flight = go k (flight.first.opcode == 1)
     go false true = refl
     go false false = refl
 
-contested_none : (k : Bool) (flights : List InFlight) (flight : InFlight)
-    → how_many (kind k) (contested_bins flights flight) ≡ 0
-contested_none k flights flight = go k (list_any (contests flight) flights)
+contested_none : (k : Bool) (plan : Plan) (flights : List InFlight) (flight : InFlight)
+    → how_many (kind k) (contested_bins plan flights flight) ≡ 0
+contested_none k plan flights flight = go k (list_any (contests (mirrors_at plan flight.port) flight) flights)
   where
     go : (k b : Bool) → how_many (kind k) (if b then bin.Contested flight.port ∷ [] else []) ≡ 0
     go true true = refl
@@ -110,18 +110,18 @@ overtook_none false true flight = refl
 overtook_none false false flight = refl
 
 -- a request that is whole is one, and no reply; a reply that is whole is none, and one reply
-rest_none : (k : Bool) (flights : List InFlight) (flight : InFlight)
-    → how_many (kind k) (mask_bins flight ++ contested_bins flights flight) ≡ 0
-rest_none k flights flight =
-    let both = how_many-append (kind k) (mask_bins flight) (contested_bins flights flight) in
+rest_none : (k : Bool) (plan : Plan) (flights : List InFlight) (flight : InFlight)
+    → how_many (kind k) (mask_bins flight ++ contested_bins plan flights flight) ≡ 0
+rest_none k plan flights flight =
+    let both = how_many-append (kind k) (mask_bins flight) (contested_bins plan flights flight) in
     let m = mask_none k flight in
-    let c = contested_none k flights flight in
+    let c = contested_none k plan flights flight in
     omega (arith, both, m, c)
 
-ask_one : (k : Bool) (bus : ℕ) (flights : List InFlight) (beat : AskHead) (flight : InFlight)
-    → how_many (kind k) (ask_bins bus flights beat flight) ≡ one_if k
-ask_one true bus flights beat flight = let h = rest_none true flights flight in omega (arith, h)
-ask_one false bus flights beat flight = let h = rest_none false flights flight in omega (arith, h)
+ask_one : (k : Bool) (plan : Plan) (bus : ℕ) (flights : List InFlight) (beat : AskHead) (flight : InFlight)
+    → how_many (kind k) (ask_bins plan bus flights beat flight) ≡ one_if k
+ask_one true plan bus flights beat flight = let h = rest_none true plan flights flight in omega (arith, h)
+ask_one false plan bus flights beat flight = let h = rest_none false plan flights flight in omega (arith, h)
 
 reply_no_ask : (bus : ℕ) (flights : List InFlight) (beat : ReplyHead) (flight : InFlight)
     → how_many is_asked (reply_bins bus flights beat flight) ≡ 0
@@ -177,19 +177,22 @@ module _ (plan : Plan) (bus wide : ℕ) (flights : List InFlight) (time : ℕ) (
       → how_many (kind k) (bins_by plan bus wide flights time at (A beat) end) ≡ both_one k (ends_an_ask end)
   ask_kinds k beat =
       let next = flights_after plan bus wide flights (A beat) end in
-      let sum = how_many-append (kind k) (first_bins plan wide flights time at beat) (last_bins bus wide next beat end) in
+      let sum = how_many-append (kind k) (first_bins plan wide flights time at beat)
+      (last_bins plan bus wide next beat end) in
       let none = first_none k plan wide flights time at beat in
       let mine = own_found plan wide beat flights bus end in
-      let last : how_many (kind k) (last_bins bus wide next beat end) ≡ both_one k (ends_an_ask end) =
+      let last : how_many (kind k) (last_bins plan bus wide next beat end) ≡ both_one k (ends_an_ask end) =
       last_one k (ends_an_ask end) next beat mine.0 mine.1 in
       omega (arith, sum, none, last)
     where
       last_one : (k b : Bool) (next : List InFlight) (beat : AskHead) (f : InFlight) → found wide next ≡ Some f
-          → how_many (kind k) (if b then of_found (found wide next) (ask_bins bus next beat) else []) ≡ both_one k b
+          → how_many (kind k) (if b then of_found (found wide next) (ask_bins plan bus next beat) else [])
+          ≡ both_one k b
       last_one true true next beat f is =
-          ap (λ o. how_many is_asked (of_found o (ask_bins bus next beat))) is ∙ ask_one true bus next beat f
+          ap (λ o. how_many is_asked (of_found o (ask_bins plan bus next beat))) is ∙ ask_one true plan bus next beat f
       last_one false true next beat f is =
-          ap (λ o. how_many is_answered (of_found o (ask_bins bus next beat))) is ∙ ask_one false bus next beat f
+          ap (λ o. how_many is_answered (of_found o (ask_bins plan bus next beat))) is
+          ∙ ask_one false plan bus next beat f
       last_one true false next beat f is = refl
       last_one false false next beat f is = refl
 

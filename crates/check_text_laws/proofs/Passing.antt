@@ -18,7 +18,7 @@ use Rattle.check_sides.specs.Lawful.{IsLawful}
 use Rattle.check_rows.specs.Row.{SeenRow}
 use Rattle.check_unanswered.specs.Began.{beats_of}
 use Rattle.check_coverage.specs.Text.{TellsCoverage}
-use Rattle.check_text_laws.specs.Sums.{DifferUntold, IsSeenOnce}
+use Rattle.check_text_laws.specs.Sums.{DifferUntold}
 use Rattle.check_text_laws.proofs.Rows.{shared_part}
 use Rattle.check_text_laws.proofs.Uncontested.{nothing_is_contested}
 
@@ -64,7 +64,6 @@ nothing_passed loose strict rows old new is_plan map watched lawful tells looser
     (λ port other. let differs = differ port other in (
       differs.0,
       strict_uncontested loose strict looser port past
-          (nothing_is_contested loose rows old new port is_plan map watched lawful tells differs.1
-          (subst IsSeenOnce (sym (same_kept loose strict looser port)) differs.2)),
+          (nothing_is_contested loose rows old new port is_plan map watched lawful tells differs.1),
     ))
     (shared_part loose (beats_of rows) lawful)

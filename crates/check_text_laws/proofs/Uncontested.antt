@@ -13,9 +13,8 @@ use Rattle.tl_map.specs.Map.{IsLawfulAddressMap}
 use Rattle.check_beats.specs.Message.{arith_of, logic_of, op_of}
 use Rattle.check_beats.specs.declared.beat.AskHead.{AskHead}
 use Rattle.check_contests.specs.Laws.{AreUncontested}
-use Rattle.check_contests.specs.Writes.{in_window, writes as writes_at}
-use Rattle.check_memory.specs.Partial.{Partial, permits, placed}
-use Rattle.check_memory.proofs.SeenWindows.{unmoved}
+use Rattle.check_contests.specs.Writes.{writes as writes_at}
+use Rattle.check_memory.specs.Partial.{Partial, first_of, permits, placed, start_in, start_of}
 use Rattle.check_memory.specs.declared.slave.Slave.{Slave}
 use Rattle.check_memory.specs.declared.slave.Slave.TheVariants.{Memory, Device}
 use Rattle.check_watch.specs.Plan.{Plan, Sighting}
@@ -34,11 +33,12 @@ use Rattle.check_coverage.specs.declared.bin.Bin.{Bin}
 use Rattle.check_coverage.specs.declared.bin.Bin.TheVariants as bin
 use Rattle.check_coverage.specs.Bins.{bins, bins_of, meets, writes}
 use Rattle.check_coverage.specs.Flights.{InFlight, in_flight}
+use Rattle.check_coverage.specs.Mirrors.{mirrors_of, place_of}
 use Rattle.check_coverage.specs.Text.{TellsCoverage}
 use Rattle.check_coverage.specs.View.{bin_cmp, how_often}
 use Rattle.check_coverage.proofs.Counted.{how_often-append}
 use Rattle.check_coverage.proofs.Exact.{exact_eq}
-use Rattle.check_text_laws.specs.Sums.{IsSeenOnce, TellsNoContest}
+use Rattle.check_text_laws.specs.Sums.{TellsNoContest}
 use Rattle.check_text_laws.proofs.Apart.{OfFronts, fronts_more, fronts_none}
 use Rattle.check_text_laws.proofs.Finding.{found}
 use Rattle.check_text_laws.proofs.Heads.{IsHead, head}
@@ -88,8 +88,8 @@ no_write false written is = refl
 -- requests that do not meet as they are counted are not contested
 uncontested : (memory : Partial) (port : ℕ) (ask other : Request) (one two : Option InFlight)
     (first : IsHead port one ask) (second : IsHead port two other)
-    → meets first.flight.first second.flight.first ≡ false → memory.mirrors ≡ [] → AreUncontested memory ask other
-uncontested memory port ask other one two first second apart alone address inside its_inside = (
+    → meets (mirrors_of (Memory memory)) first.flight.first second.flight.first ≡ false → AreUncontested memory ask other
+uncontested memory port ask other one two first second apart address inside its_inside = (
   no_write (permits memory ask) (writes_at ask.op (placed memory ask) address)
       (ap (λ o. writes_at o (placed memory ask) address) first.op
       ∙ writes_none first.flight.first (placed memory ask) address none.0),
@@ -98,32 +98,36 @@ uncontested memory port ask other one two first second apart alone address insid
       ∙ writes_none second.flight.first (placed memory other) address none.1),
 )
   where
-    -- a window stands where its address says
-    by_address : (request : Request) → in_window (placed memory request) address ≡ true
-        → in_window request address ≡ true
-    by_address request is =
-        let P : ℕ → Type 0 = λ n. in_window (record request { address = n }) address ≡ true in
-        subst P (sym (unmoved memory request alone)) is
+    -- where the memory has their windows
+    here : place_of (mirrors_of (Memory memory)) first.flight.first ≡ start_of memory ask
+    here = λ i. start_in (first_of memory.ranges) memory.mirrors (sym first.address i) (2 ^ sym first.size i)
 
-    mine : (nat_le ask.address address ≡ true) × (nat_lt address (ask.address + 2 ^ ask.size) ≡ true)
-    mine = both_true (nat_le ask.address address) (nat_lt address (ask.address + 2 ^ ask.size)) (by_address ask inside)
+    there : place_of (mirrors_of (Memory memory)) second.flight.first ≡ start_of memory other
+    there = λ i. start_in (first_of memory.ranges) memory.mirrors (sym second.address i) (2 ^ sym second.size i)
 
-    its : (nat_le other.address address ≡ true) × (nat_lt address (other.address + 2 ^ other.size) ≡ true)
-    its = both_true (nat_le other.address address) (nat_lt address (other.address + 2 ^ other.size)) (by_address other its_inside)
+    mine : (nat_le (start_of memory ask) address ≡ true) × (nat_lt address (start_of memory ask + 2 ^ ask.size) ≡ true)
+    mine = both_true (nat_le (start_of memory ask) address) (nat_lt address (start_of memory ask + 2 ^ ask.size)) inside
 
-    below : nat_lt first.flight.first.address (second.flight.first.address + 2 ^ second.flight.first.size) ≡ true
+    its : (nat_le (start_of memory other) address ≡ true)
+        × (nat_lt address (start_of memory other + 2 ^ other.size) ≡ true)
+    its = both_true (nat_le (start_of memory other) address) (nat_lt address (start_of memory other + 2 ^ other.size))
+        its_inside
+
+    below : nat_lt (place_of (mirrors_of (Memory memory)) first.flight.first)
+        (place_of (mirrors_of (Memory memory)) second.flight.first + 2 ^ second.flight.first.size) ≡ true
     below =
-        let low = leb-true ask.address address mine.0 in
-        let high = ltb-true address (other.address + 2 ^ other.size) its.1 in
-        (λ i. nat_lt (sym first.address i) (sym second.address i + 2 ^ sym second.size i))
-        ∙ lt-ltb ask.address (other.address + 2 ^ other.size) (omega (arith, low, high))
+        let low = leb-true (start_of memory ask) address mine.0 in
+        let high = ltb-true address (start_of memory other + 2 ^ other.size) its.1 in
+        (λ i. nat_lt (here i) (there i + 2 ^ sym second.size i))
+        ∙ lt-ltb (start_of memory ask) (start_of memory other + 2 ^ other.size) (omega (arith, low, high))
 
-    above : nat_lt second.flight.first.address (first.flight.first.address + 2 ^ first.flight.first.size) ≡ true
+    above : nat_lt (place_of (mirrors_of (Memory memory)) second.flight.first)
+        (place_of (mirrors_of (Memory memory)) first.flight.first + 2 ^ first.flight.first.size) ≡ true
     above =
-        let low = leb-true other.address address its.0 in
-        let high = ltb-true address (ask.address + 2 ^ ask.size) mine.1 in
-        (λ i. nat_lt (sym second.address i) (sym first.address i + 2 ^ sym first.size i))
-        ∙ lt-ltb other.address (ask.address + 2 ^ ask.size) (omega (arith, low, high))
+        let low = leb-true (start_of memory other) address its.0 in
+        let high = ltb-true address (start_of memory ask + 2 ^ ask.size) mine.1 in
+        (λ i. nat_lt (there i) (here i + 2 ^ sym first.size i))
+        ∙ lt-ltb (start_of memory other) (start_of memory ask + 2 ^ ask.size) (omega (arith, low, high))
 
     none : (writes first.flight.first ≡ false) × (writes second.flight.first ≡ false)
     none = neither _ _ (writes first.flight.first) (writes second.flight.first) apart below above
@@ -146,37 +150,39 @@ module _ (plan : Plan) (is_plan : IsPlan plan) (map : IsLawfulAddressMap plan.la
 
   -- two requests that are open at a memory
   pair_apart : (rows : List SeenRow) → AreWatched p.layout (past_of rows) → IsLawful plan (beats_of rows)
-      → how_often (bin.Contested port) (bins plan rows) ≡ 0 → (memory : Partial) → memory.mirrors ≡ [] → (wide other : ℕ) (ask with : Request)
-      → wide ≢ other → IsOpen (moments p port (past_of rows)) wide ask → IsOpen (moments p port (past_of rows)) other with
+      → how_often (bin.Contested port) (bins plan rows) ≡ 0 → (memory : Partial) → slave ≡ Memory memory
+      → (wide other : ℕ) (ask with : Request) → wide ≢ other
+      → IsOpen (moments p port (past_of rows)) wide ask → IsOpen (moments p port (past_of rows)) other with
       → AreUncontested memory ask with
-  pair_apart rows watched lawful none memory alone wide other ask with apart is_open its_open =
+  pair_apart rows watched lawful none memory is wide other ask with apart is_open its_open =
       let heads = λ (w : ℕ) (r : Request) (o : IsOpen (moments p port (past_of rows)) w r).
       head plan is_plan map (past_of rows) watched (shared_part plan (beats_of rows) lawful)
       (in_flight plan rows) (are_kept plan rows lawful) port w r o in
       let first = heads wide ask is_open in
       let second = heads other with its_open in
       uncontested memory port ask with (found wide (in_flight plan rows)) (found other (in_flight plan rows)) first second
-      (all_apart plan port rows none wide other first.flight second.flight (apart_by wide other apart) first.is second.is
-      first.whole second.whole first.port_is second.port_is) alone
+      (ap (λ s. meets (mirrors_of s) first.flight.first second.flight.first) (sym is)
+      ∙ all_apart plan port rows none wide other first.flight second.flight (apart_by wide other apart) first.is second.is
+      first.whole second.whole first.port_is second.port_is)
 
   now_apart : (rows : List SeenRow) → AreWatched p.layout (past_of rows) → IsLawful plan (beats_of rows)
-      → how_often (bin.Contested port) (bins plan rows) ≡ 0 → (kept : Slave) → IsSeenOnce kept
+      → how_often (bin.Contested port) (bins plan rows) ≡ 0 → (kept : Slave) → slave ≡ kept
       → AreApart kept (moments p port (past_of rows))
-  now_apart rows watched lawful none Device once = tt
-  now_apart rows watched lawful none (Memory memory) once = pair_apart rows watched lawful none memory once
+  now_apart rows watched lawful none Device is = tt
+  now_apart rows watched lawful none (Memory memory) is = pair_apart rows watched lawful none memory is
 
   all_fronts : (rows : List SeenRow) → AreWatched p.layout (past_of rows) → IsLawful plan (beats_of rows)
-      → how_often (bin.Contested port) (bins plan rows) ≡ 0 → IsSeenOnce slave
+      → how_often (bin.Contested port) (bins plan rows) ≡ 0
       → OfFronts (AreApart slave) (moments p port (past_of rows))
-  all_fronts [] watched lawful none once =
+  all_fronts [] watched lawful none =
       subst (λ l. OfFronts (AreApart slave) (moments p port l)) (sym (shared_none plan.layout.links))
       (fronts_none (AreApart slave)
       (subst (λ l. AreApart slave (moments p port l)) (shared_none plan.layout.links)
-      (now_apart [] watched lawful none slave once)))
-  all_fronts (row ∷ before) watched lawful none once =
+      (now_apart [] watched lawful none slave refl)))
+  all_fronts (row ∷ before) watched lawful none =
       go (is_alone plan.layout.links row.sighting.link) refl
-      (all_fronts before (watched_before (is_alone plan.layout.links row.sighting.link) refl) lawful.0 earlier once)
-      (now_apart (row ∷ before) watched lawful none slave once)
+      (all_fronts before (watched_before (is_alone plan.layout.links row.sighting.link) refl) lawful.0 earlier)
+      (now_apart (row ∷ before) watched lawful none slave refl)
     where
       earlier : how_often (bin.Contested port) (bins plan before) ≡ 0
       earlier =
@@ -226,9 +232,8 @@ none_found bin (e ∷ es) none = go (is_eq (bin_cmp bin e.0)) refl (none_found b
 pub nothing_is_contested : (plan : Plan) (rows : List SeenRow) (old new : List ℕ) (port : ℕ) → IsPlan plan
     → IsLawfulAddressMap plan.layout.ports → AreWatched plan.layout (shared_past plan.layout.links (beats_of rows))
     → IsLawful plan (beats_of rows) → (tells : TellsCoverage plan rows old new) → TellsNoContest port tells.entries
-    → IsSeenOnce (reset_of plan port).kept
     → NothingIsContested plan port (shared_past plan.layout.links (beats_of rows))
-nothing_is_contested plan rows old new port is_plan map watched lawful tells none once =
+nothing_is_contested plan rows old new port is_plan map watched lawful tells none =
     let counts = tells.counts (bin.Contested port) in
     let zero_there = none_found (bin.Contested port) tells.entries none in
-    all_fronts plan is_plan map port rows watched lawful (omega (arith, counts, zero_there)) once
+    all_fronts plan is_plan map port rows watched lawful (omega (arith, counts, zero_there))

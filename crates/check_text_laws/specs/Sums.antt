@@ -1,11 +1,9 @@
 -- What the lines of a text of what was covered add up to, and which lines it has. This project's own.
 use Rattle.std.specs.Prelude.{◌≡◌, ◌≢◌, ℕ, ◌+◌, Bool, true, false, if◌then◌else◌, List, [], ◌∷◌}
 use Rattle.std.specs.List.{AllByRecursion}
-use Rattle.check_memory.specs.declared.slave.Slave.{Slave}
-use Rattle.check_memory.specs.declared.slave.Slave.TheVariants.{Memory, Device}
 use Rattle.check_flight.specs.declared.order.Order.TheVariants.{Accept}
 use Rattle.check_watch.specs.Plan.{Plan}
-use Rattle.check_watch_laws.specs.Memories.{order_at, reset_of}
+use Rattle.check_watch_laws.specs.Memories.{order_at}
 use Rattle.check_coverage.specs.declared.bin.Bin.{Bin}
 use Rattle.check_coverage.specs.declared.bin.Bin.TheVariants.{Asked, Answered, Beats, Mask, InFlight, AtPort, Overtook, Again, Contested}
 
@@ -42,14 +40,9 @@ sum_of is_one (entry ∷ entries) = (if is_one entry.0 then entry.1 else 0) + su
 abbrev pub TellsNoContest : ℕ → List (Bin × ℕ) → Type 0
 TellsNoContest port entries = AllByRecursion (λ (entry : Bin × ℕ). entry.0 ≢ Contested port) entries
 
--- the slave is seen in one place alone: requests are counted as contested by their addresses
-abbrev pub IsSeenOnce : Slave → Type 0
-IsSeenOnce (Memory memory) = memory.mirrors ≡ []
-IsSeenOnce Device = Unit {0}
-
--- if two systems say another order of a port, its slave is seen in one place, by one system its requests take effect as they
--- are accepted, and no line tells of a contested one
+-- if two systems say another order of a port, by one its requests take effect as they are accepted, and no line tells of a
+-- contested one
 abbrev pub DifferUntold : Plan → Plan → List (Bin × ℕ) → Type 0
 DifferUntold loose strict entries =
     (port : ℕ) → order_at loose port ≢ order_at strict port
-    → (order_at strict port ≡ Accept) × TellsNoContest port entries × IsSeenOnce (reset_of strict port).kept
+    → (order_at strict port ≡ Accept) × TellsNoContest port entries

@@ -4,7 +4,6 @@ ghost use Rattle.tl_map.specs.Map.{IsLawfulAddressMap};
 ghost use Rattle.check_watch.specs.Lawful as group_lawful;
 ghost use Rattle.check_watch.specs.Plan.{Plan};
 ghost use Rattle.check_watch_laws.specs.Crossed.{AreWatched};
-ghost use Rattle.check_watch_laws.specs.Memories.{reset_of};
 ghost use Rattle.check_watch_laws.specs.Whenever.{AreFresh};
 ghost use Rattle.check_sides.specs.Groups.{shared_past};
 ghost use Rattle.check_sides.specs.Lawful.{IsLawful};
@@ -17,7 +16,7 @@ ghost use Rattle.check_coverage.specs.Text.{TellsCoverage};
 ghost use Rattle.check_lines.specs.declared.verdict.VerdictCounts.{VerdictCounts};
 ghost use Rattle.check_review.specs.Order.{IsCrossing, sightings_of, watched};
 ghost use Rattle.check_review.specs.Verdict.{HasCounts};
-ghost use Rattle.check_text_laws.specs.Sums.{DifferUntold, IsSeenOnce, TellsNoContest, is_answered, is_asked, sum_of};
+ghost use Rattle.check_text_laws.specs.Sums.{DifferUntold, TellsNoContest, is_answered, is_asked, sum_of};
 
 /// Of a file of fewer than 2^64 rows: the counts of all bins `asked` add up to the requests that the verdict counts; if the
 /// file is lawful, those of all bins `answered` to the replies.
@@ -33,14 +32,13 @@ pub fn counts_add_up_to_the_verdict()
         → sum_of is_answered tells.entries ≡ counts.answered }
 {}
 
-/// If no line tells of a contested request at a port whose slave is seen in one place, nothing is contested there, as it is seen
-/// at the links that are judged together. No two ports have a byte in common, as those of each system that is taken.
+/// If no line tells of a contested request at a port, nothing is contested there, as it is seen at the links that are judged
+/// together. No two ports have a byte in common, as those of each system that is taken.
 pub fn no_contest_is_left_out()
     ensures { (plan : Plan) (rows : List SeenRow) (old new : List ℕ) (port : ℕ) → IsPlan plan
         → IsLawfulAddressMap plan.layout.ports
         → AreWatched plan.layout (shared_past plan.layout.links (beats_of rows))
         → IsLawful plan (beats_of rows) → (tells : TellsCoverage plan rows old new) → TellsNoContest port tells.entries
-        → IsSeenOnce (reset_of plan port).kept
         → NothingIsContested plan port (shared_past plan.layout.links (beats_of rows)) }
 {}
 

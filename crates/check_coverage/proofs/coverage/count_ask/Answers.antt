@@ -11,15 +11,15 @@ use Rattle.check_coverage.proofs.Counted.{adds_ok}
 use Rattle.check_coverage.proofs.coverage.count_ask.Goals as goal
 
 pub returns : goal.returns
-returns c = λ after this is is_this.
+returns c = λ plan after this has is is_this.
     let asked : Bin = bin.Asked c.pair.result c.operation.result c.args.flight.now.is_unaligned in
     let beats : Bin = bin.Beats c.pair-2.result channel.A c.beat_count_on_bus-beats.result in
-    let rest : List Bin = mask_bins this ++ contested_bins after this in
+    let rest : List Bin = mask_bins this ++ contested_bins plan after this in
     subst (λ (l : List Bin). OnOk c.count_contested.result (Adds c.args.counts.now c.count_contested.new.counts l))
     (λ i. bin.Asked (c.pair.ensures this is_this i) (c.operation.ensures this is_this i) (is_this i).is_unaligned
     ∷ bin.Beats (c.pair-2.ensures this is_this i) channel.A (c.beat_count_on_bus-beats.ensures.value i) ∷ rest)
     (adds_two c.args.counts.now c.add.new.self c.add-2.new.self c.count_contested.new.counts asked beats rest
     c.count_contested.result c.in_ok-add.ensures c.in_ok-add-2.ensures
     (adds_ok c.add-2.new.self c.count_mask.new.counts c.count_contested.new.counts (mask_bins this)
-    (contested_bins after this) c.count_contested.result (c.in_ok-count_mask.ensures this is_this)
-    (c.count_contested.ensures after this is is_this)))
+    (contested_bins plan after this) c.count_contested.result (c.in_ok-count_mask.ensures this is_this)
+    (c.count_contested.ensures plan after this has is is_this)))

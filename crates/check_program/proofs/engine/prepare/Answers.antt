@@ -21,6 +21,18 @@ returns-in_err-system c =
           (unprepared_by c.args.asked.terms (parts_view c.args.parts) (map (λ image. image.items) c.args.images.now) fault (λ other. inl (c.in_err-system.ensures.fault other)));
     }
 
+pub returns-in_err-coverage : goal.returns-in_err-coverage
+returns-in_err-coverage c =
+    let result = c.from_residual-in_err-coverage.result in
+    let is = c.from_residual-in_err-coverage.ensures.1 in
+    record {
+      prepared = not_ok _ result check.Memory is;
+      masters = not_ok _ result check.Memory is;
+      ports = not_ok _ result check.Memory is;
+      buses = not_ok _ result check.Memory is;
+      fault = if_err _ result check.Memory is tt;
+    }
+
 pub returns-in_err-begun : goal.returns-in_err-begun
 returns-in_err-begun c =
     let result = c.from_residual-in_err-begun.result in
@@ -51,15 +63,20 @@ pub returns : goal.returns
 returns c =
     let begun = c.in_ok-begun.ensures in
     let judge = c.in_ok-judge.ensures in
+    let covered = c.in_ok-coverage.ensures in
+    let images = map (λ image. image.items) c.args.images.now in
     let layout = judge.layout ∙ begun.layout in
     record {
       prepared = record {
         system = c.in_ok-system.system;
         made = c.in_ok-system.ensures.made;
-        judges = record { some = begun.keeps.some; each = λ plan is. judge.judges plan (begun.keeps.each plan is) };
+        judges = record {
+          some = begun.keeps.some;
+          each = λ plan is. judge.judges plan (begun.keeps.each plan is) (covered.none_yet c.args.asked.terms images plan is);
+        };
         trace = judge.trace;
         complete = judge.complete;
-        coverage = judge.coverage;
+        coverage = judge.coverage ∙ covered.asked;
         told = refl;
         names = begun.names;
         masters = begun.masters;

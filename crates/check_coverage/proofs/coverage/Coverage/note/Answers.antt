@@ -47,7 +47,7 @@ returns-in-Some c = λ plan rows lanes covers keeps is_end.
     c.args.row.now.beat e c.args.self.now c.note_beat.new.self) is_end
     (subst (λ (w : ℕ). IsNoted plan (bus_bytes c.bus-bus.result) w c.args.row.now.time
     c.args.row.now.beat c.args.end c.args.self.now c.note_beat.new.self) wide noted)))
-    (c.note_beat.ensures plan keeps.suits (lawful_size plan (beats_of rows) row.sighting keeps.lawful))
+    (c.note_beat.ensures plan keeps.suits covers.mirrors (lawful_size plan (beats_of rows) row.sighting keeps.lawful))
 
 pub returns-in-None : goal.returns-in-None
 returns-in-None c = λ plan rows lanes covers keeps is_end.
