@@ -16,7 +16,7 @@ use check_review::{Ending, Judge, Refusal, Stop, Unlawful};
 use check_rows::{Buses, RowFault, read_bare_row};
 use check_samples::{Rows, UnknownBit};
 use check_text::{Verdict, verdict_at_end, write_long};
-use std::alloc::Global;
+use std::alloc::{AllocError, Global};
 use std::io::{Read, Write};
 use tl_map::{MAX_JUDGED_MASTERS, MAX_JUDGED_PORTS};
 use tl_streams::{LimitedWriter, write_all};
@@ -59,7 +59,8 @@ fn halt_of(number: u64, stop: Stop) -> Halt
     }
 }
 
-/// Takes the row of a line; answers its time.
+/// Takes the row of a line; answers its time. Most rows tell nothing and refuse nothing, and are taken without room for a
+/// fault.
 fn take_line(
     alloc: Global,
     judge: &mut Judge,
@@ -83,6 +84,11 @@ fn take_line(
         Ok(row) => row,
         Err(why) => return Err(Halt::Fault(ReplayFault::Row(number, why))),
     };
+    match judge.take_quietly(alloc, &row, lanes.as_slice()) {
+        Ok(true) => return Ok(row.time),
+        Ok(false) => {}
+        Err(AllocError) => return Err(Halt::Fault(ReplayFault::Memory)),
+    }
     match judge.take(alloc, &row, lanes.as_slice(), told) {
         Ok(()) => Ok(row.time),
         Err(stop) => Err(halt_of(number, stop)),

@@ -11,9 +11,9 @@ use Rattle.check_vcd.specs.declared.fault.Mistake.{Mistake}
 use Rattle.check_vcd.specs.declared.fault.Mistake.TheVariants.{Gap}
 use Rattle.check_samples.specs.EdgeFault.{EdgeFault, edge_fault, edge_fault_view, some_crossed}
 use Rattle.check_samples.specs.Faults.{of_dump, of_sample}
-use Rattle.check_samples.specs.Left.{IsOver, RowsGoOn, Stops, end_by, end_in, end_of_edges, left_of}
+use Rattle.check_samples.specs.Left.{IsOver, RowsGoOn, RowsLeft, Stops, end_by, end_in, end_of_edges, left_of}
 use Rattle.check_samples.specs.Rows.{Writes}
-use Rattle.check_samples.specs.Sampling.{IsJoined, Joins, LeadsToRows, Sampling, behind, rows_from, rows_now, watched_now}
+use Rattle.check_samples.specs.Sampling.{IsJoined, Joins, LeadsToRows, Sampling, behind, rows_from, rows_now, watched_now, with_value}
 use Rattle.std.specs.Result.{IfErr, IfOk, IsErrAnd}
 use Rattle.check_samples.specs.declared.rows.Progress.{Progress}
 use Rattle.check_samples.specs.declared.rows.Progress.TheVariants.{More, Over}
@@ -21,6 +21,48 @@ use Rattle.check_samples.specs.declared.rows.RowsFault.{RowsFault}
 use Rattle.check_samples.specs.declared.rows.RowsFault.TheVariants as rows
 use Rattle.check_samples.specs.declared.sampler.SampleFault.{SampleFault}
 use Rattle.check_samples.specs.declared.sampler.SampleFault.TheVariants as sample
+
+-- ---- the rows that are left to come
+
+pub both-same : (left : Option RowsLeft) → Both left left (λ from to. to ≡ from)
+both-same None = tt
+both-same (Some left) = refl
+
+pub both-then : (a b c : Option RowsLeft) (P : RowsLeft → RowsLeft → Type 0) → Both a b (λ from to. to ≡ from) → Both b c P
+    → Both a c P
+both-then None b c P one two = tt
+both-then (Some a) None c P one two = absurd one
+both-then (Some a) (Some b) None P one two = absurd two
+both-then (Some a) (Some b) (Some c) P one two = subst (λ (x : RowsLeft). P x c) one two
+
+pub if-then : (a b : Option RowsLeft) (P : RowsLeft → Type 0) → Both a b (λ from to. to ≡ from) → IfSome b P → IfSome a P
+if-then None b P one two = tt
+if-then (Some a) None P one two = absurd one
+if-then (Some a) (Some b) P one two = subst P one two
+
+pub ok-then : (a b c : Option RowsLeft) (answer : Result Progress RowsFault) (t t' : List ℕ)
+    → Both a b (λ from to. to ≡ from) → IfOk answer (λ progress. Both b c (RowsGoOn progress t t'))
+    → IfOk answer (λ progress. Both a c (RowsGoOn progress t t'))
+ok-then a b c (Ok progress) t t' one two = both-then a b c (RowsGoOn progress t t') one two
+ok-then a b c (Err why) t t' one two = tt
+
+pub err-then : (a b : Option RowsLeft) (answer : Result Progress RowsFault) (t t' : List ℕ)
+    → Both a b (λ from to. to ≡ from) → IfErr answer (λ why. IfSome b (Stops why t t'))
+    → IfErr answer (λ why. IfSome a (Stops why t t'))
+err-then a b (Ok progress) t t' one two = tt
+err-then a b (Err why) t t' one two = if-then a b (Stops why t t') one two
+
+-- and after a change they are the same
+pub changes-on : (first : Option RowsLeft) (a b : Option (List Happens)) (old new : Sampling) (slot : ℕ) (digits : List ℕ)
+    → Both first (option_map (λ h. left_of h old) a) (λ from to. to ≡ from)
+    → Both a b (λ from to. from ≡ happens_of (event.Change slot) digits ∷ to) → new ≡ with_value old slot digits
+    → Both first (option_map (λ h. left_of h new) b) (λ from to. to ≡ from)
+unfolding rows_from end_in
+changes-on None a b old new slot digits same both is = tt
+changes-on (Some first) None b old new slot digits same both is = absurd same
+changes-on (Some first) (Some x) None old new slot digits same both is = absurd both
+changes-on (Some first) (Some x) (Some y) old new slot digits same both is =
+    ap (λ (s : Sampling). left_of y s) is ∙ ap (λ h. left_of h old) (sym both) ∙ same
 
 -- ---- one thing more happens
 

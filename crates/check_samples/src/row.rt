@@ -1,6 +1,7 @@
 //! The row of a beat.
-ghost use Rattle.std.specs.Prelude.{[], ◌≡◌, ◌++◌, ◌∷◌, OnOk};
+ghost use Rattle.std.specs.Prelude.{[], ◌≡◌, ◌++◌, ◌∷◌, IfOk, OnOk};
 ghost use Rattle.std.specs.Fmt.{decimal};
+ghost use Rattle.std.specs.Char.{is_digit};
 ghost use Rattle.tl_text.specs.Number.{number_of};
 ghost use Rattle.check_samples.specs.Values.{all_before};
 ghost use Rattle.check_samples.specs.Row.{ask_flags, ask_lanes, ask_numbers, ask_text, cells_of_ask, cells_of_reply, digit_of, head_text, hex_text, hexes, known_number, link_text, mark_text, number_if_any, reply_lanes, reply_numbers, reply_text};
@@ -37,7 +38,16 @@ pub struct ReplyCells {
     corrupt: Option<u64>,
 }
 
-/// The number that one to 64 bits spell, if each is known.
+/// Whether a digit is a known bit.
+#[inline(always)]
+fn is_known(bit: u8) -> bool
+    ensures { result ≡ is_digit bit 2 }
+{
+    (bit == b'0') | (bit == b'1')
+}
+
+/// The number that one to 64 bits spell, if each is known. No step depends on what the bits are: a processor does not guess
+/// them, and to go on after an unknown one costs less.
 fn read_bits(bits: &[u8]) -> Option<u64>
     ensures { result ≡ number_of 2 MAX_BITS bits.now }
 {
@@ -45,15 +55,12 @@ fn read_bits(bits: &[u8]) -> Option<u64>
         return None;
     }
     let mut value: u64 = 0;
+    let mut known = true;
     for bit in bits {
-        let digit = match *bit {
-            b'0' => 0,
-            b'1' => 1,
-            _ => return None,
-        };
-        value = 2 * value + digit;
+        known = known & is_known(*bit);
+        value = 2 * value + u64::from(*bit % 2);
     }
-    Some(value)
+    if known { Some(value) } else { None }
 }
 
 /// The number that bits spell, if each is known.
@@ -91,32 +98,32 @@ fn digit_of(bits: &[u8]) -> u8
 fn digit_of_four(a: u8, b: u8, c: u8, d: u8) -> u8
     ensures { result ≡ digit_of (a ∷ b ∷ c ∷ d ∷ []) }
 {
-    match (a, b, c, d) {
-        (b'0', b'0', b'0', b'0') => b'0',
-        (b'0', b'0', b'0', b'1') => b'1',
-        (b'0', b'0', b'1', b'0') => b'2',
-        (b'0', b'0', b'1', b'1') => b'3',
-        (b'0', b'1', b'0', b'0') => b'4',
-        (b'0', b'1', b'0', b'1') => b'5',
-        (b'0', b'1', b'1', b'0') => b'6',
-        (b'0', b'1', b'1', b'1') => b'7',
-        (b'1', b'0', b'0', b'0') => b'8',
-        (b'1', b'0', b'0', b'1') => b'9',
-        (b'1', b'0', b'1', b'0') => b'a',
-        (b'1', b'0', b'1', b'1') => b'b',
-        (b'1', b'1', b'0', b'0') => b'c',
-        (b'1', b'1', b'0', b'1') => b'd',
-        (b'1', b'1', b'1', b'0') => b'e',
-        (b'1', b'1', b'1', b'1') => b'f',
-        _ => digit_of(&[a, b, c, d]),
+    if is_known(a) & is_known(b) & is_known(c) & is_known(d) {
+        hex_digit(8 * (a % 2) + 4 * (b % 2) + 2 * (c % 2) + d % 2)
+    } else {
+        digit_of(&[a, b, c, d])
     }
+}
+
+/// Appends the hexadecimal digits of bits, two at a time, as far as there are eight bits; answers the others.
+fn push_pairs<'b>(text: &mut Vec<u8>, bits: &'b [u8]) -> Result<&'b [u8], AllocError>
+    ensures { IfOk result (λ rest. text.new.items ++ hexes rest.now ≡ text.old.items ++ hexes bits.now) }
+{
+    let mut rest = bits;
+    while let [a, b, c, d, e, f, g, h, more @ ..] = rest {
+        let high = digit_of_four(*a, *b, *c, *d);
+        let low = digit_of_four(*e, *f, *g, *h);
+        text.extend_from_slice(&[high, low])?;
+        rest = more;
+    }
+    Ok(rest)
 }
 
 /// Appends the hexadecimal digits of bits, of which there are four for each.
 fn push_hexes(text: &mut Vec<u8>, bits: &[u8]) -> Result<(), AllocError>
     ensures { OnOk result (text.new.items ≡ text.old.items ++ hexes bits.now) }
 {
-    let mut rest = bits;
+    let mut rest = push_pairs(text, bits)?;
     while let [a, b, c, d, more @ ..] = rest {
         text.push(digit_of_four(*a, *b, *c, *d))?;
         rest = more;
@@ -135,6 +142,18 @@ fn push_bits(text: &mut Vec<u8>, bits: &[u8]) -> Result<(), AllocError>
     push_hexes(text, &bits[over..])
 }
 
+/// Appends a number, which has one digit in most columns.
+fn push_cell(text: &mut Vec<u8>, number: u64) -> Result<(), AllocError>
+    ensures { OnOk result (text.new.items ≡ text.old.items ++ decimal number) }
+{
+    if number < 10 {
+        text.push(b'0' + number as u8)?;
+        Ok(())
+    } else {
+        push_decimal(text, number)
+    }
+}
+
 /// Appends the name of a link.
 fn push_link(text: &mut Vec<u8>, link: Link) -> Result<(), AllocError>
     ensures { OnOk result (text.new.items ≡ text.old.items ++ link_text link) }
@@ -142,11 +161,11 @@ fn push_link(text: &mut Vec<u8>, link: Link) -> Result<(), AllocError>
     match link {
         Link::Master(number) => {
             text.push(b'm')?;
-            push_decimal(text, number as u64)
+            push_cell(text, number as u64)
         }
         Link::Port(number) => {
             text.push(b'p')?;
-            push_decimal(text, number as u64)
+            push_cell(text, number as u64)
         }
     }
 }
@@ -156,7 +175,7 @@ fn push_number(text: &mut Vec<u8>, number: u64) -> Result<(), AllocError>
     ensures { OnOk result (text.new.items ≡ text.old.items ++ (44 ∷ decimal number)) }
 {
     text.push(b',')?;
-    push_decimal(text, number)
+    push_cell(text, number)
 }
 
 /// Appends a comma, and a number if there is one.
@@ -165,7 +184,7 @@ fn push_mark(text: &mut Vec<u8>, mark: Option<u64>) -> Result<(), AllocError>
 {
     text.push(b',')?;
     match mark {
-        Some(number) => push_decimal(text, number),
+        Some(number) => push_cell(text, number),
         None => Ok(()),
     }
 }

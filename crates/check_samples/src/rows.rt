@@ -106,22 +106,26 @@ impl<R: Read + Drop> Rows<R> {
         Rows { dump, sampler }
     }
 
-    /// Reads on to what happens next, and appends the rows that are then due. After the end or a fault it is called no
-    /// more.
+    /// Reads on to the next time, and appends the rows that are then due. Changes are taken on the way. After the end or
+    /// a fault it is called no more.
     pub fn read(&mut self, text: &mut Vec<u8>) -> Result<Progress, RowsFault>
         ensures ok { IfOk result (λ progress. Both self.old self.new (RowsGoOn progress text.old.items text.new.items)) }
         ensures fault { IfErr result (λ fault. IfSome self.old (Stops fault text.old.items text.new.items)) }
     {
-        match self.dump.read() {
-            Ok(Some(event)) => {
-                self.sampler.take(text, event, self.dump.value())?;
-                Ok(Progress::More)
+        for _ in 0..u64::MAX {
+            match self.dump.read() {
+                Ok(Some(Event::Change(slot))) => self.sampler.change(slot, self.dump.value())?,
+                Ok(Some(event)) => {
+                    self.sampler.take(text, event, self.dump.value())?;
+                    return Ok(Progress::More);
+                }
+                Ok(None) => {
+                    self.sampler.push_rows(text)?;
+                    return over(self.sampler.edge_fault()?);
+                }
+                Err(fault) => return Err(RowsFault::from(fault)),
             }
-            Ok(None) => {
-                self.sampler.push_rows(text)?;
-                over(self.sampler.edge_fault()?)
-            }
-            Err(fault) => Err(RowsFault::from(fault)),
         }
+        Err(RowsFault::Read)
     }
 }

@@ -179,7 +179,7 @@ impl Sampler {
     }
 
     /// Changes the value in a slot; a slot that is not kept is left alone.
-    fn change(&mut self, slot: usize, digits: &[u8]) -> Result<(), AllocError>
+    pub(crate) fn change(&mut self, slot: usize, digits: &[u8]) -> Result<(), AllocError>
         ensures { OnOk result (self.new ≡ with_value self.old slot digits.now) }
     {
         if slot < self.values.count() {

@@ -5,7 +5,7 @@ use Rattle.std.proofs.lemmas.Bool.Decides.{nat_tests}
 use Rattle.std.proofs.Math.Nat.{min-eq_left, min-eq_right, min-le_left}
 use Rattle.std.proofs.lemmas.List.{drop-drop, drop-take, length-append, length-drop, length-take, length-take-le, take-take, take_all}
 use Rattle.std.specs.Prelude.{min, nat_le, nat_lt, not, slice_range, ◌&&◌, if◌then◌else◌}
-use Rattle.check_vcd.specs.Words.{Front, IsFront, are_letters, is_blank, with_byte, with_bytes, words_from}
+use Rattle.check_vcd.specs.Words.{Front, IsFront, are_letters, is_blank, nothing, with_byte, with_bytes, words_from}
 use Rattle.check_vcd.specs.declared.scanner.TheConstants.{MAX_WORD}
 use Rattle.check_vcd.proofs.WordLemmas.{words-letter}
 
@@ -41,6 +41,13 @@ with-run front [] =
 with-run front (byte ∷ run) =
     with-run (with_byte front byte) run
     ∙ one_more MAX_WORD front.bytes front.size byte run (nat_lt (length front.bytes) MAX_WORD) refl
+
+-- a word that is no longer than what is kept
+pub whole-run : (run : List ℕ) → length run ≤ MAX_WORD → with_bytes nothing run ≡ record { bytes = run; size = length run }
+whole-run run fits =
+    with-run nothing run
+    ∙ ap₂ (λ (b : List ℕ) (n : ℕ). let f : Front = record { bytes = b; size = n } in f)
+    (take_all MAX_WORD run fits) (let e : 0 + length run ≡ length run = omega arith in e)
 
 pub front-run : (front : Front) (run : List ℕ) → IsFront front → IsFront (with_bytes front run)
 front-run front [] is = is

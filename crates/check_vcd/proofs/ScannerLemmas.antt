@@ -1,14 +1,15 @@
 -- The bytes at hand are taken.
-use Rattle.std.proofs.Common.{◌≡◌, ℕ, ◌+◌, ◌<◌, ◌≤◌, Bool, true, false, nat_lt, List, ◌∷◌, ◌++◌, append_assoc, drop, length, get_or, slice_range, take, Result, Ok, Err, refl, sym, ap, ap₂, ◌∙◌, arith, subst}
-use Rattle.std.proofs.lemmas.List.{take-append-drop}
+use Rattle.std.proofs.Common.{◌≡◌, ℕ, ◌+◌, ◌-◌, ◌<◌, ◌≤◌, Bool, true, false, nat_lt, List, ◌∷◌, ◌++◌, append_assoc, drop, length, get_or, slice_range, take, Result, Ok, Err, refl, sym, ap, ap₂, ◌∙◌, arith, subst}
+use Rattle.std.proofs.lemmas.List.{take-append-drop, take-take}
 use Rattle.std.proofs.lemmas.Bool.Decides.{nat_tests}
 use Rattle.std.specs.Result.{IfOk, OnOk}
 use Rattle.check_vcd.specs.Words.{Front, IsFront, Word, are_letters, is_blank, line_after, nothing, with_byte, with_bytes, words_from}
 use Rattle.check_vcd.specs.Scanner.{HasMoved, TakesWord, at_hand, front, word_at_hand}
 use Rattle.check_vcd.specs.declared.fault.DumpFault.{DumpFault}
+use Rattle.check_vcd.specs.declared.scanner.TheConstants.{MAX_WORD}
 use Rattle.check_vcd.specs.declared.scanner.Scanner.{Scanner}
 use Rattle.check_vcd.proofs.HandLemmas.{hand-first}
-use Rattle.check_vcd.proofs.RunLemmas.{front-run, hand-after, words-run}
+use Rattle.check_vcd.proofs.RunLemmas.{front-run, hand-after, hand-length, whole-run, words-run}
 use Rattle.check_vcd.proofs.WordLemmas.{words-ended, words-letter, words-skipped}
 
 -- a byte at hand
@@ -91,3 +92,46 @@ pub takes-more : {R : Type 0} (old mid new : Scanner R) (ended : Bool) → Takes
     → TakesWord old new ended
 takes-more old mid new true one two = λ rest. one.0 rest ∙ two rest
 takes-more old mid new false one two = ((λ rest. one.0 rest ∙ two.0 rest), two.1)
+
+-- ---- a word that is at hand as a whole
+
+module _ (chunk : List ℕ) (next filled count : ℕ) (some : 0 < count) (within : next + count < filled)
+    (inside : filled ≤ length chunk) (fits : filled ≤ MAX_WORD) where
+  abbrev pub run : List ℕ
+  run = take count (slice_range chunk next filled)
+
+  abbrev pub tail : List ℕ
+  tail = slice_range chunk (next + count + 1) filled
+
+  run_length : length run ≡ count
+  run_length = hand-length chunk next filled count (omega (arith, within)) inside
+
+  run_is : run ≡ slice_range chunk next (next + count)
+  run_is =
+      take-take count (filled - next) (drop next chunk) (omega (arith, within))
+      ∙ ap (λ (n : ℕ). take n (drop next chunk)) (let e : count ≡ next + count - next = omega arith in e)
+
+  parts : (byte : ℕ) → get_or chunk (next + count) byte ≡ byte → slice_range chunk next filled ≡ run ++ (byte ∷ tail)
+  parts byte is =
+      sym (take-append-drop count (slice_range chunk next filled))
+      ∙ ap (λ (l : List ℕ). run ++ l)
+      (hand-after chunk next filled count (omega (arith, within))
+      ∙ hand-first chunk (next + count) filled byte (omega (arith, within)) inside
+      ∙ ap (λ (b : ℕ). b ∷ tail) is)
+
+  pub whole-word : (line after byte : ℕ) → are_letters run ≡ true → get_or chunk (next + count) byte ≡ byte
+      → is_blank byte ≡ true → after ≡ line_after line byte → (rest : List ℕ)
+      → words_from line nothing (slice_range chunk next filled ++ rest)
+      ≡ record { line = line; bytes = slice_range chunk next (next + count); size = next + count - next }
+      ∷ words_from after nothing (tail ++ rest)
+  whole-word line after byte are is blank_is lines rest =
+      ap (λ (l : List ℕ). words_from line nothing (l ++ rest)) (parts byte is)
+      ∙ ap (words_from line nothing) (append_assoc run (byte ∷ tail) rest)
+      ∙ words-run line nothing run (byte ∷ (tail ++ rest)) are
+      ∙ ap (λ (f : Front). words_from line f (byte ∷ (tail ++ rest)))
+      (whole-run run (omega (arith, run_length, within, fits)))
+      ∙ words-ended line (record { bytes = run; size = length run }) byte (tail ++ rest) blank_is
+      (omega (arith, run_length, some))
+      ∙ ap₂ (λ (w : Word) (l : ℕ). w ∷ words_from l nothing (tail ++ rest))
+      (ap₂ (λ (b : List ℕ) (n : ℕ). let w : Word = record { line = line; bytes = b; size = n } in w) run_is
+      (omega (arith, run_length))) (sym lines)

@@ -1,7 +1,8 @@
 -- A reader, the bytes of it that were read and not yet taken, and the word at hand. This project's own.
-use Rattle.std.specs.Prelude.{◌≡◌, ℕ, ◌+◌, Bool, true, false, List, ◌∷◌, ◌++◌, slice_range, Option, option_map}
+use Rattle.std.specs.Prelude.{◌≡◌, ℕ, ◌+◌, ◌-◌, ◌≤◌, length, Bool, true, false, List, ◌∷◌, ◌++◌, slice_range, IfSome, Option, None, Some, option_map}
 use Rattle.std.specs.Io.KnownBytes.{prepend_known}
 use Rattle.check_vcd.specs.Words.{Front, IsFront, Word, nothing, words_from}
+use Rattle.check_vcd.specs.declared.scanner.Places.{Places}
 use Rattle.check_vcd.specs.declared.scanner.Scanner.{Scanner}
 
 -- the bytes at hand
@@ -48,3 +49,28 @@ TakesWord old new false =
     ((rest : List ℕ) → words_from old.next_line (front old) (at_hand old ++ rest)
     ≡ words_from new.next_line (front new) (at_hand new ++ rest))
     × IsFront (front new)
+
+-- a word that stands whole at these places of the chunk
+abbrev pub word_between : {R : Type 0} → Scanner R → Places → Word
+word_between scanner places = record {
+  line = scanner.line;
+  bytes = slice_range scanner.chunk.items places.from places.to;
+  size = places.to - places.from;
+}
+
+-- it was taken, with the blank that ends it, whatever follows those at hand
+pub record TakesWhole {R : Type 0} (old new : Scanner R) (places : Places) : Type 0 where
+  pub from : places.from ≤ places.to
+  pub inside : places.to ≤ length new.chunk.items
+  pub word : (rest : List ℕ) → words_from old.next_line nothing (at_hand old ++ rest)
+      ≡ word_between new places ∷ words_from new.next_line nothing (at_hand new ++ rest)
+
+-- the word that was read last: it stands whole in the chunk, or by itself
+abbrev pub last_word : {R : Type 0} → Scanner R → Option Places → Word
+last_word scanner None = word_at_hand scanner
+last_word scanner (Some places) = word_between scanner places
+
+-- its places lie within the chunk
+abbrev pub IsPlaced : {R : Type 0} → Scanner R → Option Places → Type 0
+IsPlaced scanner whole =
+    IfSome whole (λ places. (places.from ≤ places.to) × (places.to ≤ length scanner.chunk.items))

@@ -136,6 +136,7 @@ impl Body {
     }
 
     /// Takes the digits of a value, of which there were so many.
+    #[inline(always)]
     #[tactic(auto, using(crate::proofs::DigitLemmas::plain_are_bits))]
     fn take_vector(&mut self, digits: &[u8], size: u64) -> Result<Option<Event>, WordFault>
         ensures told { Tells result (with_digits (body_of self.old) digits.now size) self.new }
@@ -166,6 +167,7 @@ impl Body {
     }
 
     /// Takes a word that begins something new.
+    #[inline(always)]
     fn begin(&mut self, word: &[u8], size: u64, line: u64) -> Result<Option<Event>, WordFault>
         ensures told { Tells result (begun (find_in self.old.codes) (body_of self.old) line size word.now) self.new }
         ensures codes { self.new.codes ≡ self.old.codes }
@@ -196,6 +198,7 @@ impl Body {
     }
 
     /// Takes a word of so many bytes on this line, and answers what happens with it.
+    #[inline(always)]
     pub(crate) fn take(
         &mut self,
         word: &[u8],

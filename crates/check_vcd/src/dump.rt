@@ -29,7 +29,7 @@ fn codes_of(alloc: Global, vars: &[Var]) -> Result<Codes, AllocError>
     ensures { IfOk result (λ codes. (code : List ℕ)
         → find_in codes code ≡ coded_in (map var_view vars.now) code) }
 {
-    let mut codes = Codes::new(alloc);
+    let mut codes = Codes::new(alloc)?;
     for var in vars {
         let coded = as_widest(codes.find(&var.code), var.width);
         codes.put(alloc, &var.code, coded)?;

@@ -1,8 +1,8 @@
 //! The bytes of a stream, and the word that they spell.
-ghost use Rattle.std.specs.Prelude.{◌≡◌, ℕ, Err, true, false, ◌≤◌, ◌<◌, ◌+◌, ◌++◌, ◌∷◌, [], List, length, take, vec_len, nat_lt, IfOk, IfErr, OnOk};
+ghost use Rattle.std.specs.Prelude.{◌≡◌, ℕ, Err, true, false, ◌≤◌, ◌<◌, ◌+◌, ◌++◌, ◌∷◌, [], List, None, length, slice_range, take, vec_len, nat_lt, IfOk, IfErr, IfSome, OnOk};
 ghost use Rattle.std.specs.Io.KnownBytes.{Consumes, IsAtEnd, Keeps};
 ghost use Rattle.check_vcd.specs.Fault.{IsNoMistake};
-ghost use Rattle.check_vcd.specs.Words.{are_letters, is_blank};
+ghost use Rattle.check_vcd.specs.Words.{are_letters, is_blank, line_after};
 
 use crate::fault::DumpFault;
 use std::alloc::Global;
@@ -39,6 +39,17 @@ fn run_length(text: &[u8]) -> usize
     text.len()
 }
 
+/// The line after a byte, if it has a number.
+#[inline(always)]
+fn line_behind(line: u64, byte: u8) -> Option<u64>
+    ensures { IfSome result (λ after. after ≡ line_after line byte) }
+{
+    match byte {
+        b'\n' => line.checked_add(1),
+        _ => Some(line),
+    }
+}
+
 /// Reads once, and again if that is interrupted.
 fn read_some<R: Read>(reader: &mut R, buffer: &mut [u8]) -> Result<usize, DumpFault>
     ensures inside { IfOk result (λ count. count ≤ length buffer.new) }
@@ -71,6 +82,13 @@ fn read_over<R: Read>(reader: &mut R, chunk: &mut Vec<u8>) -> Result<usize, Dump
     read_some(reader, chunk.as_mut_slice())
 }
 
+/// Where a word stands in a chunk: from this place to before that.
+#[derive(Debug, Clone, Copy, PartialEq, Eq)]
+pub(crate) struct Places {
+    pub(crate) from: usize,
+    pub(crate) to: usize,
+}
+
 /// Reads the words of a text: a reader, the bytes of it that were read, the part of them that is not taken yet, and the
 /// line on which that begins; and the word at hand, with the line on which it stands.
 #[derive(Drop)]
@@ -89,8 +107,8 @@ pub(crate) struct Scanner<R> {
 }
 
 impl<R: Read + Drop> Scanner<R> {
-    ghost use Rattle.check_vcd.specs.Words.{AnswersWord, HasWordsOf, IsFront, line_after, nothing, with_byte, with_bytes};
-    ghost use Rattle.check_vcd.specs.Scanner.{HasMoved, HasSameBytes, TakesWord, at_hand, front, left, scanner_left, word_at_hand};
+    ghost use Rattle.check_vcd.specs.Words.{AnswersWord, HasWordsOf, IsFront, nothing, with_byte, with_bytes};
+    ghost use Rattle.check_vcd.specs.Scanner.{HasMoved, HasSameBytes, TakesWhole, TakesWord, at_hand, front, left, scanner_left, word_at_hand};
 
     /// The words of what a reader gives.
     pub(crate) fn new(alloc: Global, reader: R) -> Result<Scanner<R>, DumpFault>
@@ -180,6 +198,7 @@ impl<R: Read + Drop> Scanner<R> {
     }
 
     /// Takes so many bytes of a word. Of a long word the front is kept.
+    #[inline(always)]
     fn push_run(&mut self, count: usize) -> Result<(), DumpFault>
         requires { self.old.next + count ≤ self.old.filled }
         ensures front { OnOk result (front self.new ≡ with_bytes (front self.old) (take count (at_hand self.old))) }
@@ -199,6 +218,7 @@ impl<R: Read + Drop> Scanner<R> {
     }
 
     /// Takes the bytes at hand up to the first blank.
+    #[inline(always)]
     fn take_run(&mut self) -> Result<(), DumpFault>
         requires { IsFront (front self.old) }
         ensures ok { OnOk result (TakesWord self.old self.new false) }
@@ -212,6 +232,7 @@ impl<R: Read + Drop> Scanner<R> {
     }
 
     /// Takes the bytes at hand, up to the blank that ends a word; answers whether one did.
+    #[inline(always)]
     fn take_bytes(&mut self) -> Result<bool, DumpFault>
         requires { IsFront (front self.old) }
         ensures ok { IfOk result (TakesWord self.old self.new) }
@@ -228,7 +249,44 @@ impl<R: Read + Drop> Scanner<R> {
         Ok(false)
     }
 
+    /// The bytes of the chunk at these places.
+    #[inline(always)]
+    pub(crate) fn bytes_at(&self, places: Places) -> &[u8]
+        requires from { places.from ≤ places.to }
+        requires inside { places.to ≤ length self.now.chunk.items }
+        ensures { result.now ≡ slice_range self.now.chunk.items places.from places.to }
+    {
+        &self.chunk[places.from..places.to]
+    }
+
+    /// Takes the next word, if all of it is at hand, and so is the blank that ends it; answers its places in the chunk.
+    /// Nothing changes if it is not.
+    #[inline(always)]
+    pub(crate) fn take_whole(&mut self) -> Option<Places>
+        ensures some { IfSome result (TakesWhole self.old self.new) }
+        ensures none { result ≡ None → self.new ≡ self.old }
+        ensures reader { self.new.reader ≡ self.old.reader }
+    {
+        let count = run_length(&self.chunk[self.next..self.filled]);
+        let end = self.next + count;
+        if count == 0 || end >= self.filled {
+            return None;
+        }
+        let byte = self.chunk[end];
+        if !is_blank(byte) {
+            return None;
+        }
+        let line = self.next_line;
+        let after = line_behind(line, byte)?;
+        let from = self.next;
+        self.line = line;
+        self.next_line = after;
+        self.next = end + 1;
+        Some(Places { from, to: end })
+    }
+
     /// Reads the next word; answers whether there was one. A last word that no blank ends is none, since it may be cut.
+    #[inline(always)]
     pub(crate) fn read(&mut self) -> Result<bool, DumpFault>
         ensures ok { IfOk result (AnswersWord (left R.remaining self.old nothing) (left R.remaining self.new nothing)
             (word_at_hand self.new)) }

@@ -1,5 +1,5 @@
 //! What a word of a dump's body begins.
-ghost use Rattle.std.specs.Prelude.{◌≡◌};
+ghost use Rattle.std.specs.Prelude.{◌≡◌, true};
 ghost use Rattle.check_vcd.specs.Token.{are_bits, are_plain, is_bit, is_end, is_ignored, is_plain, is_unset, is_weak_high, is_weak_low, plain_digit, token_kind, starts_other, starts_vector};
 
 /// What a word of a dump's body begins.
@@ -30,11 +30,31 @@ fn is_plain(digit: u8) -> bool
     matches!(digit, b'0' | b'1' | b'x' | b'X' | b'z' | b'Z')
 }
 
-/// Whether each of these is.
+/// Whether a digit is 0 or 1.
+#[inline(always)]
+fn is_binary(digit: u8) -> bool
+    ensures { result ≡ true → is_plain digit ≡ true }
+{
+    digit & 254 == b'0'
+}
+
+/// Whether each of these is, as in most dumps. All are looked at, several at once, which is faster than to stop at the
+/// first that is not.
+fn are_binary(digits: &[u8]) -> bool
+    ensures { result ≡ true → are_plain digits.now ≡ true }
+{
+    let mut all = true;
+    for digit in digits {
+        all = all & is_binary(*digit);
+    }
+    all
+}
+
+/// Whether each of these is one bit of four values.
 pub fn are_plain(digits: &[u8]) -> bool
     ensures { result ≡ are_plain digits.now }
 {
-    digits.iter().all(|digit| is_plain(*digit))
+    are_binary(digits) || digits.iter().all(|digit| is_plain(*digit))
 }
 
 /// Whether a digit is a weak 0.
@@ -89,6 +109,7 @@ pub fn are_bits(digits: &[u8]) -> bool
     digits.iter().all(|digit| is_bit(*digit))
 }
 
+#[inline(always)]
 fn starts_vector(first: u8) -> bool
     ensures { result ≡ starts_vector first }
 {
@@ -114,14 +135,15 @@ fn is_ignored(word: &[u8]) -> bool
     is_end(word) || word == b"$dumpvars".as_slice() || word == b"$dumpall".as_slice()
 }
 
-/// What a word with this first byte begins.
+/// What a word with this first byte begins. Most begin a vector, and no bit is spelled as that is.
+#[inline(always)]
 pub fn token_kind(first: u8, word: &[u8]) -> TokenKind
     ensures { result ≡ token_kind first word.now }
 {
-    if is_bit(first) {
-        TokenKind::Scalar
-    } else if starts_vector(first) {
+    if starts_vector(first) {
         TokenKind::Vector
+    } else if is_bit(first) {
+        TokenKind::Scalar
     } else if first == b'#' {
         TokenKind::Time
     } else if starts_other(first) {

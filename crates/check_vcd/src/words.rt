@@ -4,15 +4,16 @@ ghost use Rattle.check_vcd.specs.Fault.{IsNoMistake};
 ghost use Rattle.check_vcd.specs.Words.{AnswersWord, HasWordsOf};
 
 use crate::fault::DumpFault;
-use crate::scanner::Scanner;
+use crate::scanner::{Places, Scanner};
 use std::alloc::Global;
 use std::io::Read;
 use std::marker::Model;
 
-/// Reads the words of a text.
+/// Reads the words of a text. The last word stands in the scanner's chunk, if all of it was at hand, and else by itself.
 #[derive(Drop)]
 pub struct Words<R: Read + Drop> {
     scanner: Scanner<R>,
+    whole: Option<Places>,
 }
 
 impl<R: Read + Drop> Model for Words<R> {
@@ -21,9 +22,11 @@ impl<R: Read + Drop> Model for Words<R> {
     ghost Value = { Reading };
 
     ghost use Rattle.check_vcd.specs.Words.{nothing};
-    ghost use Rattle.check_vcd.specs.Scanner.{left, word_at_hand};
+    ghost use Rattle.check_vcd.specs.Scanner.{IsPlaced, left, last_word};
 
-    ghost view = { λ w. record { left = left R.remaining w.scanner nothing; word = word_at_hand w.scanner } };
+    ghost view = { λ w. record { left = left R.remaining w.scanner nothing; word = last_word w.scanner w.whole } };
+
+    ghost invariant = { λ w. IsPlaced w.scanner w.whole };
 }
 
 impl<R: Read + Drop> Words<R> {
@@ -34,14 +37,20 @@ impl<R: Read + Drop> Words<R> {
     {
         Ok(Words {
             scanner: Scanner::new(alloc, reader)?,
+            whole: None,
         })
     }
 
     /// Reads the next word; answers whether there was one. A last word that no blank ends is none, since it may be cut.
+    #[inline(always)]
     pub fn read(&mut self) -> Result<bool, DumpFault>
         ensures ok { IfOk result (AnswersWord self.old.left self.new.left self.new.word) }
         ensures fault { IfErr result IsNoMistake }
     {
+        self.whole = self.scanner.take_whole();
+        if self.whole.is_some() {
+            return Ok(true);
+        }
         self.scanner.read()
     }
 
@@ -49,14 +58,20 @@ impl<R: Read + Drop> Words<R> {
     pub fn bytes(&self) -> &[u8]
         ensures { result.now ≡ self.now.word.bytes }
     {
-        self.scanner.word.as_slice()
+        match self.whole {
+            Some(places) => self.scanner.bytes_at(places),
+            None => self.scanner.word.as_slice(),
+        }
     }
 
     /// How many bytes it had.
     pub fn size(&self) -> u64
         ensures { result ≡ self.now.word.size }
     {
-        self.scanner.size
+        match self.whole {
+            Some(places) => (places.to - places.from) as u64,
+            None => self.scanner.size,
+        }
     }
 
     /// The line on which it stands, counted from 1 by line feeds.

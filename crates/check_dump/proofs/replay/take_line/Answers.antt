@@ -1,17 +1,26 @@
 -- The row of the line is taken, or why it is not.
-use Rattle.std.proofs.Common.{sym}
+use Rattle.std.proofs.Common.{◌≡◌, subst, sym}
 use Rattle.check_rows.specs.Row.{seen_row}
+use Rattle.check_review.specs.View.{JudgeView}
 use Rattle.check_text.specs.Buses.{link_buses}
+use Rattle.check_dump.specs.Replay.{LineStops, halt_of}
 use Rattle.check_dump.proofs.ReplayLemmas.{line_stops}
 use Rattle.check_dump.proofs.replay.take_line.Goals as goal
 
 pub returns-in-Err-take-clause-halt : goal.returns-in-Err-take-clause-halt
 returns-in-Err-take-clause-halt c =
+    let same : c.take_quietly.new.self ≡ c.args.judge.now =
+    c.in-Ok-false.ensures.left c.in-Ok-false.field-0-test in
+    let buses = link_buses c.args.buses.now in
+    let told = c.args.told.now.items in
+    let grown = c.take.new.text.items in
+    let tally = c.take.new.self.tally in
+    let stop = c.in-Err-take.stop in
     rw c.halt_of.ensures
-    (line_stops (link_buses c.args.buses.now) c.args.number c.args.line.now (seen_row c.in-Ok.row c.read_bare_row.new.lanes)
-    (sym c.in-Ok.ensures.value) c.args.judge.now c.take.new.self.tally c.args.told.now.items c.take.new.text.items
-    c.in-Err-take.stop (λ plan rows so_far has. (
+    (subst (λ (j : JudgeView). LineStops buses c.args.number c.args.line.now j tally told grown (halt_of c.args.number stop)) same
+    (line_stops buses c.args.number c.args.line.now (seen_row c.in-Ok.row c.read_bare_row.new.lanes)
+    (sym c.in-Ok.ensures.value) c.take_quietly.new.self tally told grown stop (λ plan rows so_far has. (
       c.in-Err-take.ensures.row.stop plan rows has.judges,
       c.in-Err-take.ensures.row.stop_covered plan rows has.judges,
       c.in-Err-take.ensures.row.stop_told plan rows so_far has,
-    )))
+    ))))

@@ -1,6 +1,6 @@
 -- One signal more.
-use Rattle.std.proofs.Common.{◌≡◌, ◌∷◌, ◌+◌, drop, map, ◌∙◌}
-use Rattle.std.proofs.lemmas.List.{drop_more}
+use Rattle.std.proofs.Common.{◌≡◌, [], arith, ◌∷◌, ◌+◌, drop, map, ◌∙◌}
+use Rattle.std.proofs.lemmas.List.{drop_all, drop_more}
 use Rattle.check_vcd.specs.Codes.{coded_from, coded_in, find_in}
 use Rattle.check_vcd.specs.Header.{var_view}
 use Rattle.check_vcd.proofs.CodeLemmas.{put-widest}
@@ -19,3 +19,10 @@ loop-var-preserved c = λ code.
     (λ other. rw (c.deref-in-loop-var.ensures.value, c.as_widest-coded.ensures, c.find.ensures, c.deref.ensures.value) at
     (c.in_ok-put.ensures other))
     ∙ so_far
+
+pub returns : goal.returns
+returns c = λ code.
+    let vars = c.args.vars.now in
+    let none : drop c.loop-var.var-index vars ≡ [] =
+    drop_all c.loop-var.var-index vars (omega (arith, c.loop-var-test.false)) in
+    rw none at (c.loop-var.invariant code)
