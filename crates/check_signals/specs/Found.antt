@@ -44,7 +44,7 @@ use Rattle.check_signals.specs.declared.wanted.Wanted.TheVariants.{AtMost}
 
 -- a clock and a reset have one bit
 abbrev pub line_asked : SignalOwner → List ℕ → WantedSignal
-line_asked whose name = record { owner = whose; name = name; is_prefixed = false; wanted = AtMost 1 }
+line_asked whose name = record { owner = whose; name = name; behind = None; wanted = AtMost 1 }
 
 abbrev pub line_source : List Var → SignalOwner → List ℕ → Result Source SearchFault
 line_source vars whose name = named_in vars (line_asked whose name) >>= one_of (line_asked whose name)

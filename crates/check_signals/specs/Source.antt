@@ -1,5 +1,5 @@
 -- What a name of a system file finds among the signals that a dump declares. This project's own.
-use Rattle.std.specs.Prelude.{◌≡◌, ◌≢◌, ℕ, ◌+◌, ◌-◌, Bool, ◌&&◌, not, nat_lt, List, [], ◌∷◌, map, codes, Option, None, Some, option_map, MatchResult, Result, Ok, Err, Vec, if◌then◌else◌}
+use Rattle.std.specs.Prelude.{◌≡◌, ◌≢◌, ℕ, ◌+◌, ◌-◌, Bool, ◌&&◌, not, nat_lt, List, [], ◌∷◌, ◌++◌, drop, length, take, map, codes, Option, None, Some, is_some, option_map, MatchResult, Result, Ok, Err, Vec, if◌then◌else◌}
 use Rattle.std.specs.Global.{Global}
 use Rattle.std.specs.List.{list_any}
 use Rattle.std.specs.Str.{bytes_eq}
@@ -7,6 +7,9 @@ use Rattle.check_vcd.specs.Codes.{coded_in}
 use Rattle.check_vcd.specs.Header.{Var}
 use Rattle.check_vcd.specs.declared.codes.Coded.{Coded}
 use Rattle.check_keys.specs.Nearest.{nearest}
+use Rattle.check_samples.specs.Signal.{signal_name}
+use Rattle.check_samples.specs.declared.signal.Signal.{Signal}
+use Rattle.check_signals.specs.Prefixes.{has_name, is_handshake, with_bits}
 use Rattle.check_signals.specs.Wanted.{bits_fit, count_of, may_be_absent, may_be_unfound}
 use Rattle.check_signals.specs.Wires.{Wire, wires_called, widest_of}
 use Rattle.check_signals.specs.declared.signal_fault.SignalOwner.{SignalOwner}
@@ -19,15 +22,15 @@ use Rattle.check_signals.specs.declared.source.Source as code_source
 use Rattle.check_signals.specs.declared.source.TheConstants.{MAX_WIDTH}
 use Rattle.check_signals.specs.declared.wanted.Wanted.{Wanted}
 
--- a signal that is looked for: whose it is, its name, whether that is the specification's behind a prefix, and how many bits
--- it has to have
+-- a signal that is looked for: whose it is, its name, which signal of a link it is if that stands behind a prefix, and how many
+-- bits it has to have
 pub record WantedSignal : Type 0 where
   pub owner : SignalOwner
   pub name : List ℕ
-  pub is_prefixed : Bool
+  pub behind : Option Signal
   pub wanted : Wanted
 
--- why it is not found: no signal has the name, and this is the nearest one; two have it, and identifiers of their own; or it
+-- why it is not found: no signal has the name, and this one may be meant; two have it, and identifiers of their own; or it
 -- has so many bits, and not those that are wanted. Or memory was refused, which no definition here says of anything
 pub data SearchFault : Type 0 where
   NoSignal : SignalOwner → List ℕ → Option (List ℕ) → SearchFault
@@ -74,8 +77,32 @@ width_by (Some coded) = coded.width
 abbrev pub width_of : List Var → List ℕ → ℕ
 width_of vars code = width_by (coded_in vars code)
 
+-- the name that `bits = true` looks for, in the place of the specification's name behind a prefix
+abbrev pub bundled_name : List ℕ → Signal → Option (List ℕ)
+bundled_name name which =
+    let split = length name - length (signal_name which) in
+    if not (is_handshake which) && bytes_eq (drop split name) (signal_name which)
+    then Some (take split name ++ with_bits (signal_name which)) else None
+
+abbrev pub bundled_if_any : List ℕ → Option Signal → Option (List ℕ)
+bundled_if_any name None = None
+bundled_if_any name (Some which) = bundled_name name which
+
+-- a name, if a signal has it
+abbrev pub if_declared : List Var → Option (List ℕ) → Option (List ℕ)
+if_declared vars None = None
+if_declared vars (Some name) = if has_name vars name then Some name else None
+
+-- what may have been meant by a name that no signal has: the name that `bits = true` would find, or else the nearest name
+abbrev pub or_nearest : List Var → List ℕ → Option (List ℕ) → Option (List ℕ)
+or_nearest vars name None = nearest name (map (λ var. var.name) vars)
+or_nearest vars name (Some bundled) = Some bundled
+
+abbrev pub near_in : List Var → WantedSignal → Option (List ℕ)
+near_in vars asked = or_nearest vars asked.name (if_declared vars (bundled_if_any asked.name asked.behind))
+
 abbrev pub missing : List Var → WantedSignal → SearchFault
-missing vars asked = NoSignal asked.owner asked.name (nearest asked.name (map (λ var. var.name) vars))
+missing vars asked = NoSignal asked.owner asked.name (near_in vars asked)
 
 abbrev pub too_wide : WantedSignal → ℕ → ℕ → SearchFault
 too_wide asked bits wanted = Width asked.owner asked.name bits wanted
@@ -100,7 +127,7 @@ measured vars asked wire =
 
 -- no signal has the name: one that a prefix need not find is left out
 abbrev pub may_lack : WantedSignal → Bool
-may_lack asked = asked.is_prefixed && may_be_unfound asked.wanted
+may_lack asked = is_some asked.behind && may_be_unfound asked.wanted
 
 abbrev pub unfound : List Var → WantedSignal → Result Source SearchFault
 unfound vars asked = if may_lack asked then Ok left_out else Err (missing vars asked)
@@ -127,7 +154,7 @@ parts_bits (part ∷ parts) = (part.to - part.from) + parts_bits parts
 
 abbrev pub asked_view : code_asked.WantedSignal → WantedSignal
 asked_view asked =
-    record { owner = asked.owner; name = asked.name.now; is_prefixed = asked.is_prefixed; wanted = asked.wanted }
+    record { owner = asked.owner; name = asked.name.now; behind = asked.behind; wanted = asked.wanted }
 
 abbrev pub kept_view : code_kept.Kept → Kept
 kept_view (kept.Signal code width) = Changing code.now width

@@ -37,7 +37,7 @@ fn line_source<'a>(
     let asked = WantedSignal {
         owner,
         name,
-        is_prefixed: false,
+        behind: None,
         wanted: Wanted::AtMost(1),
     };
     let parts = named_in(alloc, vars, asked)?;

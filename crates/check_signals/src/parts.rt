@@ -36,14 +36,14 @@ fn whole_of<'a>(
     vars: &'a [Var],
     signal: LinkSignal,
     name: &[u8],
-    is_prefixed: bool,
+    behind: Option<Signal>,
 ) -> Result<Parts<'a>, SignalFault>
-    ensures { Finds sources_view result (whole_of (map var_view vars.now) signal name.now is_prefixed) }
+    ensures { Finds sources_view result (whole_of (map var_view vars.now) signal name.now behind) }
 {
     let asked = WantedSignal {
         owner: signal.owner,
         name,
-        is_prefixed,
+        behind,
         wanted: signal.wanted,
     };
     named_in(alloc, vars, asked)
@@ -61,7 +61,7 @@ fn part_of<'a>(
     let asked = WantedSignal {
         owner: signal.owner,
         name,
-        is_prefixed: false,
+        behind: None,
         wanted: Wanted::AtMost(MAX_WIDTH),
     };
     named_in(alloc, vars, asked)
@@ -153,8 +153,10 @@ pub(crate) fn signal_parts<'a>(
     ensures { Finds sources_view result (signal_parts (map var_view vars.now) signal (name_view name.now)) }
 {
     match name {
-        SignalName::Prefixed(names) => { whole_of(alloc, vars, signal, taken(vars, names), true) }
-        SignalName::Wired(name) => whole_of(alloc, vars, signal, name, false),
+        SignalName::Prefixed(names) => {
+            whole_of(alloc, vars, signal, taken(vars, names), Some(signal.which))
+        }
+        SignalName::Wired(name) => whole_of(alloc, vars, signal, name, None),
         SignalName::Joined(names) => {
             let found = each_part(alloc, vars, signal, names)?;
             fitting(alloc, signal, joined(alloc, &found)?)

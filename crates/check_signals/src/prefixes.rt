@@ -134,7 +134,7 @@ pub(crate) fn table_of_names(table: &Table) -> Result<Option<&Table>, KeyFault>
 }
 
 /// Whether a signal is one of a handshake.
-fn is_handshake(signal: Signal) -> bool
+pub(crate) fn is_handshake(signal: Signal) -> bool
     ensures { result ≡ is_handshake signal }
 {
     matches!(
@@ -144,7 +144,7 @@ fn is_handshake(signal: Signal) -> bool
 }
 
 /// Appends a name with `bits_` after its channel.
-fn push_with_bits(text: &mut Vec<u8>, name: &[u8]) -> Result<(), AllocError>
+pub(crate) fn push_with_bits(text: &mut Vec<u8>, name: &[u8]) -> Result<(), AllocError>
     ensures { OnOk result (text.new.items ≡ text.old.items ++ with_bits name.now) }
 {
     let [channel, line, field @ ..] = name else {
@@ -196,7 +196,7 @@ pub(crate) fn behind_each(
 }
 
 /// Whether a signal has this name.
-fn has_name(vars: &[Var], name: &[u8]) -> bool
+pub(crate) fn has_name(vars: &[Var], name: &[u8]) -> bool
     ensures { result ≡ has_name (map var_view vars.now) name.now }
 {
     for var in vars {

@@ -1,28 +1,30 @@
 //! What a name of a system file finds among the signals that a dump declares.
 ghost use Rattle.std.specs.Prelude.{◌≡◌, ◌≢◌, ◌≤◌, IfOk, map, option_map};
 ghost use Rattle.check_vcd.specs.Header.{var_view};
-ghost use Rattle.check_signals.specs.Source.{Finds, asked_view, constant_of, digit_in, fault_view, is_left_out, left_out, may_lack, measured, missing as missing_in, signal_in, source_view, too_wide, unfound, width_of, within};
+ghost use Rattle.check_signals.specs.Source.{Finds, asked_view, bundled_if_any, bundled_name, constant_of, digit_in, fault_view, if_declared, is_left_out, left_out, may_lack, measured, missing as missing_in, near_in, signal_in, source_view, too_wide, unfound, width_of, within};
 ghost use Rattle.check_signals.specs.Source.{Twice as TwiceIn};
 ghost use Rattle.check_signals.specs.Wires.{IsInside, wire_view};
 ghost use Rattle.check_signals.specs.declared.signal_fault.SignalFault.TheVariants.{Memory};
 
+use crate::prefixes::{has_name, is_handshake, push_with_bits};
 use crate::signal_fault::{SignalFault, SignalOwner};
 use crate::wanted::Wanted;
 use crate::wires::{Wire, has_another, sought, widest_wire};
 use check_keys::nearest;
+use check_samples::Signal;
 use check_vcd::{MAX_WORD, Var};
 use std::alloc::{AllocError, Global};
 
 /// The most bits of a signal whose values are kept.
 pub const MAX_WIDTH: u64 = MAX_WORD as u64 - 1;
 
-/// A signal that is looked for: whose it is, its name, whether that is the specification's behind a prefix, and how many
-/// bits it has to have.
+/// A signal that is looked for: whose it is, its name, which signal of a link it is if that stands behind a prefix, and how
+/// many bits it has to have.
 #[derive(Debug, Clone, Copy)]
 pub(crate) struct WantedSignal<'a> {
     pub(crate) owner: SignalOwner,
     pub(crate) name: &'a [u8],
-    pub(crate) is_prefixed: bool,
+    pub(crate) behind: Option<Signal>,
     pub(crate) wanted: Wanted,
 }
 
@@ -117,12 +119,60 @@ fn names_of(alloc: Global, vars: &[Var]) -> Result<Vec<&[u8]>, AllocError>
     Ok(names)
 }
 
-/// That there is no such signal, with the nearest name that there is.
+/// The name that `bits = true` looks for, in the place of the specification's name of a signal behind a prefix.
+fn bundled_name(alloc: Global, name: &[u8], which: Signal) -> Result<Option<Vec<u8>>, AllocError>
+    ensures { IfOk result (λ bundled. option_map (λ name. name.items) bundled ≡ bundled_name name.now which) }
+{
+    let own = which.name().as_bytes();
+    let split = name.len().saturating_sub(own.len());
+    if is_handshake(which) || &name[split..] != own {
+        return Ok(None);
+    }
+    let mut text = Vec::from_slice(alloc, &name[..split])?;
+    push_with_bits(&mut text, own)?;
+    Ok(Some(text))
+}
+
+/// The same, if the signal stands behind a prefix and one of this name is declared.
+fn bundled_in(
+    alloc: Global,
+    vars: &[Var],
+    asked: WantedSignal<'_>,
+) -> Result<Option<Vec<u8>>, AllocError>
+    ensures { IfOk result (λ bundled. option_map (λ name. name.items) bundled
+        ≡ if_declared (map var_view vars.now) (bundled_if_any asked.entry.name.now asked.entry.behind)) }
+{
+    let Some(which) = asked.behind else {
+        return Ok(None);
+    };
+    match bundled_name(alloc, asked.name, which)? {
+        Some(name) if has_name(vars, &name) => Ok(Some(name)),
+        _ => Ok(None),
+    }
+}
+
+/// What may have been meant by a name that no signal has: the name that `bits = true` would find, or else the nearest
+/// name.
+fn near_in(
+    alloc: Global,
+    vars: &[Var],
+    asked: WantedSignal<'_>,
+) -> Result<Option<Vec<u8>>, AllocError>
+    ensures { IfOk result (λ near. option_map (λ near. near.items) near
+        ≡ near_in (map var_view vars.now) (asked_view asked.entry)) }
+{
+    if let Some(bundled) = bundled_in(alloc, vars, asked)? {
+        return Ok(Some(bundled));
+    }
+    let names = names_of(alloc, vars)?;
+    copy_if_any(alloc, nearest(alloc, &names, asked.name)?)
+}
+
+/// That there is no such signal, with the name that may have been meant.
 fn describe(alloc: Global, vars: &[Var], asked: WantedSignal<'_>) -> Result<SignalFault, AllocError>
     ensures { IfOk result (λ fault. fault_view fault ≡ missing_in (map var_view vars.now) (asked_view asked.entry)) }
 {
-    let names = names_of(alloc, vars)?;
-    let near = copy_if_any(alloc, nearest(alloc, &names, asked.name)?)?;
+    let near = near_in(alloc, vars, asked)?;
     let name = Vec::from_slice(alloc, asked.name)?;
     Ok(SignalFault::NoSignal(asked.owner, name, near))
 }
@@ -209,7 +259,7 @@ fn measured<'a>(
 fn may_lack(asked: WantedSignal<'_>) -> bool
     ensures { result ≡ may_lack (asked_view asked.entry) }
 {
-    asked.is_prefixed && asked.wanted.may_be_unfound()
+    asked.behind.is_some() && asked.wanted.may_be_unfound()
 }
 
 /// What a name finds that no signal has.

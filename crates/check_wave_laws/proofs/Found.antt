@@ -1,5 +1,5 @@
 -- What the names of a system find has no more bits than its columns have room for.
-use Rattle.std.proofs.Common.{◌≡◌, ℕ, zero, suc, ◌+◌, ◌-◌, ◌<◌, ◌≤◌, nat_le, nat_lt, Bool, true, false, ◌&&◌, not, cond, List, [], ◌∷◌, ◌++◌, length, map, Option, Some, None, Result, Ok, Err, Contains, ◌∙◌, ap, arith, refl, slice_get, subst}
+use Rattle.std.proofs.Common.{◌≡◌, ℕ, zero, suc, ◌+◌, ◌-◌, ◌<◌, ◌≤◌, nat_le, nat_lt, Bool, true, false, ◌&&◌, not, cond, List, [], ◌∷◌, ◌++◌, length, map, is_some, Option, Some, None, Result, Ok, Err, Contains, ◌∙◌, ap, arith, refl, slice_get, subst}
 use Rattle.std.specs.Prelude.{⊤, codes}
 use Rattle.std.specs.List.{cons_option, list_any}
 use Rattle.std.specs.Option.{option_and_then}
@@ -117,7 +117,7 @@ unfound-absent (Extra count) is = refl
 -- nor has one that a prefix does not find
 unfound-fits : (vars : List Var) (asked : WantedSignal) (s : Source) → unfound vars asked ≡ Ok s
     → SourceFits vars asked.wanted s
-unfound-fits vars asked s is = go asked.is_prefixed (may_be_unfound asked.wanted) refl is
+unfound-fits vars asked s is = go (is_some asked.behind) (may_be_unfound asked.wanted) refl is
   where
     go : (p m : Bool) → may_be_unfound asked.wanted ≡ m
         → cond (p && m) (Ok left_out) (Err (missing vars asked)) ≡ Ok s → SourceFits vars asked.wanted s
@@ -473,7 +473,7 @@ part-fits : (vars : List Var) (signal : LinkSignal) (name : List ℕ) (parts : L
     → part_of vars signal name ≡ Ok parts → Each (PartFits vars) parts
 part-fits vars signal name parts is =
     (named-fits vars
-    (record { owner = signal.owner; name = name; is_prefixed = false; wanted = AtMost MAX_WIDTH }) parts (omega arith) is).each
+    (record { owner = signal.owner; name = name; behind = None; wanted = AtMost MAX_WIDTH }) parts (omega arith) is).each
 
 joined-fits : (vars : List Var) (signal : LinkSignal) (names : List (List ℕ)) (parts : List Source)
     → (each (part_of vars signal) names >>= (λ found. fitting signal (all_parts found))) ≡ Ok parts
@@ -504,9 +504,9 @@ joined-fits vars signal names parts is =
 parts-fit : (vars : List Var) (signal : LinkSignal) (name : SignalName) (parts : List Source) → 0 < count_of signal.wanted
     → signal_parts vars signal name ≡ Ok parts → PartsFit vars signal.wanted parts
 parts-fit vars signal (Prefixed names) parts some is =
-    named-fits vars (record { owner = signal.owner; name = taken vars names; is_prefixed = true; wanted = signal.wanted }) parts some is
+    named-fits vars (record { owner = signal.owner; name = taken vars names; behind = Some signal.which; wanted = signal.wanted }) parts some is
 parts-fit vars signal (Wired name) parts some is =
-    named-fits vars (record { owner = signal.owner; name = name; is_prefixed = false; wanted = signal.wanted }) parts some is
+    named-fits vars (record { owner = signal.owner; name = name; behind = None; wanted = signal.wanted }) parts some is
 parts-fit vars signal (Joined names) parts some is = joined-fits vars signal names parts is
 
 -- the parts of signals at a link whose bus has so many bytes, each with as many bits as its signal has
