@@ -1,5 +1,5 @@
 //! The rows of a dump, one after the other, through the judge of captures.
-ghost use Rattle.std.specs.Prelude.{◌≡◌, ◌≤◌, ◌+◌, [], List, None, Some, ℕ, length, OnOk, IfOk, IfErr, IfSome};
+ghost use Rattle.std.specs.Prelude.{◌≡◌, ◌≤◌, ◌+◌, [], List, None, Some, true, ℕ, is_some, length, OnOk, IfOk, IfErr, IfSome};
 ghost use Rattle.check_rows.specs.Row.{SeenRow};
 ghost use Rattle.check_sides.specs.Plan.{Plan};
 ghost use Rattle.check_review.specs.View.{Judges, is_asked, is_covered, is_traced};
@@ -59,8 +59,8 @@ fn halt_of(number: u64, stop: Stop) -> Halt
     }
 }
 
-/// Takes the row of a line; answers its time. Most rows tell nothing and refuse nothing, and are taken without room for a
-/// fault.
+/// Takes the row of a line; answers its time, or notes why it does not. Most rows tell nothing and refuse nothing, and are
+/// taken without room for a fault.
 fn take_line(
     alloc: Global,
     judge: &mut Judge,
@@ -69,29 +69,40 @@ fn take_line(
     line: &[u8],
     lanes: &mut [u8; MAX_LANES],
     told: &mut Vec<u8>,
-) -> Result<u64, Halt>
+    halt: &mut Option<Halt>,
+) -> Option<u64>
     requires masters { length buses.now.masters.now ≤ MAX_JUDGED_MASTERS }
     requires ports { length buses.now.ports.now ≤ MAX_JUDGED_PORTS }
     requires buses { HasBuses judge.old.tally.watch.layout (link_buses buses.now) }
-    ensures ok { IfOk result (λ time. (row : SeenRow) × SpellsRow (link_buses buses.now) number line.now row
+    ensures ok { IfSome result (λ time. (row : SeenRow) × SpellsRow (link_buses buses.now) number line.now row
         × (row.time ≡ time) × Took judge.old row judge.new told.old.items told.new.items) }
-    ensures halt { IfErr result (LineStops (link_buses buses.now) number line.now judge.old judge.new.tally
-        told.old.items told.new.items) }
+    ensures halt { result ≡ None → IfSome halt.new (LineStops (link_buses buses.now) number line.now judge.old
+        judge.new.tally told.old.items told.new.items) }
+    ensures noted { result ≡ None → is_some halt.new ≡ true }
     ensures layout { judge.new.tally.watch.layout ≡ judge.old.tally.watch.layout }
     ensures covered { is_covered judge.new ≡ is_covered judge.old }
 {
     let row = match read_bare_row(buses, number, line, lanes) {
         Ok(row) => row,
-        Err(why) => return Err(Halt::Fault(ReplayFault::Row(number, why))),
+        Err(why) => {
+            *halt = Some(Halt::Fault(ReplayFault::Row(number, why)));
+            return None;
+        }
     };
     match judge.take_quietly(alloc, &row, lanes.as_slice()) {
-        Ok(true) => return Ok(row.time),
+        Ok(true) => return Some(row.time),
         Ok(false) => {}
-        Err(AllocError) => return Err(Halt::Fault(ReplayFault::Memory)),
+        Err(AllocError) => {
+            *halt = Some(Halt::Fault(ReplayFault::Memory));
+            return None;
+        }
     }
     match judge.take(alloc, &row, lanes.as_slice(), told) {
-        Ok(()) => Ok(row.time),
-        Err(stop) => Err(halt_of(number, stop)),
+        Ok(()) => Some(row.time),
+        Err(stop) => {
+            *halt = Some(halt_of(number, stop));
+            None
+        }
     }
 }
 
@@ -112,6 +123,17 @@ impl Place {
             latest: Some(latest),
             number,
         })
+    }
+}
+
+/// Why no more rows are taken, as it was noted.
+fn stopped(halt: Option<Halt>) -> Halt
+    requires { is_some halt ≡ true }
+    ensures { halt ≡ Some result }
+{
+    match halt {
+        Some(halt) => halt,
+        None => unreachable!(),
     }
 }
 
@@ -143,6 +165,7 @@ fn take_lines<D: Read + Drop, W: Write>(
         latest: None,
         number: FIRST_LINE,
     };
+    let mut halt = None;
     for _ in 0..u64::MAX {
         match lines.read() {
             Ok(true) => {}
@@ -150,9 +173,12 @@ fn take_lines<D: Read + Drop, W: Write>(
             Err(fault) => return Err(Halt::Fault(fault_of(fault))),
         }
         let number = place.number;
-        let time = match take_line(alloc, judge, buses, number, lines.line(), &mut lanes, told) {
-            Ok(time) => time,
-            Err(halt) => return Err(halt),
+        let line = lines.line();
+        let taken = take_line(
+            alloc, judge, buses, number, line, &mut lanes, told, &mut halt,
+        );
+        let Some(time) = taken else {
+            return Err(stopped(halt));
         };
         place = match place.behind(time) {
             Some(next) => next,

@@ -9,6 +9,7 @@ use crate::signal::Signal;
 use crate::values::Values;
 
 /// Whether valid and ready of a channel are both 1.
+#[inline(always)]
 pub(crate) fn crosses(values: &Values, channel: &Channel) -> bool
     ensures { result ≡ crosses (all_before values.now) channel.now }
 {
@@ -28,6 +29,7 @@ pub(crate) fn some_crosses(place: usize, values: &Values, channels: &[Channel]) 
 }
 
 /// Whether this is one bit that is 1.
+#[inline(always)]
 pub(crate) fn is_one(bits: &[u8]) -> bool
     ensures { result ≡ is_one bits.now }
 {
@@ -35,6 +37,7 @@ pub(crate) fn is_one(bits: &[u8]) -> bool
 }
 
 /// Whether this is one bit that is 0.
+#[inline(always)]
 pub(crate) fn is_zero(bits: &[u8]) -> bool
     ensures { result ≡ is_zero bits.now }
 {

@@ -57,8 +57,10 @@ impl Slot {
             self.since = times;
         }
         self.digits.clear();
-        self.digits
-            .resize(self.width.saturating_sub(digits.len()), fill_of(digits))?;
+        if digits.len() < self.width {
+            self.digits
+                .resize(self.width - digits.len(), fill_of(digits))?;
+        }
         self.digits.extend_from_slice(digits)
     }
 
@@ -78,6 +80,7 @@ impl Slot {
     }
 
     /// The digits that it had before the last of so many times.
+    #[inline(always)]
     pub(crate) fn before(&self, times: u64) -> &[u8]
         ensures { result.now ≡ before_of times self.now }
     {
@@ -90,6 +93,7 @@ impl Slot {
 }
 
 /// The digits that a tap takes of a value.
+#[inline(always)]
 pub(crate) fn part(digits: &[u8], tap: Tap) -> &[u8]
     ensures { result.now ≡ part_of digits.now tap }
 {

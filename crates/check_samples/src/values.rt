@@ -110,6 +110,7 @@ impl Values {
     }
 
     /// Some bits, as they were before the present time.
+    #[inline(always)]
     pub(crate) fn before(&self, tap: Tap) -> &[u8]
         ensures { result.now ≡ bits_of (all_before self.now) tap }
     {

@@ -171,6 +171,7 @@ pub(crate) fn note_dues(watched: &mut [Watched], values: &Values) -> bool
 }
 
 /// What was noted of the domain at a place.
+#[inline(always)]
 pub(crate) fn due_at(watched: &[Watched], place: usize) -> Option<Needs>
     ensures { result ≡ due_at (map (λ one. one.due) watched.now) place }
 {

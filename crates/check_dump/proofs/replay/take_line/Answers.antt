@@ -16,8 +16,8 @@ returns-in-Err-take-clause-halt c =
     let grown = c.take.new.text.items in
     let tally = c.take.new.self.tally in
     let stop = c.in-Err-take.stop in
-    rw c.halt_of.ensures
-    (subst (λ (j : JudgeView). LineStops buses c.args.number c.args.line.now j tally told grown (halt_of c.args.number stop)) same
+    rw c.halt_of.ensures (λ _.
+    subst (λ (j : JudgeView). LineStops buses c.args.number c.args.line.now j tally told grown (halt_of c.args.number stop)) same
     (line_stops buses c.args.number c.args.line.now (seen_row c.in-Ok.row c.read_bare_row.new.lanes)
     (sym c.in-Ok.ensures.value) c.take_quietly.new.self tally told grown stop (λ plan rows so_far has. (
       c.in-Err-take.ensures.row.stop plan rows has.judges,
