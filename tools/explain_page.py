@@ -13,6 +13,10 @@ table { border-collapse: collapse }
 td { border: 1px solid #ccc; padding: .15em .5em; white-space: pre-wrap }
 .verdict { font-weight: bold }
 svg { font: 11px sans-serif }
+.beats { display: flex }
+.beats svg { flex: none }
+.times { overflow-x: auto; direction: rtl }
+.times svg { direction: ltr }
 rect { fill: #e8e8e8; stroke: #999 }
 rect.request { fill: #bcd6f2 }
 rect.writer { fill: #bfe3c4 }
@@ -63,20 +67,25 @@ def latest(beats):
 
 
 def picture(beats):
-    """The beats as boxes: a lane for each channel of a link, and a column for each time with a beat. A line joins those of a message."""
+    """The beats as boxes: a lane for each channel of a link, and a column for each time with a beat. A line joins those of a message. The names of
+    the lanes stay in view. The columns go from right to left for the browser, so that a wide picture opens at its end, where the fault is."""
     times = {time: place for place, time in enumerate(sorted({beat["time"] for beat in beats}))}
     lanes = {lane: place for place, lane in enumerate(sorted({beat["lane"] for beat in beats}))}
     names = {beat["lane"]: f"{beat['name']} {beat['lane'][2]}" for beat in beats}
-    width, height = LEFT + WIDE * len(times), HIGH * (len(lanes) + 1) + 4
-    parts = [f'<svg width="{width}" height="{height}" viewBox="0 0 {width} {height}" role="img">']
-    parts += [f'<text x="4" y="{HIGH * place + HIGH + 19}">{html.escape(names[lane])}</text>' for lane, place in lanes.items()]
-    parts += [f'<text x="{LEFT + WIDE * place + 4}" y="19">{time}</text>' for time, place in times.items()]
-    corners = [(LEFT + WIDE * times[beat["time"]], HIGH * lanes[beat["lane"]] + HIGH) for beat in beats]
+    height = HIGH * (len(lanes) + 1) + 4
+    heads = [f'<text x="4" y="{HIGH * place + HIGH + 19}">{html.escape(names[lane])}</text>' for lane, place in lanes.items()]
+    parts = [f'<text x="{WIDE * place + 4}" y="19">{time}</text>' for time, place in times.items()]
+    corners = [(WIDE * times[beat["time"]], HIGH * lanes[beat["lane"]] + HIGH) for beat in beats]
     parts += [joint(points) for points in paths_of(beats, corners)]
     for beat, (left, top) in zip(beats, corners):
         parts.append(f'<g><title>{html.escape(beat["title"])}</title><rect class="{beat["kind"]}" x="{left + 2}" y="{top + 4}" '
                      f'width="{WIDE - 4}" height="{HIGH - 8}"/><text x="{left + 6}" y="{top + 19}">{html.escape(beat["text"])}</text></g>')
-    return "".join([*parts, "</svg>"])
+    columns = drawing(WIDE * len(times), height, parts)
+    return f'<div class="beats">{drawing(LEFT, height, heads)}<div class="times">{columns}</div></div>'
+
+
+def drawing(width, height, parts):
+    return f'<svg width="{width}" height="{height}" viewBox="0 0 {width} {height}" role="img">{"".join(parts)}</svg>'
 
 
 def paths_of(beats, corners):

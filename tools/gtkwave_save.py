@@ -3,6 +3,7 @@ of a fault between both sides also those of the other side's link, the cursor at
 requests that wrote its bytes (N to Z). For tools/explain.
 """
 
+import math
 import os
 import re
 
@@ -16,6 +17,10 @@ CONSTANTS = ("0", "1", "-")
 MARKERS, HALF = 26, 13
 # How GTKWave shows a value: as a hexadecimal number at the right, or as a bit.
 NUMBER, BIT = "@22", "@28"
+# How many pixels the waves have in a small window, and how many GTKWave gives to a unit of time at zoom 0.
+PIXELS, UNIT = 500, 200
+# The least span that is shown, in units of time.
+LEAST_SPAN = 16
 VARIABLE = re.compile(r"\$var\s+\S+\s+(\d+)\s+\S+\s+(\S+?)\s*(\[[^]]*\])?\s+\$end")
 SCOPE = re.compile(r"\$scope\s+\S+\s+(\S+)\s+\$end|\$upscope\s+\$end")
 
@@ -112,8 +117,14 @@ def save_of(dump, table, links, explanation):
     names += [name for of_link in of_links for name in signals_of(of_link, table, variables)]
     times = " ".join(str(time) for time in markers_of(explanation))
     lines = ["[*] tools/explain", f'[dumpfile] "{os.path.abspath(dump)}"', f"[timestart] {max(0, first_of(explanation) - 1)}",
-             f"*-3.000000 {explanation['time']} {times}", *shown_of(names, variables)]
+             f"*{zoom_of(explanation):.6f} {explanation['time']} {times}", *shown_of(names, variables)]
     return "".join(f"{line}\n" for line in lines)
+
+
+def zoom_of(explanation):
+    """The zoom at which all from the first time to the fault is in view, and a quarter more. One less shows twice the time."""
+    span = max(LEAST_SPAN, 1.25 * (explanation["time"] - first_of(explanation)))
+    return -math.log2(span * UNIT / PIXELS)
 
 
 def first_of(explanation):
