@@ -10,7 +10,8 @@
  * Memory is taken by malloc, realloc and free. The calls that fill a handle take it, and tlx_system_image. Of the others only tlx_judge_step
  * does, if the beat is lawful: with one by which a request takes effect, for the bytes that are written; with the last beat of a request
  * to a port of TLX_ANY_ORDER, for the request; and with TLX_EACH_LINK also with the first beat of a source at a port's link. If that is
- * refused the call answers TLX_MEMORY and has changed nothing. The same beat may be given again.
+ * refused the call answers TLX_MEMORY and has changed nothing. The same beat may be given again. tlx_judge_reset takes memory too, for what
+ * the reset loads and for bytes that nobody knows after it. If that is refused the judge is gone: its handle holds nothing.
  *
  * Each call that reads, makes, serves or judges answers a fault, TLX_OK (0) if there is none; its faults are listed in the order in
  * which they are tried. A call that answers another fault has changed nothing of what a handle holds, unless it says so. A null pointer is
@@ -32,7 +33,7 @@ extern "C" {
 
 /* The version of this header. It rises when a struct, a number or a call changes; a call that reads a text answers TLX_OTHER_VERSION if the
  * library was built for another one. */
-#define TLX_VERSION 5
+#define TLX_VERSION 6
 
 /* The room of a message's bytes in the structs below. The largest size that a call takes is the library's own: tlx_largest_size. */
 #define TLX_ROOM 256
@@ -68,7 +69,7 @@ enum tlx_fault {
   TLX_UNCOUNTABLE = 24,   /* the port has served as many requests as can be counted */
   TLX_NO_BYTE = 25,       /* no slave holds a byte at this address */
   /* of a beat (tlx_judge_step), in the order in which they are tried; the first that applies is answered */
-  TLX_NO_LINK = 30,       /* there is no such link, or it is not watched */
+  TLX_NO_LINK = 30,       /* there is no such link, or it is not watched; of tlx_judge_reset: the system has no resets */
   TLX_FIELD_CHANGED = 31,
   TLX_UNKNOWN_OPCODE = 32,
   TLX_WRONG_PARAM = 33,
@@ -177,6 +178,7 @@ uint32_t tlx_judge_read_at(struct tlx_judge *judge, const uint8_t *file, size_t 
                            uint32_t version, char *text, size_t room, size_t *written);
 void tlx_judge_free_at(struct tlx_judge *judge);
 uint32_t tlx_judge_step_at(struct tlx_judge *judge, const struct tlx_beat *beat);
+uint32_t tlx_judge_reset_at(struct tlx_judge *judge);
 uint32_t tlx_judge_end_at(struct tlx_judge *judge);
 size_t tlx_judge_text_at(struct tlx_judge *judge, char *text, size_t room);
 uint64_t tlx_judge_requests_at(struct tlx_judge *judge);
@@ -318,8 +320,19 @@ static inline uint32_t tlx_judge_step(struct tlx_judge *judge, const struct tlx_
   return judge && beat ? tlx_judge_step_at(judge, beat) : (uint32_t)TLX_NULL;
 }
 
-/* Asks whether every request that began has its whole reply, at the masters' links if these are watched and else at the ports':
- * TLX_OK, or TLX_INCOMPLETE. Then the text is the line that names the oldest request, with the `line` and the `time` of its first beat:
+/* Tells the judge that the whole system is reset now. The system file must say `resets = true`. The beats after this call are those after
+ * the reset: no message is under way, and no request is in flight. A port with `on_reset = "load"` (registers, unless the file says
+ * otherwise) holds again what it held before any request. A port with `on_reset = "keep"` (any other port) keeps its bytes. But of these
+ * nobody knows the ones that a request may write which the reset cut short, so a reply may have any value there, also unknown lanes. A
+ * request is cut short if it began and did not end, or if it ended and its reply did not begin.
+ * The text and the counts go on. tlx_judge_requests and tlx_judge_answered have the messages before the reset too, so tlx_judge_in_flight
+ * has the whole requests whose whole reply never came because of the reset. tlx_judge_end does not look at these.
+ * After TLX_NO_LINK nothing has changed. After TLX_MEMORY the judge is gone: its handle holds nothing, and later calls answer TLX_EMPTY.
+ * Faults: TLX_NULL, TLX_EMPTY, TLX_NO_LINK (the system file does not say `resets = true`), TLX_MEMORY. */
+static inline uint32_t tlx_judge_reset(struct tlx_judge *judge) { return judge ? tlx_judge_reset_at(judge) : (uint32_t)TLX_NULL; }
+
+/* Asks whether every request that began since the last reset has its whole reply, at the masters' links if these are watched and else at
+ * the ports': TLX_OK, or TLX_INCOMPLETE. Then the text is the line that names the oldest request, with the `line` and the `time` of its first beat:
  * `incomplete: 2 requests without reply, the first: line 4, time 12, m0 s3 get 0x1000 2`. Nothing else changes, and more beats may be judged.
  * Faults: TLX_NULL, TLX_EMPTY, TLX_INCOMPLETE. */
 static inline uint32_t tlx_judge_end(struct tlx_judge *judge) { return judge ? tlx_judge_end_at(judge) : (uint32_t)TLX_NULL; }

@@ -29,10 +29,11 @@ KEYS = {"": ("slots", "port", "master"), "port": ("kind", "base", "length", "res
 # The keys of a system file; those of a script that it may have too; and those that say where signals are (docs/CAPTURE.md).
 SIGNALS = ("a_valid", "a_ready", "a_opcode", "a_param", "a_size", "a_source", "a_address", "a_mask", "a_data", "a_corrupt", "d_valid", "d_ready",
            "d_opcode", "d_param", "d_size", "d_source", "d_data", "d_denied", "d_corrupt")
-SYSTEM_KEYS = {"": ("bus", "unaligned", "decode", "period", "port", "master", "clock", "reset", "reset_active", "edge", "bits", "names", "slots", "extra"),
+SYSTEM_KEYS = {"": ("bus", "unaligned", "decode", "resets", "period", "port", "master", "clock", "reset", "reset_active", "edge", "bits", "names",
+                    "slots", "extra"),
                "names": (*SIGNALS, "extra"),
                "port": ("name", "kind", "base", "length", "ranges", "reset", "image", "unknown", "sizes", "order", "bus", "mirror", "volatile",
-                        "signals", "wires", "bits", "clock", "link_reset", "reset_active", "edge", "extra"),
+                        "on_reset", "signals", "wires", "bits", "clock", "link_reset", "reset_active", "edge", "extra"),
                "master": ("name", "sources", "first", "stride", "bus", "reach", "signals", "wires", "bits", "clock", "link_reset", "reset_active",
                           "edge", "ops", "extra"),
                "sizes": ("get", "putfull", "putpart", "arithmetic", "logical", "intent", "extra"),

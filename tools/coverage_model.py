@@ -73,6 +73,11 @@ class CoveringJudge(Judge):
                 self.count("overtook", flight)
             self.ended[flight.owner] = self.now
 
+    def reset(self):
+        """No source of after a reset was in use before it."""
+        super().reset()
+        self.ended.clear()
+
     def step(self, row):
         self.now = row.time
         super().step(row)

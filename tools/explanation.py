@@ -138,6 +138,14 @@ class Explainer:
 
     # ---- replies
 
+    def last_request(self, key):
+        """What a link and a source have asked before, if nothing is in flight there."""
+        over = self.story.over.get(key)
+        if key in self.story.dropped:
+            message, reset = self.story.dropped[key]
+            return f"the reset of {place_of([reset.row])} dropped the request: {self.text(message)}"
+        return f"the last request of this source: {self.text(over)}" if over else "this source has asked nothing yet"
+
     def of_reply(self, row, fault):
         """Explains the fault of a beat of a reply."""
         story, key = self.story, (row.link, row.number(6))
@@ -148,8 +156,7 @@ class Explainer:
         if message:
             yield f"the request of this beat's source: {self.text(message)}" if is_mixed else f"the request: {self.name(message)}"
         if fault == "reply without request":
-            over = story.over.get(key)
-            yield f"the last request of this source: {self.text(over)}" if over else "this source has asked nothing yet"
+            yield self.last_request(key)
         elif fault == "size of another request":
             yield f"the request has {bytes_of(message.size)}, the reply {1 << row.number(5)}"
             yield from self.others_of(row, lambda other: other.size == row.number(5))

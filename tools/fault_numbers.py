@@ -97,7 +97,7 @@ def of_orders(places):
     """The lists of the header: each name is there, each number of a reader is in its list, and two lists of one file agree."""
     numbers = {said.key: said.text for said in places.header}
     lists = {call: faults_of(places, call) for call in (SCRIPT_CALL, *FILE_CALLS, "tlx_judge_read", "tlx_model_make", "tlx_model_serve",
-                                                        "tlx_model_byte", "tlx_judge_step", "tlx_judge_end")}
+                                                        "tlx_model_byte", "tlx_judge_step", "tlx_judge_reset", "tlx_judge_end")}
     for call, names in lists.items():
         for line, name in names:
             places.tell(name in numbers, f"{HEADER}:{line}: TLX_{name} of {call} is no fault")

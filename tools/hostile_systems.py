@@ -38,8 +38,8 @@ ENDS = {
 # Images that are there, and names that are none of a file that can be read to its end within a range.
 IMAGES = {"none.bin": None, "short.bin": 16, "page.bin": 4096, "long.bin": 70000}
 OTHERS = ("missing.bin", "folder", "dangling.bin", "", ".", "short.bin/", "/proc/self/mem", "/dev/null", "a" * 300, "\\u0000")
-WORDS = ["bus", "port", "master", "kind", "base", "length", "ranges", "image", "unknown", "sizes", "order", "mirror", "volatile", "sources", "first", "stride",
-         "name", "names", "signals", "=",
+WORDS = ["bus", "port", "master", "kind", "base", "length", "ranges", "image", "unknown", "sizes", "order", "mirror", "volatile", "resets", "on_reset", "sources",
+         "first", "stride", "name", "names", "signals", "=",
          "=", "[[port]]", "[[master]]", "[", "]", "{", "}", ",", "\n", "\n", "0", "1", "4", "64", "-1", "65536", "0x1000", "1.5", "true", "'ram'",
          "'device'", "'short.bin'", "'00ff'", "'accept'", "[0, 3]", "'''", '"""', "#", "\\", "\0", "é"]
 VALUES = ["0", "1", "2", "4", "16", "-1", "64", "0x1000", "0x1_0000", "65536", "9223372036854775807", "9223372036854775808", "1.5", "true", "false",
@@ -124,6 +124,7 @@ def port_of(rng, place, wild):
             (0.3, "sizes", [sizes_of(rng, odd)]),
             (0.3, "mirror", ["true", "false"] + ["1", "'true'", "[]"] * odd),
             (0.3, "volatile", ["[[0, 1]]", "[[0, 1], [0, 1]]"] + ["[]", "[[0, 0]]", "[[1, 65536]]", "[[-1, 1]]", "[0, 1]", "1", f"{[[0, 1]] * 65}"] * odd),
+            (0.3, "on_reset", ["'keep'", "'load'"] + ["''", "'Keep'", "true", "[]"] * odd),
             (0.3, "name", [f"'s{place}'"] + ["'p0'", "''", "1", "'s0'"] * odd)):
         if rng.random() < chance:
             text.append(f"{key} = {rng.choice(values)}")
@@ -134,6 +135,8 @@ def valued(rng, wild):
     """A system of random values."""
     buses = [1, 2, 4, 8, 16, 32, 64] + [0, 3, 128, 1.5, "true"] * (wild and rng.random() < 0.1)
     text = [f"bus = {rng.choice(buses)}"] if rng.random() < 0.7 else []
+    if rng.random() < 0.3:
+        text.append(f"resets = {rng.choice(['true', 'false'] + ['1', chr(39) * 2, '[]'] * (wild and rng.random() < 0.1))}")
     text += [port_of(rng, place, wild) for place in range(rng.choice([0, 1, 2, 3] + [15, 255, 256] * (rng.random() < 0.05)))]
     for place in range(rng.choice([1, 2, 3] + [0, 64, 65] * (wild and rng.random() < 0.1))):
         text.append(f"[[master]]\nsources = {rng.choice([1, 2, 4] + [0, 257, 65536, 65537] * (wild and rng.random() < 0.2))}")

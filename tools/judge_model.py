@@ -12,8 +12,9 @@ from partial_memory import ERROR_PORT, Ask, Reply, Slave, fits, port_of
 NAMES = {codes: name for name, codes in OPERATIONS.items()}
 ANSWERS = {code: name for name, code in REPLIES.items()}
 LONGEST_ROW, LONGEST_TIME = 4096, (1 << 64) - 1
-# The channels in the order in which their beats cross within one time.
-TURNS = {("m", "A"): 0, ("p", "A"): 1, ("p", "D"): 2, ("m", "D"): 3}
+# What crosses at one time, in its order: a reset, then the beats of each channel.
+RESET = "reset"
+TURNS = {(RESET, None): -1, ("m", "A"): 0, ("p", "A"): 1, ("p", "D"): 2, ("m", "D"): 3}
 
 Row = collections.namedtuple("Row", ["line", "time", "side", "number", "channel", "opcode", "param", "size", "source", "address", "mask", "lanes",
                                      "denied", "corrupt"])
@@ -77,8 +78,8 @@ class Flight:
 class Rows:
     """Reads the rows of a capture."""
 
-    def __init__(self, links):
-        self.links, self.last, self.seen = links, -1, set()
+    def __init__(self, links, resets):
+        self.links, self.resets, self.last, self.seen = links, resets, -1, set()
 
     def row_of(self, line, text):
         if len(text) > LONGEST_ROW:
@@ -89,6 +90,12 @@ class Rows:
         if len(words) != 12:
             raise NoRow("wrong count of columns")
         time = number_of(words[0], LONGEST_TIME)
+        if self.resets and words[1] == RESET:
+            if any(words[2:]):
+                raise NoRow("bad number")
+            row = Row(line, time, RESET, 0, *[None] * 10)
+            self.keep_order(row)
+            return row
         named = re.fullmatch("([mp])([0-9]+)", words[1])
         link = named and self.links.get((named[1], int(named[2])))
         if not link:
@@ -120,7 +127,7 @@ class Rows:
         yield number_of(words[11] or "0", 1) == 1 if is_ask else digits_of(words[11] or str(int(must_be_corrupt(opcode, denied))), "[01]") == "1"
 
     def keep_order(self, row):
-        """The time does not fall, and a channel of a link has one beat at a time."""
+        """The time does not fall, and at one time there is one reset, and one beat of each channel of a link."""
         if row.time < self.last:
             raise NoRow("time falls")
         if row.time > self.last:
@@ -146,18 +153,20 @@ class Judge:
     def __init__(self, system, images, links, order):
         ports, masters = system.get("port", []), system["master"]
         self.system, self.ports, self.masters, self.view, self.order = system, ports, masters, links, order
-        self.owners, self.may_be_unaligned = owners_of(masters), system.get("unaligned", False)
+        self.owners, self.may_be_unaligned, self.resets = owners_of(masters), system.get("unaligned", False), system.get("resets", False)
         self.links = {(side, number): Link(side, number, table, bus_of(system, table))
                       for side, tables in (("m", masters), ("p", ports)) for number, table in enumerate(tables)}
         self.watched = {"masters": "m", "ports": "p"}.get(links, "mp")
         # what is counted and traced
         self.told = "p" if links == "ports" else "m"
-        self.slaves = {side: [*(Slave(port, images.get(number, b"")) for number, port in enumerate(ports)), Slave(ERROR_PORT)]
+        self.slaves = {side: [*(Slave(port, images.get(number, b""), self.resets) for number, port in enumerate(ports)), Slave(ERROR_PORT)]
                        for side in self.watched}
         self.requests, self.answered, self.lines = 0, 0, []
 
     def step(self, row):
-        if row.side in self.watched:
+        if row.side == RESET:
+            self.reset()
+        elif row.side in self.watched:
             link = self.links[row.side, row.number]
             (self.ask if row.channel == "A" else self.reply)(link, row)
 
@@ -191,6 +200,18 @@ class Judge:
         elif order == "any":
             slave.kept.remove(flight.kept)
             flight.expected, flight.place = flight.kept.expected, flight.kept.place
+
+    def reset(self):
+        """The whole system is reset. The slave of a request whose reply has not begun may have done any part of it."""
+        for link in self.links.values():
+            for flight in link.flights.values():
+                slave = self.slave_of(link, flight) if flight.answered == 0 else None
+                if slave:
+                    slave.cut(flight.ask())
+            link.flights, link.asking, link.answering = {}, None, None
+        for slaves in self.slaves.values():
+            for slave in slaves:
+                slave.reset()
 
     # ---- channel A
 
@@ -342,7 +363,7 @@ def reply_text(name, reply):
 
 def verdict_of(judge, rows, last_line):
     """The last line of what is written, and the status; the judge has the lines of a trace."""
-    judged, group, reader = 0, [], Rows(judge.links)
+    judged, group, reader = 0, [], Rows(judge.links, judge.resets)
 
     def judge_group():
         for row in sorted(group, key=turn_of):

@@ -10,7 +10,7 @@ import functools
 
 from bus import reply_of
 from common import carries_data
-from story import NAMES, rows_of
+from story import NAMES, RESET, rows_of
 
 # The percentiles that are told, by the words for them.
 SHARES = (("median", 50), ("90", 90), ("99", 99))
@@ -156,6 +156,13 @@ class Link:
         self.whole.end(flight, row.time)
         flight.count.end(flight, row.time)
 
+    def reset(self):
+        """What is in flight is dropped, and stays unanswered."""
+        self.asking = self.answering = None
+        self.flights.clear()
+        for count in (self.whole, *self.operations.values()):
+            count.in_flight = 0
+
 
 class Meter:
     """The links of a system, and the times of the first row and the last one."""
@@ -169,6 +176,10 @@ class Meter:
             self.first = row.time
         self.last = row.time
         self.rows += 1
+        if row.link == RESET:
+            for link in self.links.values():
+                link.reset()
+            return
         link = self.links.get(row.link)
         if link:
             take = link.take_ask if row.channel == "A" else link.take_reply
@@ -186,7 +197,7 @@ def measured(system, path, view, period, stop=None):
     """Measures the rows of a capture up to a place, which is a time, a link and a channel; that row is not taken."""
     meter = Meter(system, view, period)
     for row in rows_of(path):
-        if stop and row.time == stop[0] and (system.names[row.link], row.channel) == stop[1:]:
+        if stop and row.time == stop[0] and (system.names.get(row.link), row.channel) == stop[1:]:
             break
         meter.take(row)
     return meter

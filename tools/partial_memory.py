@@ -89,18 +89,22 @@ class Kept:
 
 
 class Slave:
-    """A slave from reset on, and how many requests it has served."""
+    """A slave from the beginning on, and how many requests it has served. `resets`: whether the system may be reset in between."""
 
-    def __init__(self, port, image=b""):
+    def __init__(self, port, image=b"", resets=False):
         self.kind, self.sizes = port["kind"], port.get("sizes")
+        self.keeps = port.get("on_reset", "keep" if self.kind in ("ram", "rom") else "load") == "keep"
+        # a reset that cuts a request short may leave bytes that nobody knows
+        self.may_be_cut = resets and self.keeps
         self.is_unknown, self.served, self.kept = port.get("unknown", False), 0, []
         self.ranges = ranges_of(port)
         self.is_mirror, base = port.get("mirror", False) and self.kind != "device", self.ranges[0][0]
         self.volatile = [(base + offset, length) for offset, length in port.get("volatile", [])]
-        self.cells = {base + place: byte for given in (image, bytes.fromhex(port.get("reset", ""))) for place, byte in enumerate(given)}
+        self.first = {base + place: byte for given in (image, bytes.fromhex(port.get("reset", ""))) for place, byte in enumerate(given)}
+        self.cells = dict(self.first)
 
     def may_answer_unknown(self):
-        return self.kind == "device" or self.is_unknown or bool(self.volatile)
+        return self.kind == "device" or self.is_unknown or bool(self.volatile) or self.may_be_cut
 
     def supports(self, name, size):
         table = SUPPORT[self.kind] if self.sizes is None else self.sizes
@@ -164,6 +168,20 @@ class Slave:
                 self.cells[at] = None
         self.kept.append(new)
         return new
+
+    def cut(self, ask):
+        """A reset cuts a request short, of which these bytes have come: where the bytes stand that it may write, which nobody knows then."""
+        places = self.writes(ask)
+        if places and not ask.name.startswith("put"):
+            places = set(range(self.start_of(ask), self.start_of(ask) + (1 << ask.size)))
+        self.cells.update(dict.fromkeys(places))
+        return places
+
+    def reset(self):
+        """The memory keeps its bytes, or is as at the beginning; what it had accepted is dropped."""
+        self.kept.clear()
+        if not self.keeps:
+            self.cells = dict(self.first)
 
     def left_by(self, ask, old):
         """The bytes that a put or an atomic leaves."""

@@ -58,6 +58,8 @@ def port_of_system(rng, number, images):
         port["name"] = f"slave_{number}"
     if rng.random() < 0.3:
         port["volatile"] = [volatile_of(rng, ranges[0][1]) for _ in range(rng.choice([1, 1, 2, 5]))]
+    if rng.random() < 0.3:
+        port["on_reset"] = rng.choice(["keep", "load"])
     return port
 
 
@@ -93,6 +95,8 @@ def system_of(rng):
         system["unaligned"] = rng.random() < 0.8
     if rng.random() < 0.4:
         system["decode"] = rng.choice(["bytes", "address", "address"])
+    if rng.random() < 0.4:
+        system["resets"] = rng.random() < 0.8
     if rng.random() < 0.3:
         system["period"] = rng.choice([1, 2, 3, 10, 2**63 - 1])
     # now and then as many as a system may have, or nearly so
@@ -149,6 +153,11 @@ class Message:
 
     def __init__(self, rows, may_end, on_end):
         self.rows, self.may_end, self.on_end = collections.deque(rows), may_end, on_end
+        self.count = len(self.rows)
+
+    def crossed(self):
+        """How many of its beats have crossed."""
+        return self.count - len(self.rows)
 
 
 class Channel:
@@ -177,6 +186,8 @@ class Transfer:
     def __init__(self, ask, master, source, port):
         self.ask, self.master, self.source, self.port = ask, master, source, port
         self.has_left, self.has_come = False, False
+        # the request at the master's link and at the port's, and the reply at either
+        self.at_master, self.at_port, self.replies = None, None, []
 
 
 class Service:
@@ -209,6 +220,8 @@ class Run:
         self.freed, self.used = [], [set() for _ in self.ports]
         # the requests that take effect at a moment of their own
         self.services, self.time = [], rng.choice([0, 10, rng.randrange(10_000), 2**64 - 100_000])
+        # all requests since the last reset, and how likely a reset is at each time
+        self.transfers, self.resets = [], rng.choice([0, 0.03, 0.1]) if system.get("resets") else 0
         most = 8 if len(self.masters) < 4 else 1
         # now and then most requests meet at two addresses
         hot = [address_of(rng, self.ports, 3) for _ in range(2)] if rng.random() < 0.5 else []
@@ -229,9 +242,10 @@ class Run:
         """All rows of the run, with their times. It ends when all is answered, or when nothing has crossed for long: a bug may stop it."""
         rows, waited = [], 0
         while (any(self.asks) or not self.is_idle()) and waited < 50:
+            crossed = [self.reset()] if self.rng.random() < self.resets else []
             self.offer()
             self.serve_some()
-            crossed = [row for channel in self.channels.values() if (row := channel.beat(self.rng))]
+            crossed += [row for channel in self.channels.values() if (row := channel.beat(self.rng))]
             self.rng.shuffle(crossed)
             rows += [f"{self.time},{row}" for row in crossed]
             for master, source in self.freed:
@@ -240,6 +254,29 @@ class Run:
             self.time += self.rng.choice([1, 1, 2, 5])
             waited = 0 if crossed else waited + 1
         return rows
+
+    def reset(self):
+        """The row of a reset of the whole system. A slave may have done any part of a request whose reply has not begun."""
+        for transfer in self.transfers:
+            if transfer.at_port and not any(reply.crossed() for reply in transfer.replies) and self.rng.random() < 0.7:
+                self.slaves[transfer.port].cut(self.cut_short(transfer))
+        for slave in self.slaves:
+            slave.reset()
+        for channel in self.channels.values():
+            channel.message = None
+            channel.waiting.clear()
+        for free, master in zip(self.free, self.masters):
+            free.update(range(master["sources"]))
+        for numbers in (self.services, self.freed, self.transfers, *self.used):
+            numbers.clear()
+        return "reset" + "," * 10
+
+    def cut_short(self, transfer):
+        """A request with the bytes that have crossed both links."""
+        ask = transfer.ask
+        messages = ((self.buses["m"][transfer.master], transfer.at_master), (self.buses["p"][transfer.port], transfer.at_port))
+        count = min(message.crossed() * len(bus.lanes(ask.address, ask.size)[1]) for bus, message in messages)
+        return ask._replace(data=ask.data[:count])
 
     def is_idle(self):
         """Whether no request is in flight."""
@@ -263,6 +300,7 @@ class Run:
                 self.free[master].remove(source)
                 ask = asks.pop()
                 transfer = Transfer(ask, master, source, port_of(self.system, master, ask.address, ask.size))
+                self.transfers.append(transfer)
                 channel.waiting.append(lambda transfer=transfer: self.ask_at_master(transfer))
 
     def ask_at_master(self, transfer):
@@ -278,7 +316,8 @@ class Run:
             if transfer.port == len(self.ports):
                 self.accept(transfer)
 
-        return Message(self.columns("m", transfer.master, transfer.ask, transfer.source), lambda: True, leave)
+        transfer.at_master = Message(self.columns("m", transfer.master, transfer.ask, transfer.source), lambda: True, leave)
+        return transfer.at_master
 
     def columns(self, side, number, ask, source):
         rows = self.buses[side][number].asks(ask.name, ask.size, source, ask.address, ask.data, self.junk)
@@ -304,7 +343,8 @@ class Run:
             if not early:
                 self.accept(transfer, port, wide)
 
-        return Message(self.columns("p", port, ask, wide), lambda: transfer.has_left, end)
+        transfer.at_port = Message(self.columns("p", port, ask, wide), lambda: transfer.has_left, end)
+        return transfer.at_port
 
     def order_of(self, number):
         """When the requests of a port take effect, as its own link shows it; those of the error port are seen at the masters' links alone."""
@@ -378,12 +418,14 @@ class Run:
             self.used[port].discard(wide)
 
         source = self.rng.choice([wide, wide + 1, 3]) if self.has_bug("reply to another source") else wide
-        return Message(self.reply_columns("p", port, transfer, source, reply), lambda: True, end)
+        transfer.replies.append(Message(self.reply_columns("p", port, transfer, source, reply), lambda: True, end))
+        return transfer.replies[-1]
 
     def reply_at_master(self, transfer, reply):
         if transfer.port == len(self.ports):
             transfer.has_come = True
         if reply.data and not reply.denied and self.has_bug("byte of a reply at its master"):
             reply = reply._replace(data=self.spoiled(reply.data))
-        return Message(self.reply_columns("m", transfer.master, transfer, transfer.source, reply), lambda: transfer.has_come,
-                       lambda: self.freed.append((transfer.master, transfer.source)))
+        transfer.replies.append(Message(self.reply_columns("m", transfer.master, transfer, transfer.source, reply), lambda: transfer.has_come,
+                                        lambda: self.freed.append((transfer.master, transfer.source))))
+        return transfer.replies[-1]

@@ -3,7 +3,7 @@
 import json
 
 # The keys of a system file and of a script, in the order in which they are written.
-PORT_KEYS = ("name", "kind", "base", "length", "ranges", "reset", "image", "unknown", "sizes", "order", "bus", "mirror", "volatile")
+PORT_KEYS = ("name", "kind", "base", "length", "ranges", "reset", "image", "unknown", "sizes", "order", "bus", "mirror", "volatile", "on_reset")
 MASTER_KEYS = ("name", "sources", "first", "stride", "bus", "reach")
 
 
@@ -27,9 +27,9 @@ def table_of(name, keys, values):
 
 
 def text_of(system):
-    """The text of a script or of a system file; `slots`, `bus`, `unaligned`, `decode`, `period` and the `ops` of a master are left out if the
-    system has none."""
-    lines = [f"{key} = {value_of(key, system[key])}" for key in ("slots", "bus", "unaligned", "decode", "period") if key in system]
+    """The text of a script or of a system file; `slots`, `bus`, `unaligned`, `decode`, `resets`, `period` and the `ops` of a master are
+    left out if the system has none."""
+    lines = [f"{key} = {value_of(key, system[key])}" for key in ("slots", "bus", "unaligned", "decode", "resets", "period") if key in system]
     for port in system.get("port", []):
         lines += ["", *table_of("port", PORT_KEYS, port)]
     for master in system["master"]:

@@ -19,7 +19,8 @@ from partial_memory import Ask, Slave, port_of, ranges_of
 
 NAMES = {codes: name for name, codes in OPERATIONS.items()}
 ANSWERS = {code: name for name, code in REPLIES.items()}
-# The channels in the order in which their beats cross within one time.
+# The channels in the order in which their beats cross within one time, and before all of them a reset.
+RESET = "reset"
 TURNS = {("m", "A"): 0, ("p", "A"): 1, ("p", "D"): 2, ("m", "D"): 3}
 # So many rows before a fault are kept for its picture, and so many behind it to see how a message goes on.
 RECENT, BEHIND = 64, 256
@@ -29,8 +30,8 @@ SIDES = {"both": "mp", "each": "mp", "masters": "m", "ports": "p"}
 
 @functools.cache
 def turn_of(link, channel):
-    """Where a channel of a link stands among those of one time."""
-    return TURNS[link[0], channel], int(link[1:])
+    """Where a channel of a link stands among those of one time, or a reset."""
+    return (-1, 0) if link == RESET else (TURNS[link[0], channel], int(link[1:]))
 
 
 @dataclasses.dataclass(slots=True)
@@ -102,6 +103,15 @@ class Message:
         return self.data[place] if 0 <= place < len(self.data) else None
 
 
+@dataclasses.dataclass(slots=True)
+class Reset:
+    """A reset of the whole system: how many writes of each side took effect before it, and the requests whose reply had not begun."""
+
+    row: Row
+    before: dict
+    cut: list
+
+
 def meet(window, other):
     """Whether two windows have a byte in common."""
     return other.start < window.stop and window.start < other.stop
@@ -158,8 +168,8 @@ class System:
 
 @functools.cache
 def link_of(word):
-    """The name of a link without zeros that lead its number."""
-    return f"{word[0]}{int(word[1:])}"
+    """The name of a link without zeros that lead its number, or the word of a reset."""
+    return word if word == RESET else f"{word[0]}{int(word[1:])}"
 
 
 def in_turn(rows):
@@ -199,7 +209,9 @@ class Story:
     def __init__(self, system, order, view="both"):
         self.system, self.order, self.sides = system, order, SIDES[view]
         self.flights, self.over, self.under = {}, {}, {}
-        self.writes = {"m": [], "p": []}
+        self.writes, self.resets = {"m": [], "p": []}, []
+        # the requests that a reset has dropped, each with the reset, by link and source until the source is used again
+        self.dropped = {}
         self.last, self.behind = None, []
         # the last rows that were taken, each with its request
         self.recent = collections.deque(maxlen=RECENT)
@@ -215,11 +227,15 @@ class Story:
         rows = rows_of(path) if line is None else well_formed(rows_of(path))
         for row in rows:
             if row.line == line:
-                self.last, self.behind = row, list(itertools.islice(rows, BEHIND))
+                following = itertools.takewhile(lambda other: other.link != RESET, rows)
+                self.last, self.behind = row, list(itertools.islice(following, BEHIND))
                 return
             self.take(row)
 
     def take(self, row):
+        if row.link == RESET:
+            self.reset(row)
+            return
         side = row.link[0]
         if side not in self.first:
             self.first[side] = row
@@ -229,6 +245,16 @@ class Story:
             self.take_ask(row)
         else:
             self.take_reply(row)
+
+    def reset(self, row):
+        """All that is in flight is dropped."""
+        before = {side: len(writes) for side, writes in self.writes.items()}
+        reset = Reset(row, before, [message for message in self.flights.values() if not message.answered])
+        self.resets.append(reset)
+        self.dropped |= {key: (message, reset) for key, message in self.flights.items()}
+        self.flights.clear()
+        self.under.clear()
+        self.open.clear()
 
     def order_of(self, message):
         tables = self.system.tables["p"]
@@ -240,6 +266,7 @@ class Story:
         message = Message(link, row.number(6), name, row.address(), row.number(5))
         message.port = self.system.port_to(message) if link[0] == "m" else int(link[1:])
         self.flights[link, message.source] = self.under[link, "A"] = message
+        self.dropped.pop((link, message.source), None)
         self.open[link] += 1
         if link not in self.most or self.open[link] > self.most[link][0]:
             self.most[link] = self.open[link], row
@@ -291,18 +318,48 @@ class Story:
             self.over[row.link, message.source] = message
 
     def history(self, message, port):
-        """For each address of a request what it held at reset, and after each earlier request that changed it: pairs of a request, None at
-        reset, and a byte, None if it is unknown."""
+        """For each address of a request what it held at first, and after each earlier request or reset that changed it: pairs of a request and a
+        byte, which is None if it is unknown. What a port holds at first, or again after a reset, is no request's: None."""
         slave = self.system.slave(port)
         places = self.places(slave, message)
         addresses = dict(zip(places, message.window()))
         found = {addresses[place]: [(None, slave.byte(place))] for place in places}
-        for other in self.writes[message.link[0]][:message.before]:
-            if meet(places, self.places(slave, other)) and slave.permits(other.ask()):
-                slave.answer(other.ask())
-                for place in slave.writes(other.ask()) & set(places):
-                    found[addresses[place]].append((other, slave.byte(place)))
+        for event in self.events(message):
+            if isinstance(event, Reset):
+                changed = self.changed_by(event, slave, message.link[0], port)
+            else:
+                changed = self.written_by(event, slave, places)
+            for place, writer in changed:
+                if place in addresses:
+                    found[addresses[place]].append((writer, slave.byte(place)))
         return found
+
+    def events(self, message):
+        """The writes of a request's side that took effect before it, and the resets among them."""
+        writes, taken = self.writes[message.link[0]], 0
+        for reset in self.resets:
+            before = reset.before[message.link[0]]
+            yield from writes[taken:before]
+            yield reset
+            taken = before
+        yield from writes[taken:message.before]
+
+    def written_by(self, other, slave, places):
+        """Has a slave take a write that meets these places: each place that it may have changed, with the write."""
+        if meet(places, self.places(slave, other)) and slave.permits(other.ask()):
+            slave.answer(other.ask())
+            yield from ((place, other) for place in slave.writes(other.ask()))
+
+    @staticmethod
+    def changed_by(reset, slave, side, port):
+        """Resets a slave: each place that it may have changed, with the request that was cut short there, or None if the slave is as at first."""
+        for other in reset.cut:
+            if (other.link[0], other.port) == (side, port):
+                yield from ((place, other) for place in slave.cut(other.ask()))
+        if not slave.keeps:
+            places = {*slave.cells}
+            slave.reset()
+            yield from ((place, None) for place in places)
 
     @staticmethod
     def places(slave, message):

@@ -55,6 +55,18 @@ DOCUMENTS = ("", {
     "decode = 'Address'\nport = 1": "decode out of range",
     "decode = 'bytes'": "missing master",
     "decode = ''\nperiod = 0": "decode out of range",
+    "resets = 1": "wrong type of resets",
+    "resets = 'true'": "wrong type of resets",
+    "resets = []": "wrong type of resets",
+    "resets = false": "missing master",
+    "resets = true": "missing master",
+    "resets = true\nport = 1": "wrong type of port",
+    # after what decoders look at, and before the period
+    "resets = 1\ndecode = 1": "wrong type of decode",
+    "resets = 1\ndecode = ''": "decode out of range",
+    "resets = 1\ndecode = 'bytes'\nperiod = 0": "wrong type of resets",
+    "resets = 1\nport = 1": "wrong type of resets",
+    "resets = true\nperiod = 0": "period out of range",
     "period = '1'\nport = 1": "wrong type of period",
     "period = 1.0": "wrong type of period",
     "period = 0": "period out of range",
@@ -76,6 +88,8 @@ UNKNOWN_KEYS = ("", {
     "prot = []": "unknown key prot (near: port)",
     "unalined = true\nunaligned = 1": "unknown key unalined (near: unaligned)",
     "[[port]]\nunaligned = true": "unknown key unaligned (near: name)",
+    "rests = true\nresets = 1": "unknown key rests (near: resets)",
+    "[[port]]\non_rest = 'keep'\non_reset = 1": "unknown key on_rest (near: on_reset)",
     "signals = 'x'\nbus = 3": "unknown key signals (near: bits)",
     "reset_activ = 'low'\nmaster = 1": "unknown key reset_activ (near: reset_active)",
     "ops = []": "unknown key ops (near: bus)",
@@ -358,6 +372,53 @@ VOLATILE = (PORT, {
     # the key has no other name
     "volatiles = [[0, 1]]": "unknown key volatiles (near: volatile)",
 })
+# What a reset of the whole system does to a port's bytes: the word is looked at also where there is no reset.
+ON_RESET = (PORT, {
+    "on_reset = 1": "wrong type of on_reset",
+    "on_reset = true": "wrong type of on_reset",
+    "on_reset = ['keep']": "wrong type of on_reset",
+    "on_reset = { word = 'keep' }": "wrong type of on_reset",
+    "on_reset = ''": "on_reset out of range",
+    "on_reset = 'Keep'": "on_reset out of range",
+    "on_reset = 'keeps'": "on_reset out of range",
+    "on_reset = 'load '": "on_reset out of range",
+    "on_reset = 'never'": "on_reset out of range",
+    "on_reset = 'keep'": "missing master",
+    "on_reset = 'load'": "missing master",
+    # after the bytes that change by themselves, and before the next port
+    "on_reset = 1\nvolatile = 1": "wrong type of volatile",
+    "on_reset = 1\nvolatile = []": "volatile out of range",
+    "on_reset = 1\nvolatile = [[0, 2]]": "wrong type of on_reset",
+    "on_reset = ''\nmirror = 1": "wrong type of mirror",
+    "on_reset = ''\nbus = 3": "bus out of range",
+    "on_reset = 1\n[[port]]": "wrong type of on_reset",
+    "on_reset = ''\n[[port]]": "on_reset out of range",
+    "on_reset = 'load'\n[[port]]": "missing kind",
+    "on_reset = 'keep'\n[[port]]\nkind = 'w1c'\nbase = 8\nlength = 8\non_reset = 'Load'": "on_reset out of range",
+    # of a device it means nothing, and is looked at
+    "[[port]]\nkind = 'device'\nbase = 8\nlength = 8\non_reset = 1": "wrong type of on_reset",
+    "[[port]]\nkind = 'device'\nbase = 8\nlength = 8\non_reset = 'Load'": "on_reset out of range",
+    "[[port]]\nkind = 'device'\nbase = 8\nlength = 8\non_reset = 'load'": "missing master",
+    # no other table has the key, and the top has another
+    "[[master]]\non_reset = 'keep'": "unknown key on_reset (near: link_reset)",
+    "resets = true": "unknown key resets (near: reset)",
+})
+# The same in a system that has resets, and in one that says that it has none.
+RESETS = ("resets = true\n" + PORT, {
+    "on_reset = 1": "wrong type of on_reset",
+    "on_reset = 'Keep'": "on_reset out of range",
+    "on_reset = 'keep'": "missing master",
+    "on_reset = 'load'": "missing master",
+    "": "missing master",
+    "[[master]]\nsources = 1": "",
+    "on_reset = 'load'\n[[master]]\nsources = 1": "",
+})
+NO_RESETS = ("resets = false\n" + PORT, {
+    "on_reset = 1": "wrong type of on_reset",
+    "on_reset = 'Keep'": "on_reset out of range",
+    "on_reset = 'keep'": "missing master",
+    "on_reset = 'load'\n[[master]]\nsources = 1": "",
+})
 MASTERS = ("[[master]]\n", {
     "name = 1\nsources = 0": "wrong type of name",
     "name = 'm7'": "name out of range",
@@ -527,8 +588,8 @@ SHARED = ("", {
     ports_at(*([(at % 254, 1)] for at in range(255))): "ports 0 and 254 overlap",
     masters_at(*(65535 if at in (2, 11) else at for at in range(12))): "masters 2 and 11 share source 65535",
 })
-TABLES = (DOCUMENTS, UNKNOWN_KEYS, NAMES, PLAIN_PORTS, RANGES, DEVICE_RANGES, CONTENTS, ONE_RANGE, SIZES, ORDERS_AND_BUSES, VOLATILE, MASTERS, REACH, TWO_MASTERS,
-          PARTS, SHARED, IMAGES)
+TABLES = (DOCUMENTS, UNKNOWN_KEYS, NAMES, PLAIN_PORTS, RANGES, DEVICE_RANGES, CONTENTS, ONE_RANGE, SIZES, ORDERS_AND_BUSES, VOLATILE, ON_RESET, RESETS,
+          NO_RESETS, MASTERS, REACH, TWO_MASTERS, PARTS, SHARED, IMAGES)
 
 
 def rows():

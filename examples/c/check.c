@@ -324,6 +324,20 @@ static uint32_t make_judge(struct handles *handles, const char *file) {
   return tlx_judge_make(&handles->judge, &handles->system, TLX_EACH_LINK, TLX_ACCEPT_ORDER, TLX_ACCEPT_ORDER, 0, 0);
 }
 
+/* A judge with a put under way at a master's link, and one in flight at a port's. */
+static uint32_t begin_puts(struct handles *handles, const char *file) {
+  const struct tlx_beat puts[] = {{.size = 4, .address = 0x1000, .mask = 0xff, .known = 0xff},
+                                  {.side = TLX_PORT, .size = 2, .address = 0x1000, .mask = 0x0f, .known = 0x0f}};
+  uint32_t fault = tlx_judge_read(&handles->judge, file, strlen(file), TLX_EACH_LINK, TLX_ACCEPT_ORDER, TLX_ACCEPT_ORDER, 0, 0);
+  for (int k = 0; k < 2 && fault == TLX_OK; k++) fault = tlx_judge_step(&handles->judge, &puts[k]);
+  return fault;
+}
+
+static uint32_t reset(struct handles *handles, const char *file) {
+  (void)file;
+  return tlx_judge_reset(&handles->judge);
+}
+
 static int are_empty(struct handles *handles) {
   struct tlx_model none = {0};
   struct tlx_beat beat = {0};
@@ -430,6 +444,7 @@ static void check_memory(const char *script) {
   refuse_each("a judge that is refused memory", NULL, read_judge, script);
   refuse_each("a file that is refused memory", NULL, describe, IMAGE);
   refuse_each("a judge with an image that is refused memory", describe_with_image, make_judge, IMAGE);
+  refuse_each("a reset that is refused memory", begin_puts, reset, RESETS);
   refuse_image(IMAGE);
   refuse_text();
   refuse_steps();
@@ -448,6 +463,7 @@ int main(int count, char **words) {
   check_longest_line();
   check_buses();
   check_slaves();
+  check_resets();
   snprintf(folder, sizeof folder, "%s/captures", count > 1 ? words[1] : "..");
   read_file(folder, "system.toml", script);
   check_captures(folder);

@@ -26,6 +26,9 @@ uint32_t step_refused(struct tlx_judge *judge, const struct tlx_beat *beat);
 /* A script, which is a system file too: two RAMs of 64 bytes, and a master with two sources. */
 extern const char SYSTEM[];
 
+/* A system file with resets: a memory that keeps its bytes, and registers that are loaded. */
+extern const char RESETS[];
+
 /* captures.c: judges each capture of a folder by calls */
 void check_captures(const char *folder);
 
@@ -36,5 +39,8 @@ void check_judges(void);
 void check_longest_line(void);
 void check_buses(void);
 void check_slaves(void);
+
+/* resets.c: resets of the whole system */
+void check_resets(void);
 
 #endif

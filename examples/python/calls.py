@@ -31,6 +31,13 @@ port = [{kind = "rom", base = 0x1000, length = 8, reset = "aa", image = "boot.bi
         {kind = "device", base = 0x3000, length = 2, image = "none"}]
 master = [{sources = 1}]
 """
+# A memory that keeps its bytes at a reset, and registers that hold again what `reset` says.
+RESETS = """
+resets = true
+port = [{kind = "ram", base = 0x1000, length = 64, reset = "0011223344556677"},
+        {kind = "regs", base = 0x2000, length = 16, reset = "a0a1a2a3", on_reset = "load"}]
+master = [{sources = 2}]
+"""
 # A system file that is no script.
 FILE = 'master = [{sources = 2}]\nport = [{kind = "ram", base = 0x1000, length = 64}]'
 HUGE = 1 << 600
@@ -194,6 +201,42 @@ def check_refused_beats(tally, judge):
         tally.raises(f"link {link!r}", ValueError, tlx.Beat.reply, link, 0, 0, 0)
     tally.raises("a link by its number", TypeError, tlx.link_of, 0)
     tally.tell("nothing was judged", (judge.requests, judge.answered) == (0, 0))
+
+
+def gets(judge, address, data, known=0x0F):
+    """A get of 4 bytes is answered so."""
+    judge.step(tlx.Beat.ask("m0", tlx.Ask.GET, 2, 0, address, 0x0F))
+    judge.step(tlx.Beat.reply("m0", tlx.Reply.ACCESS_ACK_DATA, 2, 0, data, known=known))
+
+
+def check_resets(tally):
+    judge = tlx.Judge(tlx.System(RESETS), "masters")
+    acked = tlx.Beat.reply("m0", tlx.Reply.ACCESS_ACK, 2, 0)
+    for address in (0x1008, 0x2000):
+        judge.steps(tlx.Beats([tlx.Beat.ask("m0", tlx.Ask.PUT_FULL, 2, 0, address, 0x0F, 0x04030201), acked]))
+    # 8 bytes of 16 are given before the reset, of source 1, and source 0 waits for a reply
+    judge.step(tlx.Beat.ask("m0", tlx.Ask.GET, 2, 0, 0x1010, 0x0F))
+    judge.step(tlx.Beat.ask("m0", tlx.Ask.PUT_FULL, 4, 1, 0x1000, 0xFF, (1 << 64) - 1))
+    tally.raises("an end before a reset", tlx.Incomplete, judge.end)
+    tally.tell("a reset", judge.reset() is None and judge.end() is None)
+    tally.tell("the counts after it", (judge.requests, judge.answered, judge.in_flight) == (3, 2, 1))
+    late = tlx.Beat.reply("m0", tlx.Reply.ACCESS_ACK_DATA, 2, 0, 0)
+    found = tally.raises("a reply to a request before it", tlx.Unlawful, judge.step, late)
+    tally.tell("its fault is no request", found.fault is tlx.Fault.NO_REQUEST)
+    gets(judge, 0x1000, 0, known=0)
+    gets(judge, 0x1000, 0xDEADBEEF)
+    gets(judge, 0x1008, 0x04030201)
+    gets(judge, 0x2000, 0xA3A2A1A0)
+    tally.raises("what registers held before it", tlx.Unlawful, gets, judge, 0x2000, 0x04030201)
+    judge.reset()
+    tally.tell("a second reset", (judge.requests, judge.answered, judge.in_flight) == (8, 6, 2) and judge.end() is None)
+    judge.close()
+    tally.raises("a reset of a closed judge", ValueError, judge.reset)
+    never = tlx.Judge(tlx.System(SYSTEM), "masters")
+    never.step(get_beat())
+    found = tally.raises("a reset of a system without resets", tlx.Refused, never.reset)
+    tally.tell("its fault, and the judge as it was", found.fault is tlx.Fault.NO_LINK and never.in_flight == 1)
+    never.step(tlx.Beat.reply("m0", tlx.Reply.ACCESS_ACK_DATA, 2, 1, 0x33221100))
 
 
 def check_images(tally):
@@ -437,7 +480,7 @@ def check_want(tally):
 def main():
     tally = Tally("calls")
     check_faults(tally, sys.argv[-1])
-    for check in (check_systems, check_model, check_judge, check_images, check_buses, check_arrays, check_monitor, check_wild):
+    for check in (check_systems, check_model, check_judge, check_resets, check_images, check_buses, check_arrays, check_monitor, check_wild):
         check(tally)
     if "--no-memory" not in sys.argv:
         check_memory(tally)

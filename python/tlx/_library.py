@@ -9,7 +9,7 @@ import os
 import struct
 
 # The version of the header that the structs below are those of.
-HEADER_VERSION = 5
+HEADER_VERSION = 6
 # The room for a message's bytes, the lanes of the widest bus, and the room for the longest text.
 ROOM = 256
 LANES = 64
@@ -103,6 +103,7 @@ model_masters = _call("tlx_model_masters_at", _U64, _AT)
 model_ports = _call("tlx_model_ports_at", _U64, _AT)
 judge_step = _call("tlx_judge_step_at", _U32, _AT, _AT)
 judge_steps = _call("tlx_judge_steps", _SIZE, _AT, _AT, _SIZE, _AT)
+judge_reset = _call("tlx_judge_reset_at", _U32, _AT)
 judge_end = _call("tlx_judge_end_at", _U32, _AT)
 judge_requests = _call("tlx_judge_requests_at", _U64, _AT)
 judge_answered = _call("tlx_judge_answered_at", _U64, _AT)

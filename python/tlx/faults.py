@@ -66,8 +66,8 @@ class Fault(enum.IntEnum):
 class Refused(ValueError):
     """A call that the library did not do, and that changed nothing: an argument has no meaning there.
 
-    `fault` says why: a link that there is not or that is not watched, an opcode that names no operation, a master, a source or a
-    byte that there is not, a flag that is neither 0 nor 1. `index` is the place of the beat in the array of `Judge.steps`.
+    `fault` says why: a link that there is not or that is not watched, a reset of a system without resets, an opcode that names no
+    operation, a master, a source or a byte that there is not, a flag that is neither 0 nor 1. `index` is the place of the beat in the array of `Judge.steps`.
     """
 
     index = 0

@@ -104,9 +104,22 @@ class Judge:
         made.index = index
         return made
 
+    def reset(self) -> None:
+        """Tells the judge that the whole system is reset now: the beats after this are those after the reset. The system must say
+        `resets = true`. No message is under way then, and no request is in flight. A port with `on_reset = "load"` holds what it held
+        before any request. One with "keep" has its bytes, but those are unknown that a request may write which was cut short.
+        `requests` and `answered` go on, so `in_flight` has the whole requests that the reset left without a whole reply.
+
+        Refused, a ValueError, with NO_LINK if the system does not say `resets = true`; then the judge is as it was. MemoryError if there
+        is no memory for what is loaded or unknown after the reset; then the judge is gone, as after `close`. ValueError after `close`.
+        """
+        fault = _library.judge_reset(self._at)
+        if fault:
+            raise fault_of(fault)
+
     def end(self) -> None:
-        """Asks whether each request that began has its whole reply. Incomplete, if one has not. The judge stays as it is and may go on.
-        ValueError after `close`, MemoryError if there was no memory for the text.
+        """Asks whether each request that began since the last reset has its whole reply. Incomplete, if one has not. The judge stays as
+        it is and may go on. ValueError after `close`, MemoryError if there was no memory for the text.
         """
         fault = _library.judge_end(self._at)
         if fault == Fault.INCOMPLETE:

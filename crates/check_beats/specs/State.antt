@@ -61,6 +61,17 @@ ask_after bus begun beat lanes =
       bytes = asked_bytes begun ++ ask_part bus beat lanes;
     })
 
+-- the request that has begun and not ended, as far as it has crossed
+abbrev pub ask_so_far : Option AskBegun → Option Request
+ask_so_far None = None
+ask_so_far (Some begun) = Some (record {
+  op = op_of begun.first.opcode begun.first.param;
+  size = begun.first.size;
+  source = begun.first.source;
+  address = begun.first.address;
+  bytes = begun.bytes;
+})
+
 -- ---- replies
 
 -- a reply that has begun and not ended: what was seen of its bytes
@@ -81,6 +92,11 @@ reply_begun (Some first) beats bytes = Some (record { first = first; beats = bea
 abbrev pub first_reply : Option ReplyBegun → Option ReplyHead
 first_reply None = None
 first_reply (Some begun) = Some begun.first
+
+-- the source of the reply that is under way
+abbrev pub replying_source : Option ReplyBegun → Option ℕ
+replying_source None = None
+replying_source (Some begun) = Some begun.first.source
 
 abbrev pub replied_beats : Option ReplyBegun → ℕ
 replied_beats None = 0

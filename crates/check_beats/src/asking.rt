@@ -3,7 +3,7 @@ ghost use Rattle.std.specs.Prelude.{◌≡◌, ◌≤◌, ◌↔◌, None, false
 ghost use Rattle.check_beats.specs.Bus.{bus_bytes};
 ghost use Rattle.check_beats.specs.Form.{FitsAsk, IsKnown, IsFirstAskFormFault};
 ghost use Rattle.check_beats.specs.Rules.{IsAlignedBy};
-ghost use Rattle.check_beats.specs.State.{first_ask, asked_beats, ends_ask, ask_of, ask_after};
+ghost use Rattle.check_beats.specs.State.{first_ask, asked_beats, ends_ask, ask_of, ask_after, ask_so_far};
 
 use crate::ask::{ask_beats, ask_fault, next_ask_fault, op_of, put_ask};
 use crate::beat::AskHead;
@@ -11,6 +11,7 @@ use crate::bus::Bus;
 use crate::fault::FormFault;
 use crate::lanes::push_beat;
 use crate::rules::LinkRules;
+use check_cells::AskSoFar;
 use std::marker::Model;
 use tl_types::{Ask, Bytes, MAX_BYTES};
 
@@ -63,6 +64,22 @@ impl Asking {
         ensures { IsTrue result ↔ (self.now.begun ≡ None) }
     {
         self.first.is_none()
+    }
+
+    /// The request that is under way, as far as it has crossed.
+    pub fn so_far(&self) -> Option<AskSoFar>
+        ensures { result ≡ ask_so_far self.now.begun }
+    {
+        match &self.first {
+            Some(first) => Some(AskSoFar::new(
+                op_of(self.bus, first),
+                first.size,
+                first.source,
+                first.address,
+                self.bytes.copy(),
+            )),
+            None => None,
+        }
     }
 
     /// How many beats have crossed of the request that is under way.

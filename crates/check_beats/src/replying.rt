@@ -2,7 +2,7 @@
 ghost use Rattle.std.specs.Prelude.{◌≡◌, ℕ, ◌≤◌, ◌↔◌, None, false, length, IsTrue, IfSome, IfNone};
 ghost use Rattle.check_beats.specs.Bus.{bus_bytes};
 ghost use Rattle.check_beats.specs.Form.{FitsReply, IsFirstReplyFormFault};
-ghost use Rattle.check_beats.specs.State.{first_reply, replied_beats, ends_reply, reply_of, reply_after};
+ghost use Rattle.check_beats.specs.State.{first_reply, replied_beats, ends_reply, reply_of, reply_after, replying_source};
 
 use crate::beat::ReplyHead;
 use crate::bus::Bus;
@@ -53,6 +53,16 @@ impl Replying {
         ensures { IsTrue result ↔ (self.now.begun ≡ None) }
     {
         self.first.is_none()
+    }
+
+    /// The source of the reply that is under way.
+    pub fn source(&self) -> Option<u16>
+        ensures { result ≡ replying_source self.now.begun }
+    {
+        match &self.first {
+            Some(first) => Some(first.source),
+            None => None,
+        }
     }
 
     /// How many beats have crossed of the reply that is under way.

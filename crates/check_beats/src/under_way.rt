@@ -3,7 +3,7 @@ ghost use Rattle.std.specs.Prelude.{◌≡◌, ◌≤◌, ◌↔◌, None, false
 ghost use Rattle.check_beats.specs.Bus.{bus_bytes};
 ghost use Rattle.check_beats.specs.Form.{FitsAsk, FitsReply, IsKnown, IsKnownReply, IsFirstAskFormFault, IsFirstReplyFormFault};
 ghost use Rattle.check_beats.specs.Rules.{IsAlignedBy};
-ghost use Rattle.check_beats.specs.State.{nothing_under, first_ask, first_reply, ends_ask, ends_reply, ask_of, reply_of, ask_after, reply_after};
+ghost use Rattle.check_beats.specs.State.{nothing_under, first_ask, first_reply, ends_ask, ends_reply, ask_of, reply_of, ask_after, reply_after, ask_so_far, replying_source};
 
 use crate::asking::Asking;
 use crate::beat::{AskHead, ReplyHead};
@@ -12,7 +12,7 @@ use crate::fault::FormFault;
 use crate::reply::is_known_reply;
 use crate::replying::Replying;
 use crate::rules::LinkRules;
-use check_cells::Pattern;
+use check_cells::{AskSoFar, Pattern};
 use std::marker::Model;
 use tl_types::Ask;
 
@@ -59,6 +59,28 @@ impl UnderWay {
         ensures { IsTrue result ↔ (self.now.asking ≡ None) }
     {
         self.asking.begins()
+    }
+
+    /// The request that is under way, as far as it has crossed.
+    pub fn ask_so_far(&self) -> Option<AskSoFar>
+        ensures { result ≡ ask_so_far self.now.asking }
+    {
+        self.asking.so_far()
+    }
+
+    /// The source of the reply that is under way.
+    pub fn replying_source(&self) -> Option<u16>
+        ensures { result ≡ replying_source self.now.replying }
+    {
+        self.replying.source()
+    }
+
+    /// The link is reset: nothing is under way.
+    pub fn reset(&mut self)
+        ensures { self.new ≡ nothing_under self.old.bus }
+    {
+        self.asking.take_end();
+        self.replying.take_end();
     }
 
     /// Whether a beat of channel D is the first of its reply.

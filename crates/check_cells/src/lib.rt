@@ -4,7 +4,8 @@
 //! `check_memory` do, so that a part of one word is read, written and compared as one number. A [`Pattern`] is a
 //! reply of which the denied flag and some bytes may be unknown: the one that is expected, or the one that was
 //! captured. [`Pattern::fits`] says whether a captured reply fits what is expected (`FitsPattern` of
-//! `specs/Pattern.antt`): all that is expected is known in it and is the same.
+//! `specs/Pattern.antt`): all that is expected is known in it and is the same. An [`AskSoFar`] is a request of which not all
+//! beats have crossed yet.
 //!
 //! The link layer (`check_beats`) gathers replies as patterns, and memories (`check_memory`) answer them.
 //!
@@ -14,7 +15,9 @@
 mod cells;
 mod masks;
 mod pattern;
+mod so_far;
 
 pub use cells::{Cells, MASK_BITS, mask_of};
 pub use masks::{give, known_cell, mark_cell, ones};
 pub use pattern::Pattern;
+pub use so_far::AskSoFar;

@@ -18,5 +18,8 @@ pub mod Marks
 pub mod Blocks
 pub mod Contested
 pub mod Forgetting
+pub mod Cutting
+pub mod Leaving
+pub mod Mapped
 pub mod Places
 pub mod Beside

@@ -1,5 +1,5 @@
 -- Those kept by their places, and what is due as they are looked at one after the other.
-use Rattle.std.proofs.Common.{◌≡◌, ◌∙◌, ℕ, zero, suc, ◌+◌, ◌<◌, ◌≤◌, Bool, true, false, ◌||◌, if◌then◌else◌, ◌==◌, List, [], ◌∷◌, ◌++◌, length, map, take, drop, set, get_or, slice_get, Option, Some, None, refl, sym, ap, arith}
+use Rattle.std.proofs.Common.{◌≡◌, ◌∙◌, ℕ, zero, suc, ◌+◌, ◌<◌, ◌≤◌, Bool, true, false, ◌||◌, if◌then◌else◌, ◌==◌, List, [], ◌∷◌, length, take, get_or, slice_get, Option, Some, None, refl, sym, ap, arith}
 use Rattle.std.specs.List.{remove}
 use Rattle.std.proofs.lemmas.Bool.{eq-eqb, ne_eqb, eqb-false}
 use Rattle.std.proofs.lemmas.List.{take_all}
@@ -107,47 +107,3 @@ hide_more memory ask kept place entry due below is = by_cases (permits memory as
     by_cases false denied =
         beside_denied memory ask (may_write memory entry.ask) (due_beside memory ask before due) denied
         ∙ beside_denied memory ask before due denied ∙ sym (beside_denied memory ask after due denied)
-
--- ---- a list, changed one after the other
-
-set-mapped_suc : (f : Accepted → Accepted) (items : List Accepted) (place : ℕ) (item : Accepted) → place < length items
-    → item ≡ get_or items place item
-    → set (map f (take place items) ++ drop place items) place (f item)
-    ≡ map f (take (suc place) items) ++ drop (suc place) items
-set-mapped_suc f [] place item below is = absurd (omega (arith, below))
-set-mapped_suc f (first ∷ items) zero item below is = ap (λ (e : Accepted). f e ∷ items) is
-set-mapped_suc f (first ∷ items) (suc place) item below is =
-    ap (λ (es : List Accepted). f first ∷ es) (set-mapped_suc f items place item (omega (arith, below)) is)
-
-pub set-mapped : (f : Accepted → Accepted) (items : List Accepted) (place : ℕ) (item : Accepted)
-    → place < length items → item ≡ get_or items place item
-    → set (map f (take place items) ++ drop place items) place (f item)
-    ≡ map f (take (place + 1) items) ++ drop (place + 1) items
-set-mapped f items place item below is =
-    let next : place + 1 ≡ suc place = omega arith in
-    set-mapped_suc f items place item below is ∙ ap (λ n. map f (take n items) ++ drop n items) (sym next)
-
-pub get_or-mapped : (f : Accepted → Accepted) (items : List Accepted) (place : ℕ) (d : Accepted)
-    → get_or (map f (take place items) ++ drop place items) place d ≡ get_or items place d
-get_or-mapped f [] zero d = refl
-get_or-mapped f [] (suc place) d = refl
-get_or-mapped f (first ∷ items) zero d = refl
-get_or-mapped f (first ∷ items) (suc place) d = get_or-mapped f items place d
-
-get_or_any : (items : List Accepted) (place : ℕ) (d e : Accepted) → place < length items
-    → get_or items place d ≡ get_or items place e
-get_or_any [] place d e below = absurd (omega (arith, below))
-get_or_any (first ∷ items) zero d e below = refl
-get_or_any (first ∷ items) (suc place) d e below = get_or_any items place d e (omega (arith, below))
-
--- a step of the loop that changes each
-pub mapped-more : (f : Accepted → Accepted) (items now : List Accepted) (place : ℕ) (d new : Accepted)
-    → place < length items → now ≡ map f (take place items) ++ drop place items → new ≡ f (get_or now place d)
-    → set now place new ≡ map f (take (place + 1) items) ++ drop (place + 1) items
-mapped-more f items now place d new below is made =
-    let item : Accepted = get_or items place d in
-    let here : get_or now place d ≡ item =
-    ap (λ (es : List Accepted). get_or es place d) is ∙ get_or-mapped f items place d in
-    ap (λ (e : Accepted). set now place e) (made ∙ ap f here)
-    ∙ ap (λ (es : List Accepted). set es place (f item)) is
-    ∙ set-mapped f items place item below (get_or_any items place d item below)

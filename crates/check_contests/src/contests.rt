@@ -229,6 +229,13 @@ impl Contests {
         }
     }
 
+    /// All are taken out.
+    pub fn clear(&mut self)
+        ensures { self.new ≡ [] }
+    {
+        self.kept.clear();
+    }
+
     /// The request of a wide source is answered: it is taken out.
     pub fn answer(&mut self, wide: usize) -> Option<Accepted>
         ensures taken { result ≡ kept_of self.old wide }

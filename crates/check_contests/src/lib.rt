@@ -6,6 +6,8 @@
 //! write is contested: it is unknown from then on, in the memory and in what is due (`specs/Contests.antt`, over
 //! `specs/Writes.antt`). [`Contests::answer`] takes one out.
 //!
+//! [`cut_short`] makes unknown what a request may write that a reset cut short (`specs/Cut.antt`).
+//!
 //! `laws` says that this is right: whenever each request takes effect at the true slave, what is due to its reply says no
 //! more than what was expected of that slave then (`specs/Moments.antt`, `specs/Below.antt`, `specs/Laws.antt`). It also
 //! says that nothing is made unknown if no two requests have a byte in common that one of them may write.
@@ -13,6 +15,7 @@
 
 mod accepted;
 mod contests;
+mod cut;
 mod due;
 mod flags;
 pub mod laws;
@@ -21,3 +24,4 @@ mod writes;
 
 pub use accepted::Accepted;
 pub use contests::Contests;
+pub use cut::cut_short;

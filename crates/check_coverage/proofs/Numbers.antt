@@ -20,7 +20,7 @@ use Rattle.check_coverage.specs.Shape.{shape_of}
 abbrev AllUpTo64 : List Bin → Type 0
 AllUpTo64 bins = AllByRecursion IsUpTo64 bins
 
-both : (xs ys : List Bin) → AllUpTo64 xs → AllUpTo64 ys → AllUpTo64 (xs ++ ys)
+pub both : (xs ys : List Bin) → AllUpTo64 xs → AllUpTo64 ys → AllUpTo64 (xs ++ ys)
 both [] ys first second = second
 both (x ∷ xs) ys first second = (first.0, both xs ys first.1 second)
 

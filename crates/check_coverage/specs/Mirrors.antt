@@ -27,6 +27,10 @@ mirrors_of Device = no_mirrors
 abbrev pub mirrors_at : Plan → ℕ → MirrorsView
 mirrors_at plan port = mirrors_of (slave_at plan.resets port).kept
 
+-- the memory of each port is seen from the same places in both systems
+abbrev pub HaveSameMirrors : Plan → Plan → Type 0
+HaveSameMirrors plan later = (port : ℕ) → mirrors_at later port ≡ mirrors_at plan port
+
 -- where the window of a request begins
 abbrev pub place_of : MirrorsView → AskHead → ℕ
 place_of mirrors beat = start_in mirrors.range mirrors.others beat.address (2 ^ beat.size)

@@ -1,14 +1,12 @@
 -- The text of what was covered: `coverage 1`, and a line for each bin that occurred, in the order of bins, with its words
 -- and its count. This project's own.
-use Rattle.std.specs.Prelude.{◌≡◌, ℕ, ◌<◌, nat_lt, if◌then◌else◌, List, ◌++◌, All, codes, flat_map, length, unwrap_or}
+use Rattle.std.specs.Prelude.{◌≡◌, ℕ, ◌<◌, nat_lt, if◌then◌else◌, List, ◌++◌, All, codes, flat_map, unwrap_or}
 use Rattle.std.specs.Fmt.{decimal}
 use Rattle.std.specs.BTreeMap.{is_at}
 use Rattle.std.specs.List.Sorted.{IsStrictlySortedBy}
 use Rattle.std.specs.Map.{keys_of, lookup, values_of}
 use Rattle.tl_text.specs.Name.{operation_word}
 use Rattle.check_beats.specs.Message.{op_of}
-use Rattle.check_sides.specs.Plan.{Plan}
-use Rattle.check_rows.specs.Row.{SeenRow}
 use Rattle.check_coverage.specs.declared.bin.Bin.{Bin}
 use Rattle.check_coverage.specs.declared.bin.Bin.TheVariants.{Asked, Answered, Beats, Mask, InFlight, AtPort, Overtook, Again, Contested}
 use Rattle.check_coverage.specs.declared.bin.CountedChannel.{CountedChannel}
@@ -17,7 +15,6 @@ use Rattle.check_coverage.specs.declared.bin.Operation.{Operation}
 use Rattle.check_coverage.specs.declared.bin.Pair.{Pair}
 use Rattle.check_coverage.specs.declared.bin.Shape.{Shape}
 use Rattle.check_coverage.specs.declared.bin.Shape.TheVariants.{Empty, Full, One, Hole, Low, High, Even, Odd, Other}
-use Rattle.check_coverage.specs.Bins.{bins}
 use Rattle.check_coverage.specs.View.{bin_cmp, capped, how_often}
 
 -- a master
@@ -75,11 +72,12 @@ bin_line ports entry = bin_text ports entry.0 ++ codes " " ++ decimal entry.1 ++
 abbrev pub coverage_text : ℕ → List (Bin × ℕ) → List ℕ
 coverage_text ports entries = codes "coverage 1\n" ++ flat_map (bin_line ports) entries
 
--- a text grew by the text of what the rows have covered: the bins that they add at all have their lines, in order, and no
--- others; of each bin the text tells how often they add it, up to 2 ^ 64 - 1
-pub record TellsCoverage (plan : Plan) (rows : List SeenRow) (old new : List ℕ) : Type 0 where
+-- a text grew by the text of what was covered of a system of so many ports, where all these bins were added: those that
+-- are among them have their lines, in order, and no others; of each bin the text tells how often it is among them, up to
+-- 2 ^ 64 - 1
+pub record TellsCoverage (ports : ℕ) (all : List Bin) (old new : List ℕ) : Type 0 where
   pub entries : List (Bin × ℕ)
-  pub is : new ≡ old ++ coverage_text (length plan.layout.ports) entries
+  pub is : new ≡ old ++ coverage_text ports entries
   pub sorted : IsStrictlySortedBy bin_cmp (keys_of entries)
   pub some : All (λ (n : ℕ). 0 < n) (values_of entries)
-  pub counts : (bin : Bin) → unwrap_or (lookup (is_at (bin_cmp bin)) entries) 0 ≡ capped (how_often bin (bins plan rows))
+  pub counts : (bin : Bin) → unwrap_or (lookup (is_at (bin_cmp bin)) entries) 0 ≡ capped (how_often bin all)

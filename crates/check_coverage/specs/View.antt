@@ -1,5 +1,5 @@
 -- What is kept of the rows that were judged. This project's own.
-use Rattle.std.specs.Prelude.{◌≡◌, ℕ, ◌+◌, ◌^◌, ◌-◌, ◌&&◌, ◌==◌, if◌then◌else◌, min, List, [], ◌∷◌, map, Some, unwrap_or}
+use Rattle.std.specs.Prelude.{◌≡◌, ℕ, ◌+◌, ◌^◌, ◌-◌, ◌&&◌, ◌==◌, if◌then◌else◌, min, List, [], ◌∷◌, ◌++◌, map, Some, unwrap_or}
 use Rattle.std.specs.Ordering.{is_eq, nat_cmp}
 use Rattle.std.specs.BTreeMap.{get}
 use Rattle.std.specs.declared.cmp.Ordering.{Ordering}
@@ -48,10 +48,11 @@ pub record IsNoted (plan : Plan) (bus wide time : ℕ) (beat : Beat) (end : Ende
   pub counts : (before : List InFlight) → old.flights.items ≡ map kept before
       → Adds old.counts new.counts (bins_by plan bus wide before time (get nat_cmp old.answered wide) beat end)
 
--- this is what is kept of these rows: from where the memories of the ports are seen, of each bin how often the rows add
--- it, up to 2 ^ 64 - 1, which requests are in flight after them, and when the last reply to each source ended
-pub record Covers (plan : Plan) (rows : List SeenRow) (coverage : Coverage) : Type 0 where
+-- this is what is kept of the rows since the last reset, before which these bins were added: from where the memories of
+-- the ports are seen, which requests are in flight after the rows, when the last reply to each source ended, and of each
+-- bin how often it was added before the reset and by the rows, up to 2 ^ 64 - 1
+pub record Covers (plan : Plan) (earlier : List Bin) (rows : List SeenRow) (coverage : Coverage) : Type 0 where
   pub mirrors : HasMirrors plan coverage.mirrors.items
   pub flights : coverage.flights.items ≡ map kept (in_flight plan rows)
   pub answered : (wide : ℕ) → get nat_cmp coverage.answered wide ≡ answered_at plan rows wide
-  pub counts : (bin : Bin) → count_of coverage.counts bin ≡ capped (how_often bin (bins plan rows))
+  pub counts : (bin : Bin) → count_of coverage.counts bin ≡ capped (how_often bin (bins plan rows ++ earlier))

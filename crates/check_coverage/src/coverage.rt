@@ -1,5 +1,5 @@
 //! What the rows that were judged have covered.
-ghost use Rattle.std.specs.Prelude.{◌≡◌, ◌≤◌, ◌↔◌, [], ◌∷◌, ℕ, List, find, length, map, OnErr, OnOk};
+ghost use Rattle.std.specs.Prelude.{◌≡◌, ◌≤◌, ◌↔◌, [], ◌∷◌, ◌++◌, ℕ, List, find, length, map, OnErr, OnOk};
 ghost use Rattle.std.specs.Ordering.{nat_cmp};
 ghost use Rattle.std.specs.BTreeMap.{get};
 ghost use Rattle.tl_text.specs.Text.{BeginsWith};
@@ -10,11 +10,12 @@ ghost use Rattle.check_sides.specs.Plan.{HasLink, Plan};
 ghost use Rattle.check_sides.specs.View.{Keeps, Suits};
 ghost use Rattle.check_unanswered.specs.Began.{beats_of, row_with};
 ghost use Rattle.check_watch.specs.declared.beat.Beat.TheVariants.{A, D};
-ghost use Rattle.check_coverage.specs.Bins.{ask_bins, begin_bins, contested_bins, first_bins, last_bins, mask_bins, of_found, reply_bins, step_of, with_one};
+ghost use Rattle.check_coverage.specs.Bins.{ask_bins, begin_bins, bins, contested_bins, first_bins, last_bins, mask_bins, of_found, reply_bins, step_of, with_one};
 ghost use Rattle.check_coverage.specs.Flights.{HasSize, InFlight, begun, end_of, is_counted, is_of, ends_an_ask, kept, master_of, with_begun};
-ghost use Rattle.check_coverage.specs.Mirrors.{HasMirrors};
+ghost use Rattle.check_coverage.specs.Mirrors.{HasMirrors, HaveSameMirrors};
 ghost use Rattle.check_coverage.specs.Text.{TellsCoverage};
 ghost use Rattle.check_coverage.specs.View.{Adds, Covers, IsNoted};
+ghost use Rattle.check_coverage.specs.declared.bin.Bin.{Bin as IsBin};
 
 use crate::bin::{Bin, CountedChannel};
 use crate::counts::Counts;
@@ -235,7 +236,7 @@ impl Coverage {
     /// Nothing is covered. The memory of each port is seen from here; that of a port that is not listed, at the addresses
     /// that are sent.
     pub fn new(alloc: Global, mirrors: Vec<Mirrors>) -> Coverage
-        ensures { (plan : Plan) → HasMirrors plan mirrors.items → Covers plan [] result }
+        ensures { (plan : Plan) → HasMirrors plan mirrors.items → Covers plan [] [] result }
     {
         Coverage {
             mirrors,
@@ -407,10 +408,11 @@ impl Coverage {
     /// Counts what a row covers that the judge has taken after those before it, and that ended this.
     pub fn note(&mut self, watch: &Watch, row: &Row, end: Ended) -> Result<(), AllocError>
         requires { HasLink watch.now.layout row.now.link }
-        ensures { (plan : Plan) (rows : List SeenRow) (lanes : List ℕ) → Covers plan rows self.old
+        ensures { (plan : Plan) (earlier : List IsBin) (rows : List SeenRow) (lanes : List ℕ)
+            → Covers plan earlier rows self.old
             → Keeps plan (beats_of (row_with row.now lanes ∷ rows)) watch.now
             → end ≡ end_of plan rows (row_with row.now lanes)
-            → OnOk result (Covers plan (row_with row.now lanes ∷ rows) self.new) }
+            → OnOk result (Covers plan earlier (row_with row.now lanes ∷ rows) self.new) }
     {
         if !is_counted(watch.links(), row.link) {
             return Ok(());
@@ -422,11 +424,22 @@ impl Coverage {
         }
     }
 
-    /// Appends the text of what was covered of the judge's crossbar.
+    /// A reset of the whole system: nothing is in flight, and no reply has come yet. Counts go on. The judge may go on by
+    /// another plan in which the memories of the ports are seen from the same places.
+    pub fn reset(&mut self)
+        ensures { (plan later : Plan) (earlier : List IsBin) (rows : List SeenRow) → HaveSameMirrors plan later
+            → Covers plan earlier rows self.old → Covers later (bins plan rows ++ earlier) [] self.new }
+    {
+        self.flights.clear();
+        self.answered.clear();
+    }
+
+    /// Appends the text of what was covered of the judge's crossbar, before resets too.
     #[tactic(auto, using(tl_text::proofs::TextLemmas::begins))]
     pub fn append(&self, watch: &Watch, text: &mut Vec<u8>) -> Result<(), AllocError>
-        ensures told { (plan : Plan) (rows : List SeenRow) → Covers plan rows self.now → watch.now.layout ≡ plan.layout
-            → OnOk result (TellsCoverage plan rows text.old.items text.new.items) }
+        ensures told { (plan : Plan) (earlier : List IsBin) (rows : List SeenRow) → Covers plan earlier rows self.now
+            → watch.now.layout ≡ plan.layout → OnOk result (TellsCoverage (length plan.layout.ports)
+            (bins plan rows ++ earlier) text.old.items text.new.items) }
         ensures err { OnErr result (BeginsWith text.old.items text.new.items) }
     {
         text.extend_from_slice(b"coverage 1\n")?;

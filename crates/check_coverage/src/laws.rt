@@ -1,5 +1,5 @@
 //! Laws, each a function that does nothing and whose contract is the law.
-ghost use Rattle.std.specs.Prelude.{◌≡◌, ◌≤◌, ◌<◌, ◌+◌, ◌↔◌, IsTrue, List, length};
+ghost use Rattle.std.specs.Prelude.{◌≡◌, ◌≤◌, ◌<◌, ◌+◌, ◌↔◌, ◌++◌, IsTrue, List, length};
 ghost use Rattle.std.specs.List.{AllByRecursion};
 ghost use Rattle.std.specs.Ordering.{is_eq};
 ghost use Rattle.check_rows.specs.Row.{SeenRow};
@@ -21,4 +21,6 @@ pub fn limits_in_numbers()
     ensures apart { (flights : List InFlight) → length flights < 64 → with_one flights ≡ length flights + 1 }
     ensures more { (flights : List InFlight) → 64 ≤ length flights → with_one flights ≡ 64 }
     ensures told { (plan : Plan) (rows : List SeenRow) → AllByRecursion IsUpTo64 (bins plan rows) }
+    ensures after_resets { (plan : Plan) (earlier : List Bin) (rows : List SeenRow) → AllByRecursion IsUpTo64 earlier
+        → AllByRecursion IsUpTo64 (bins plan rows ++ earlier) }
 {}

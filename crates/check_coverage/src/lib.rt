@@ -7,6 +7,8 @@
 //! sources and ports are is read from the judge that took the rows (`check_sides::Watch`), which both calls borrow. From
 //! where the memories of ports are seen ([`Mirrors`], `specs/Mirrors.antt`) is handed in at the beginning.
 //!
+//! A reset of the whole system ([`Coverage::reset`]) leaves nothing in flight, and the counts go on.
+//!
 //! Messages are counted at the masters' links if these are watched, else at the ports'. A count stops at 2^64 - 1.
 //!
 //! Read on in `docs/REGRESSION.md`, "What was covered", which has the table of bins.

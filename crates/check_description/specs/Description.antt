@@ -1,5 +1,5 @@
 -- Which description the parts of a file make, and the first fault of parts that make none. This project's own.
-use Rattle.std.specs.Prelude.{◌≡◌, ◌≢◌, List, map}
+use Rattle.std.specs.Prelude.{◌≡◌, ◌≢◌, Bool, List, map}
 use Rattle.tl_map.specs.declared.range.Range.{Range}
 use Rattle.tl_map.specs.Map.{IsFirstAddressMapFault, IsLawfulAddressMap}
 use Rattle.tl_map.specs.Owners.{AreLawfulOwners}
@@ -17,9 +17,11 @@ use Rattle.check_description.specs.File.{Parts}
 use Rattle.check_description.specs.Master.{HasOwners, IsFirstOwnerFault, Master, master_view}
 use Rattle.check_description.specs.declared.masters.Master as code_master
 
--- the rules of the links, the ports, the masters as the file has them, and which wide sources are each master's
+-- the rules of the links, whether there may be resets of the whole system, the ports, the masters as the file has them, and
+-- which wide sources are each master's
 pub record Description : Type 0 where
   pub rules : LinkRules
+  pub resets : Bool
   pub ports : List Port
   pub masters : List Master
   pub owners : List Owner
@@ -29,9 +31,14 @@ abbrev pub ranges_of : List Port → List (List Range)
 ranges_of ports = map (λ (port : Port). port.ranges) ports
 
 -- the description of these parts
-abbrev pub described : LinkRules → List code_port.Port → List code_master.Master → List Owner → Description
-described rules ports masters owners =
-    record { rules = rules; ports = map port_view ports; masters = map master_view masters; owners = owners }
+abbrev pub described : LinkRules → Bool → List code_port.Port → List code_master.Master → List Owner → Description
+described rules resets ports masters owners = record {
+  rules = rules;
+  resets = resets;
+  ports = map port_view ports;
+  masters = map master_view masters;
+  owners = owners;
+}
 
 -- ---- what parts make
 
@@ -42,6 +49,7 @@ pub record Makes (parts : Parts) (description : Description) : Type 0 where
   pub owners : HasOwners parts.masters description.owners
   pub sources : AreLawfulOwners description.owners
   pub rules : description.rules ≡ parts.rules
+  pub resets : description.resets ≡ parts.resets
   pub ports : description.ports ≡ parts.ports
   pub masters : description.masters ≡ parts.masters
 

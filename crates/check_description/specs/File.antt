@@ -1,5 +1,5 @@
 -- The parts that a file names, and the first fault on the way to them. This project's own.
-use Rattle.std.specs.Prelude.{ℕ, ◌+◌, nat_lt, List, [], ◌∷◌, length, map, Option, None, Some, Result, Ok, Err, if◌then◌else◌, ok_or}
+use Rattle.std.specs.Prelude.{ℕ, Bool, ◌+◌, nat_lt, List, [], ◌∷◌, length, map, Option, None, Some, Result, Ok, Err, if◌then◌else◌, ok_or}
 use Rattle.std.specs.Str.{is_utf8}
 use Rattle.toml.specs.Data.{Members}
 use Rattle.toml.specs.Parse.{parse_document}
@@ -16,9 +16,10 @@ use Rattle.check_description.specs.declared.parts.Image as code_image
 use Rattle.check_description.specs.declared.parts.Parts as code_parts
 use Rattle.check_description.specs.declared.read.TheConstants.{MAX_SYSTEM}
 
--- the rules of the links, the ports and the masters
+-- the rules of the links, whether there may be resets of the whole system, the ports and the masters
 pub record Parts : Type 0 where
   pub rules : LinkRules
+  pub resets : Bool
   pub ports : List Port
   pub masters : List Master
 
@@ -35,9 +36,9 @@ unfoldable pub parts_in : Members → Result Parts SystemFault
 parts_in members = do
   bus ← bus_in_table Eight members
   rules ← rules_in members
-  ports ← ports_of bus members
+  ports ← ports_of bus rules.resets members
   masters ← masters_of bus (names_of_ports ports) members
-  Ok (record { rules = rules; ports = ports; masters = masters })
+  Ok (record { rules = rules.links; resets = rules.resets; ports = ports; masters = masters })
 
 -- the parts that a file names, or the first fault on the way to them
 abbrev pub parts_of : List ℕ → Result Parts SystemFault
@@ -47,6 +48,7 @@ parts_of bytes = document_of bytes >>= parts_in
 abbrev pub parts_view : code_parts.Parts → Parts
 parts_view parts = record {
   rules = parts.rules;
+  resets = parts.resets;
   ports = map port_view parts.ports.items;
   masters = map master_view parts.masters.items;
 }

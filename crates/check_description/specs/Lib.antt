@@ -9,6 +9,7 @@ pub mod Kind
 pub mod Ranges
 pub mod Mirror
 pub mod Volatile
+pub mod OnReset
 pub mod Contents
 pub mod Sizes
 pub mod Order

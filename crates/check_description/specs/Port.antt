@@ -1,5 +1,5 @@
 -- The ports of a system file. This project's own.
-use Rattle.std.specs.Prelude.{ℕ, Bool, ◌||◌, not, ◌==◌, List, [], length, map, Option, None, Some, option_map, string_bytes, Result, Ok}
+use Rattle.std.specs.Prelude.{ℕ, Bool, true, false, ◌||◌, not, ◌==◌, List, [], length, map, Option, None, Some, option_map, string_bytes, Result, Ok}
 use Rattle.toml.specs.Data.{Data, Members, get_member}
 use Rattle.tl_map.specs.declared.range.Range.{Range}
 use Rattle.tl_map.specs.declared.limits.TheConstants.{MAX_JUDGED_PORTS}
@@ -15,18 +15,22 @@ use Rattle.check_keys.specs.declared.fault.SystemFault.{SystemFault}
 use Rattle.check_description.specs.Contents.{Contents, contents_at}
 use Rattle.check_description.specs.Kind.{kind_at}
 use Rattle.check_description.specs.Mirror.{mirror_at}
+use Rattle.check_description.specs.OnReset.{on_reset_at}
 use Rattle.check_description.specs.Order.{orders_at}
 use Rattle.check_description.specs.Ranges.{first_length, ranges_at}
 use Rattle.check_description.specs.Sizes.{sizes_at}
 use Rattle.check_description.specs.Volatile.{volatile_at}
 use Rattle.check_description.specs.declared.kind.PortKind.{PortKind}
+use Rattle.check_description.specs.declared.on_reset.OnReset.{OnReset}
+use Rattle.check_description.specs.declared.on_reset.OnReset.TheVariants.{Never, Keep, Load}
 use Rattle.check_description.specs.declared.port.Contents as code_contents
 use Rattle.check_description.specs.declared.port.Port as code_port
 use Rattle.check_description.specs.declared.port.PortOrders.{PortOrders}
 
 -- a slave port: its name, what stands there, where its bytes are, what it holds before any request, the sizes that it
--- supports, when its requests take effect, its data bus, whether its ranges are one memory, and the addresses of the bytes
--- that change by themselves. No sizes are those of its kind; no order on a side is the command line's
+-- supports, when its requests take effect, its data bus, whether its ranges are one memory, the addresses of the bytes
+-- that change by themselves, and what a reset of the whole system does to its bytes. No sizes are those of its kind; no
+-- order on a side is the command line's
 pub record Port : Type 0 where
   pub name : Option (List ℕ)
   pub kind : PortKind
@@ -37,15 +41,22 @@ pub record Port : Type 0 where
   pub bus : Bus
   pub mirror : Bool
   pub volatile : List Range
+  pub on_reset : OnReset
 
--- lanes of its replies may be unknown: its bytes may be, or some change by themselves
+-- resets leave its bytes, but for those that requests may write which a reset cuts short: nobody knows these afterwards
+abbrev pub keeps_bytes : OnReset → Bool
+keeps_bytes Never = false
+keeps_bytes Keep = true
+keeps_bytes Load = false
+
+-- lanes of its replies may be unknown: its bytes may be, or some change by themselves, or it keeps them over resets
 abbrev pub may_answer_unknown : Port → Bool
-may_answer_unknown port = port.contents.unknown || not (length port.volatile == 0)
+may_answer_unknown port = (port.contents.unknown || not (length port.volatile == 0)) || keeps_bytes port.on_reset
 
 -- the port that a table describes, by its keys in the order in which they are looked at; without a bus of its own it has
--- that of the system
-unfoldable pub port_of : Bus → Members → Result Port SystemFault
-port_of bus members = do
+-- that of the system, and in a system without resets none is a reset of it
+unfoldable pub port_of : Bus → Bool → Members → Result Port SystemFault
+port_of bus resets members = do
   name ← name_at members
   kind ← kind_at members
   ranges ← ranges_at members
@@ -55,6 +66,7 @@ port_of bus members = do
   own ← bus_in_table bus members
   mirror ← mirror_at ranges members
   volatile ← volatile_at ranges members
+  on_reset ← on_reset_at resets kind members
   Ok (record {
     name = name;
     kind = kind;
@@ -65,6 +77,7 @@ port_of bus members = do
     bus = own;
     mirror = mirror;
     volatile = volatile;
+    on_reset = on_reset;
   })
 
 -- the tables in a value, which may not be there
@@ -77,8 +90,8 @@ unfoldable pub port_tables : Members → Result (List Members) SystemFault
 port_tables members = tables_by (get_member (key_name PortKey) members)
 
 -- the ports of a file, in order
-unfoldable pub ports_of : Bus → Members → Result (List Port) SystemFault
-ports_of bus members = port_tables members >>= each (port_of bus)
+unfoldable pub ports_of : Bus → Bool → Members → Result (List Port) SystemFault
+ports_of bus resets members = port_tables members >>= each (port_of bus resets)
 
 -- the name of each port that has one
 abbrev pub names_of_ports : List Port → List (Option (List ℕ))
@@ -104,4 +117,5 @@ port_view port = record {
   bus = port.bus;
   mirror = port.mirror;
   volatile = port.volatile.items;
+  on_reset = port.on_reset;
 }

@@ -1,13 +1,13 @@
--- What a system file says of all links. This project's own.
+-- What a system file says of the whole system. This project's own.
 use Rattle.std.specs.Prelude.{Bool, true, false, List, ℕ, codes, Option, Some, None, Result, Ok, unwrap_or, if◌then◌else◌, ok_or}
 use Rattle.std.specs.Str.{bytes_eq}
 use Rattle.toml.specs.Data.{Members}
 use Rattle.tl_text.specs.Reading.{◌>>=◌, if_any}
-use Rattle.check_beats.specs.declared.rules.LinkRules.{LinkRules}
 use Rattle.check_keys.specs.Value.{flag_at, last_integer, number_if_any, text_if_any}
-use Rattle.check_keys.specs.declared.fault.Key.TheVariants.{Unaligned, Decode, Period}
+use Rattle.check_keys.specs.declared.fault.Key.TheVariants.{Unaligned, Decode, Resets, Period}
 use Rattle.check_keys.specs.declared.fault.SystemFault.{SystemFault}
 use Rattle.check_keys.specs.declared.fault.SystemFault.TheVariants.{OutOfRange}
+use Rattle.check_description.specs.declared.rules.SystemRules.{SystemRules}
 
 -- whether decoders look at the address alone, by the word for what they look at
 abbrev pub by_address_of : List ℕ → Option Bool
@@ -20,10 +20,12 @@ by_address_in members =
     text_if_any Decode members >>= if_any (λ word. ok_or (by_address_of word) (OutOfRange Decode))
     >>= (λ by_address. Ok (unwrap_or by_address false))
 
--- what a document's table says: nothing beyond the standard, and a clock for each unit of time, unless it has the keys
-unfoldable pub rules_in : Members → Result LinkRules SystemFault
+-- what a document's table says: nothing beyond the standard, a clock for each unit of time, and no resets, unless it has the
+-- keys
+unfoldable pub rules_in : Members → Result SystemRules SystemFault
 rules_in members = do
   unaligned ← flag_at Unaligned members
   by_address ← by_address_in members
+  resets ← flag_at Resets members
   period ← number_if_any Period 1 last_integer members
-  Ok (record { unaligned = unaligned; by_address = by_address; period = unwrap_or period 1 })
+  Ok (record { links = record { unaligned = unaligned; by_address = by_address; period = unwrap_or period 1 }; resets = resets })

@@ -17,10 +17,12 @@ use std::alloc::Global;
 use std::marker::Model;
 use tl_map::{AddressMap, SourceOwners};
 
-/// What a file describes: the rules of the links, the ports, the masters, which port has which addresses, and which wide sources are whose.
+/// What a file describes: the rules of the links, whether there may be resets of the whole system, the ports, the masters,
+/// which port has which addresses, and which wide sources are whose.
 #[derive(Drop)]
 pub struct Description {
     rules: LinkRules,
+    resets: bool,
     ports: Vec<Port>,
     masters: Vec<Master>,
     addresses: AddressMap,
@@ -31,6 +33,7 @@ pub struct Description {
 #[derive(Drop)]
 pub struct Described {
     pub rules: LinkRules,
+    pub resets: bool,
     pub ports: Vec<Port>,
     pub masters: Vec<Master>,
     pub addresses: AddressMap,
@@ -44,7 +47,7 @@ impl Model for Description {
 
     ghost Value = { Said };
 
-    ghost view = { λ s. described s.rules s.ports.items s.masters.items s.sources };
+    ghost view = { λ s. described s.rules s.resets s.ports.items s.masters.items s.sources };
 
     ghost invariant = { λ s. (s.addresses ≡ ranges_of (map port_view s.ports.items))
         × (length s.sources ≡ length s.masters.items) };
@@ -54,6 +57,7 @@ impl Description {
     /// The description of these parts, with the sources of each master.
     fn new(
         rules: LinkRules,
+        resets: bool,
         ports: Vec<Port>,
         masters: Vec<Master>,
         addresses: AddressMap,
@@ -61,10 +65,11 @@ impl Description {
     ) -> Description
         requires addresses { addresses ≡ ranges_of (map port_view ports.items) }
         requires counted { length sources ≡ length masters.items }
-        ensures { result ≡ described rules ports.items masters.items sources }
+        ensures { result ≡ described rules resets ports.items masters.items sources }
     {
         Description {
             rules,
+            resets,
             ports,
             masters,
             addresses,
@@ -77,6 +82,13 @@ impl Description {
         ensures { result ≡ self.now.rules }
     {
         self.rules
+    }
+
+    /// Whether there may be resets of the whole system.
+    pub fn resets(&self) -> bool
+        ensures { result ≡ self.now.resets }
+    {
+        self.resets
     }
 
     /// The ports.
@@ -110,6 +122,7 @@ impl Description {
     /// The parts.
     pub fn into_parts(self) -> Described
         ensures rules { result.rules ≡ self.rules }
+        ensures resets { result.resets ≡ self.resets }
         ensures ports { map port_view result.ports.items ≡ self.ports }
         ensures masters { map master_view result.masters.items ≡ self.masters }
         ensures addresses { result.addresses ≡ ranges_of self.ports }
@@ -118,6 +131,7 @@ impl Description {
     {
         Described {
             rules: self.rules,
+            resets: self.resets,
             ports: self.ports,
             masters: self.masters,
             addresses: self.addresses,
@@ -149,5 +163,12 @@ pub fn describe(alloc: Global, parts: Parts) -> Result<Description, SystemFault>
 {
     let addresses = map_of(alloc, &parts.ports)?;
     let sources = sources_of(alloc, &parts.masters)?;
-    Ok(Description::new(parts.rules, parts.ports, parts.masters, addresses, sources))
+    Ok(Description::new(
+        parts.rules,
+        parts.resets,
+        parts.ports,
+        parts.masters,
+        addresses,
+        sources,
+    ))
 }

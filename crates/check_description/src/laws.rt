@@ -16,8 +16,8 @@ pub fn a_plain_port_keeps_its_store()
     ensures { KeepsItsStore }
 {}
 
-/// A port that says of no byte that it is unknown, or changes by itself, knows all its bytes at reset, so no reply of it may
-/// have unknown lanes.
+/// A port that says of no byte that it is unknown, or changes by itself, knows all its bytes before any request. So no reply
+/// of it may have unknown lanes, unless it keeps its bytes over resets, which may cut requests short.
 pub fn a_known_port_is_whole()
     ensures { KnownPortIsWhole }
 {}

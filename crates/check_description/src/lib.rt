@@ -4,8 +4,8 @@
 //! [`read_parts`] answers the [`Parts`] that a file names, no two of them with the same name, if each key of it is known
 //! (`specs/Unknown.antt`), or its first fault on the way to them (`specs/File.antt`, `specs/Name.antt`). [`read_ports`] reads the ports among them, each key in its order (`specs/Port.antt`).
 //! The files of the ports' images are [`Parts::images`]: the program reads them. [`slave_of`] makes of a port and the bytes
-//! of its image the `PortSlave` that it is before any request (`specs/Slave.antt`), and [`error_slave`] that of the error
-//! port. [`describe`] answers the [`Description`] that the parts make, or the first fault of their ranges and of their
+//! of its image the `PortSlave` that it is before any request (`specs/Slave.antt`), [`kept_at_reset`] what a reset of the whole
+//! system loads into it, if it does (`specs/OnReset.antt`), and [`error_slave`] the slave of the error port. [`describe`] answers the [`Description`] that the parts make, or the first fault of their ranges and of their
 //! sources (`specs/Description.antt`). Beside that only want of memory is answered.
 //!
 //! What is a TOML document, and what its table is, is the crate `toml`'s own definition, `parse_document`. `laws` says that a
@@ -21,6 +21,7 @@ pub mod laws;
 mod masters;
 mod mirror;
 mod names;
+mod on_reset;
 mod order;
 mod owners;
 mod parts;
@@ -38,9 +39,10 @@ mod volatile;
 pub use description::{Described, Description, describe};
 pub use kind::PortKind;
 pub use masters::Master;
+pub use on_reset::OnReset;
 pub use parts::{Image, Parts};
 pub use port::{Contents, Port, PortOrders};
 pub use ports::{read_port, read_ports};
 pub use ranges::first_length;
 pub use read::{MAX_SYSTEM, read_parts};
-pub use slave::{error_slave, slave_of};
+pub use slave::{error_slave, kept_at_reset, slave_of};

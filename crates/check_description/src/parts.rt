@@ -7,10 +7,11 @@ use crate::port::Port;
 use check_beats::LinkRules;
 use std::alloc::{AllocError, Global};
 
-/// The rules of the links, the ports and the masters that a file names.
+/// The rules of the links, whether there may be resets of the whole system, the ports and the masters that a file names.
 #[derive(Debug, Drop)]
 pub struct Parts {
     pub rules: LinkRules,
+    pub resets: bool,
     pub ports: Vec<Port>,
     pub masters: Vec<Master>,
     ghost few_ports: { length ports.items ≤ MAX_JUDGED_PORTS },

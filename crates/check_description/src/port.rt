@@ -3,6 +3,7 @@ ghost use Rattle.std.specs.Prelude.{◌≤◌, length};
 ghost use Rattle.check_description.specs.Ranges.{AreRangesOfPort, first_length};
 
 use crate::kind::PortKind;
+use crate::on_reset::OnReset;
 use check_beats::Bus;
 use check_flight::Order;
 use check_memory::Sizes;
@@ -39,6 +40,8 @@ pub struct Port {
     pub mirror: bool,
     /// The addresses of the bytes that change by themselves.
     pub volatile: Vec<Range>,
+    /// What a reset of the whole system does to its bytes.
+    pub on_reset: OnReset,
     ghost lawful: { AreRangesOfPort ranges.items },
     ghost given: { length contents.reset.items ≤ first_length ranges.items },
 }

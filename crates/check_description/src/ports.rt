@@ -9,6 +9,7 @@ ghost use Rattle.check_description.specs.Port.{port_of, port_tables, port_view, 
 use crate::contents::contents_at;
 use crate::kind::kind_at;
 use crate::mirror::mirror_at;
+use crate::on_reset::on_reset_at;
 use crate::order::orders_at;
 use crate::port::Port;
 use crate::ranges::{first_length, ranges_at};
@@ -20,10 +21,10 @@ use std::alloc::Global;
 use tl_map::MAX_JUDGED_PORTS;
 use toml::Table;
 
-/// The port that a table describes, in a system whose links have this bus.
+/// The port that a table describes, in a system whose links have this bus, and which has resets or none.
 #[tactic(auto, unfolding(crate::specs::Port::port_of))]
-pub fn read_port(alloc: Global, bus: Bus, table: &Table) -> Result<Port, SystemFault>
-    ensures { Gives port_view result (port_of bus (table_view table.now)) }
+pub fn read_port(alloc: Global, bus: Bus, resets: bool, table: &Table) -> Result<Port, SystemFault>
+    ensures { Gives port_view result (port_of bus resets (table_view table.now)) }
 {
     let name = name_at(alloc, table)?;
     let kind = kind_at(table)?;
@@ -34,6 +35,7 @@ pub fn read_port(alloc: Global, bus: Bus, table: &Table) -> Result<Port, SystemF
     let bus = bus_in_table(table, bus)?;
     let mirror = mirror_at(&ranges, table)?;
     let volatile = volatile_at(alloc, &ranges, table)?;
+    let on_reset = on_reset_at(resets, kind, table)?;
     Ok(Port {
         name,
         kind,
@@ -44,18 +46,24 @@ pub fn read_port(alloc: Global, bus: Bus, table: &Table) -> Result<Port, SystemF
         bus,
         mirror,
         volatile,
+        on_reset,
     })
 }
 
 /// The ports that tables describe.
-fn read_each_port(alloc: Global, bus: Bus, tables: &[&Table]) -> Result<Vec<Port>, SystemFault>
+fn read_each_port(
+    alloc: Global,
+    bus: Bus,
+    resets: bool,
+    tables: &[&Table],
+) -> Result<Vec<Port>, SystemFault>
     ensures value { Gives (λ ports. map port_view ports.items) result
-        (each (port_of bus) (map (λ table. table_view table.now) tables.now)) }
+        (each (port_of bus resets) (map (λ table. table_view table.now) tables.now)) }
     ensures counted { IfOk result (λ ports. length ports.items ≡ length tables.now) }
 {
     let mut ports = Vec::new(alloc);
     for table in tables {
-        ports.push(read_port(alloc, bus, table)?)?;
+        ports.push(read_port(alloc, bus, resets, table)?)?;
     }
     Ok(ports)
 }
@@ -77,14 +85,19 @@ fn tables_of_ports<'a>(alloc: Global, table: &'a Table) -> Result<Vec<&'a Table>
     Ok(tables)
 }
 
-/// The ports of a file, of which there may be none, in a system whose links have this bus; or the first fault, port by
-/// port in the order of the keys.
+/// The ports of a file, of which there may be none, in a system whose links have this bus, and which has resets or none; or
+/// the first fault, port by port in the order of the keys.
 #[tactic(auto, unfolding(crate::specs::Port::ports_of))]
-pub fn read_ports(alloc: Global, bus: Bus, table: &Table) -> Result<Vec<Port>, SystemFault>
+pub fn read_ports(
+    alloc: Global,
+    bus: Bus,
+    resets: bool,
+    table: &Table,
+) -> Result<Vec<Port>, SystemFault>
     ensures value { Gives (λ ports. map port_view ports.items) result
-        (ports_of bus (table_view table.now)) }
+        (ports_of bus resets (table_view table.now)) }
     ensures few { IfOk result (λ ports. length ports.items ≤ MAX_JUDGED_PORTS) }
 {
     let tables = tables_of_ports(alloc, table)?;
-    read_each_port(alloc, bus, &tables)
+    read_each_port(alloc, bus, resets, &tables)
 }

@@ -45,10 +45,11 @@ fn read_tables(alloc: Global, table: &Table) -> Result<Parts, SystemFault>
 {
     let bus = bus_in_table(table, Bus::Eight)?;
     let rules = read_rules(table)?;
-    let ports = read_ports(alloc, bus, table)?;
+    let ports = read_ports(alloc, bus, rules.resets, table)?;
     let masters = read_masters(alloc, bus, &ports, table)?;
     Ok(Parts {
-        rules,
+        rules: rules.links,
+        resets: rules.resets,
         ports,
         masters,
     })

@@ -1,4 +1,4 @@
-//! What a system file says of all links.
+//! What a system file says of the whole system.
 ghost use Rattle.std.specs.Prelude.{◌≡◌};
 ghost use Rattle.toml.specs.View.{table_view};
 ghost use Rattle.check_keys.specs.Reading.{Gives};
@@ -7,6 +7,13 @@ ghost use Rattle.check_description.specs.Rules.{by_address_in, by_address_of, ru
 use check_beats::LinkRules;
 use check_keys::{Key, LAST_INTEGER, SystemFault, flag_at, number_if_any, text_if_any};
 use toml::Table;
+
+/// The rules of all links, and whether there may be resets of the whole system.
+#[derive(Debug, Clone, Copy, PartialEq, Eq)]
+pub struct SystemRules {
+    pub links: LinkRules,
+    pub resets: bool,
+}
 
 /// Whether decoders look at the address alone, by the word for what they look at.
 fn by_address_of(word: &[u8]) -> Option<bool>
@@ -35,17 +42,19 @@ fn by_address_in(table: &Table) -> Result<bool, SystemFault>
     }
 }
 
-/// What a file's table says of all links.
+/// What a file's table says of the whole system.
 #[tactic(auto, unfolding(crate::specs::Rules::rules_in))]
-pub fn read_rules(table: &Table) -> Result<LinkRules, SystemFault>
+pub fn read_rules(table: &Table) -> Result<SystemRules, SystemFault>
     ensures { Gives (λ rules. rules) result (rules_in (table_view table.now)) }
 {
     let unaligned = flag_at(table, Key::Unaligned)?;
     let by_address = by_address_in(table)?;
+    let resets = flag_at(table, Key::Resets)?;
     let period = number_if_any(table, Key::Period, 1, LAST_INTEGER)?.unwrap_or(1);
-    Ok(LinkRules {
+    let links = LinkRules {
         unaligned,
         by_address,
         period,
-    })
+    };
+    Ok(SystemRules { links, resets })
 }

@@ -1,12 +1,13 @@
 //! The slave that a port is before any request.
 ghost use Rattle.std.specs.Prelude.{◌≡◌, ◌≤◌, IfOk, length};
 ghost use Rattle.check_keys.specs.Reading.{Gives};
-ghost use Rattle.check_description.specs.Port.{may_answer_unknown as lanes_may_be_unknown, port_view};
+ghost use Rattle.check_description.specs.Port.{keeps_bytes, may_answer_unknown as lanes_may_be_unknown, port_view};
 ghost use Rattle.check_description.specs.Ranges.{first_length as length_of_first};
 ghost use Rattle.check_description.specs.Slave.{blank_memory, error_slave as slave_of_error, kept_at_reset, memory_at_reset, sizes_of_port, slave_at_reset};
 
 use crate::kind::PortKind;
 use crate::mirror::{mirrors_kept, ranges_kept};
+use crate::on_reset::OnReset;
 use crate::port::Port;
 use crate::ranges::{first_base, first_length};
 use check_flight::{Order, PortSlave};
@@ -57,8 +58,8 @@ fn memory_of(
     Ok(memory)
 }
 
-/// What a port keeps before any request.
-fn kept_of(alloc: Global, port: &Port, image: &[u8]) -> Result<Slave, AllocError>
+/// What a port keeps before any request, with these bytes of its image. A reset loads the same.
+pub fn kept_at_reset(alloc: Global, port: &Port, image: &[u8]) -> Result<Slave, AllocError>
     requires { length image.now ≤ length_of_first (port_view port.now).ranges }
     ensures { IfOk result (λ kept. kept ≡ kept_at_reset (port_view port.now) image.now) }
 {
@@ -68,11 +69,18 @@ fn kept_of(alloc: Global, port: &Port, image: &[u8]) -> Result<Slave, AllocError
     }
 }
 
+/// Whether resets leave the bytes of a port, but for those that they cut short.
+fn keeps_bytes(port: &Port) -> bool
+    ensures { result ≡ keeps_bytes (port_view port.now).on_reset }
+{
+    matches!(port.on_reset, OnReset::Keep)
+}
+
 /// Whether lanes of a port's replies may be unknown.
 fn may_answer_unknown(port: &Port) -> bool
     ensures { result ≡ lanes_may_be_unknown (port_view port.now) }
 {
-    port.contents.unknown || !port.volatile.is_empty()
+    port.contents.unknown || !port.volatile.is_empty() || keeps_bytes(port)
 }
 
 /// The slave that the port of this number is before any request, or that its image is longer than its first range. The
@@ -90,7 +98,7 @@ pub fn slave_of(
     if image.len() as u64 > first_length(&port.ranges) {
         return Err(SystemFault::ImageTooLong(number));
     }
-    let kept = kept_of(alloc, port, image)?;
+    let kept = kept_at_reset(alloc, port, image)?;
     Ok(PortSlave::new(alloc, kept, order, may_answer_unknown(port)))
 }
 

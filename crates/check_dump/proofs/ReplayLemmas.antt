@@ -23,7 +23,8 @@ use Rattle.check_review.specs.declared.stop.Stop.TheVariants as stop
 use Rattle.check_review.specs.declared.tally.Tally.{Tally}
 use Rattle.check_review.proofs.Judging.{part_before, part_of_file, told_earlier, told_none}
 use Rattle.check_samples.specs.Left.{End, RowsLeft}
-use Rattle.check_sides.specs.Plan.{Plan}
+use Rattle.check_samples.specs.declared.channel.UnknownBit.{UnknownBit}
+use Rattle.check_start.specs.Loads.{SystemPlan}
 use Rattle.check_text.specs.Buses.{LinkBuses}
 use Rattle.check_text.specs.Out.{Moves, WritesPart, Wrote}
 use Rattle.check_text.specs.Rows.{IsToldBy, Took}
@@ -96,7 +97,7 @@ latest_more (Some before) rows row is = go (nat_lt row.time before) refl
 
 pub line_stops : (buses : LinkBuses) (number : ℕ) (line : List ℕ) (row : SeenRow) → SpellsRow buses number line row
     → (judge : JudgeView) (tally : Tally) (text grown : List ℕ) (why : Stop)
-    → ((plan : Plan) (rows : List SeenRow) (so_far : List ℕ) → HasTold plan rows judge so_far
+    → ((plan : SystemPlan) (rows : List SeenRow) (so_far : List ℕ) → HasTold plan rows judge so_far
     → IsStop plan rows row why × CoversStop plan rows tally why × TellsStop (is_traced judge) plan rows so_far text grown why)
     → LineStops buses number line judge tally text grown (halt_of number why)
 line_stops buses number line row spells judge tally text grown (stop.Row why) facts =
@@ -109,10 +110,10 @@ line_stops buses number line row spells judge tally text grown stop.Memory facts
 
 -- what is said of rows that are lawful
 pub record LawfulEnd (judge : JudgeView) (tally : Tally) (text grown : List ℕ) (ending : Ending) : Type 0 where
-  pub lawful : (plan : Plan) (rows : List SeenRow) → Judges plan rows judge → IsLawfulFile plan rows
+  pub lawful : (plan : SystemPlan) (rows : List SeenRow) → Judges plan rows judge → IsLawfulFile plan rows
       × HasCounts plan rows ending.counts × HasLeft (is_asked judge) plan rows ending.left
-  pub covers : (plan : Plan) (rows : List SeenRow) → Judges plan rows judge → IsCoveredFile plan rows tally
-  pub tells : (plan : Plan) (rows : List SeenRow) (so_far : List ℕ) → HasTold plan rows judge so_far
+  pub covers : (plan : SystemPlan) (rows : List SeenRow) → Judges plan rows judge → IsCoveredFile plan rows tally
+  pub tells : (plan : SystemPlan) (rows : List SeenRow) (so_far : List ℕ) → HasTold plan rows judge so_far
       → (more : List ℕ) × (grown ≡ text ++ more) × IsToldFile (is_traced judge) plan rows (so_far ++ more)
 
 module _ (judge : JudgeView) (tally : Tally) (text grown : List ℕ) (counts : VerdictCounts) where
@@ -163,9 +164,9 @@ module _ (judge : JudgeView) (tally : Tally) (text grown : List ℕ) (counts : V
 
 pub refused_ends : (judge : JudgeView) (tally : Tally) (end : RowsEnd) (latest : Option ℕ) (text grown : List ℕ)
     (why : Refusal) → ((rows : List SeenRow) → IsLatest latest rows → EndsLater (end_of end) rows)
-    → ((plan : Plan) (rows : List SeenRow) → Judges plan rows judge → OfUnlawful (IsFirstUnlawful plan rows) why)
-    → ((plan : Plan) (rows : List SeenRow) → Judges plan rows judge → OfUnlawful (IsCoveredBefore plan rows tally) why)
-    → ((plan : Plan) (rows : List SeenRow) (so_far : List ℕ) → HasTold plan rows judge so_far
+    → ((plan : SystemPlan) (rows : List SeenRow) → Judges plan rows judge → OfUnlawful (IsFirstUnlawful plan rows) why)
+    → ((plan : SystemPlan) (rows : List SeenRow) → Judges plan rows judge → OfUnlawful (IsCoveredBefore plan rows tally) why)
+    → ((plan : SystemPlan) (rows : List SeenRow) (so_far : List ℕ) → HasTold plan rows judge so_far
     → OfUnlawful (λ found. (more : List ℕ) × (grown ≡ text ++ more)
     × IsToldBefore (is_traced judge) plan rows (so_far ++ more) found) why)
     → EndsReplay judge tally end latest text grown (answer_refused why)
@@ -182,6 +183,19 @@ refused_ends judge tally end latest text grown refusal.Memory later first covers
   counted = λ plan rows judges. tt;
   told = λ plan rows so_far old new has wrote.
       wrote_so_far (HasTold plan rows judge) old new text wrote (IsToldPart (is_traced judge) plan rows)
+      (told_earlier plan rows judge wrote.told wrote.holds).part;
+}
+
+-- a beat of the last time ends the rows, and those of that time are not judged
+pub beat_ends : (judge : JudgeView) (tally : Tally) (end : RowsEnd) (latest : Option ℕ) (text : List ℕ) (unknown : UnknownBit)
+    → end ≡ ends.BeforeBeat unknown
+    → ((rows : List SeenRow) → IsLatest latest rows → EndsLater (end_of end) rows → ⊥)
+    → EndsReplay judge tally end latest text text (Err (fault.Unknown unknown))
+beat_ends judge tally end latest text unknown is now = record {
+  answers = λ plan buses rows at judges. (refl, ap end_of is, λ later. absurd (now rows at later));
+  counted = λ plan rows judges. tt;
+  told = λ plan rows so_far old new has wrote.
+      wrote_as (HasTold plan rows judge) old new text wrote (IsToldPart (is_traced judge) plan rows) text refl
       (told_earlier plan rows judge wrote.told wrote.holds).part;
 }
 
@@ -215,7 +229,7 @@ module _ (buses : LinkBuses) (first : JudgeView) (old : Option (List ℕ)) where
     latest : IsLatest place.latest rows
     traced : is_traced next ≡ is_traced first
     asked : is_asked next ≡ is_asked first
-    told : (plan : Plan) → Judges plan [] first → Wrote (HasTold plan rows next) old mid grown
+    told : (plan : SystemPlan) → Judges plan [] first → Wrote (HasTold plan rows next) old mid grown
 
   one_more : (now next : JudgeView) (place behind : Place) (mid : Option (List ℕ)) (text grown line : List ℕ) (row : SeenRow)
       (from at to : RowsLeft) → TookLines buses first now place old mid text from at → TakesLine line at to
@@ -292,7 +306,7 @@ module _ (buses : LinkBuses) (first : JudgeView) (old : Option (List ℕ)) where
       (one_more now next place behind mid text grown line row x y z took line_is spells one is) moves) so_far takes
 
   -- what is told of earlier times
-  earlier : (plan : Plan) (rows : List SeenRow) (now : JudgeView) (text : List ℕ) → is_traced now ≡ is_traced first
+  earlier : (plan : SystemPlan) (rows : List SeenRow) (now : JudgeView) (text : List ℕ) → is_traced now ≡ is_traced first
       → HasTold plan rows now text → IsToldEarlier (is_traced first) plan rows text
   earlier plan rows now text traced has =
       subst (λ t. IsToldEarlier t plan rows text) traced (told_earlier plan rows now text has)
@@ -447,7 +461,7 @@ module _ (buses : LinkBuses) (first : JudgeView) (old : Option (List ℕ)) where
                   z.text,
                   takes.0,
                   subst (λ n.
-                      (row_of buses.masters buses.ports n (column_parts line) ≡ Err why)
+                      (row_of buses.resets buses.masters buses.ports n (column_parts line) ≡ Err why)
                       ⊎ ((row : SeenRow) × SpellsRow buses n line row × HasRowFault took.rows row why)) took.number
                       (stops.1 plan took.rows wrote.told wrote.holds).0,
                 ),
@@ -565,13 +579,13 @@ module _ (buses : LinkBuses) (first now : JudgeView) (place : Place) (old mid : 
 -- ---- what is left is written
 
 -- whatever is told by an answer is told of a part of the rows
-part_told : (trace : Bool) (plan : Plan) (rows : List SeenRow) (text : List ℕ) (v : Verdict)
+part_told : (trace : Bool) (plan : SystemPlan) (rows : List SeenRow) (text : List ℕ) (v : Verdict)
     → IsToldBy trace plan v rows text → IsToldPart trace plan rows text
 part_told trace plan rows text (verdict.Lawful counts) told = part_of_file trace plan rows text told
 part_told trace plan rows text (verdict.Incomplete left) told = part_of_file trace plan rows text told
 part_told trace plan rows text (verdict.Unlawful found) told = part_before trace plan rows text found told
 
-module _ (trace : Bool) (plan : Plan) (rows : List SeenRow) (old mid new : Option (List ℕ)) (text : List ℕ) where
+module _ (trace : Bool) (plan : SystemPlan) (rows : List SeenRow) (old mid new : Option (List ℕ)) (text : List ℕ) where
   -- where an answer was cut short, what was written is written
   cut_out : (answer : Result Verdict ReplayFault) → is_cut_short answer ≡ true → ReplayWrote trace plan answer rows old mid text
       → IsReplayOut trace plan answer rows old mid
@@ -619,7 +633,7 @@ module _ (trace : Bool) (plan : Plan) (rows : List SeenRow) (old mid new : Optio
   part_out (Err fault.Memory) cut wrote part = absurd (cc)
   part_out (Err fault.Write) cut wrote part = absurd (cc)
 
-module _ (plan : Plan) (buses : LinkBuses) (first : JudgeView) (tally : Tally) (old mid new : Option (List ℕ)) (text : List ℕ)
+module _ (plan : SystemPlan) (buses : LinkBuses) (first : JudgeView) (tally : Tally) (old mid new : Option (List ℕ)) (text : List ℕ)
     (answer result : Result Verdict ReplayFault) (start : Judges plan [] first)
     (finishes : ReplayFinishes mid new text answer result) where
   replayed_at : (left : RowsLeft) → IsReplayedBy buses first tally old mid text answer left

@@ -27,7 +27,7 @@ pub record BeginsWithLine (line rest text : List ℕ) : Type 0 where
 
 -- the line of this number is this row
 abbrev pub SpellsRow : LinkBuses → ℕ → List ℕ → SeenRow → Type 0
-SpellsRow buses number line row = row_of buses.masters buses.ports number (column_parts line) ≡ Ok row
+SpellsRow buses number line row = row_of buses.resets buses.masters buses.ports number (column_parts line) ≡ Ok row
 
 -- a text is these rows, one to a line, of which the first has this number
 abbrev pub AreRowLines : LinkBuses → ℕ → List SeenRow → List ℕ → Type 0

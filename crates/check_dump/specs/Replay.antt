@@ -6,6 +6,7 @@ use Rattle.check_rows.specs.Row.{SeenRow, row_of}
 use Rattle.check_rows.specs.Column.{column_parts}
 use Rattle.check_rows.specs.declared.fault.RowFault.{RowFault}
 use Rattle.check_rows.specs.declared.fault.RowFault.TheVariants.{Cut}
+use Rattle.check_review.specs.Stretches.{Stretches}
 use Rattle.check_review.specs.Covered.{HasCovered, IsCoveredBefore}
 use Rattle.check_review.specs.Order.{HasRowFault, IsLater}
 use Rattle.check_review.specs.Verdict.{HasCounts, HasLeft, IsFirstUnlawful, IsLawfulFile, IsToldEarlier, IsToldFile, IsToldPart}
@@ -19,7 +20,7 @@ use Rattle.check_review.specs.declared.tally.Tally.{Tally}
 use Rattle.check_samples.specs.EdgeFault.{edge_fault_view}
 use Rattle.check_samples.specs.Left.{End, RowsLeft}
 use Rattle.check_samples.specs.Left.End.{BeforeBeat, BeforeLine, Whole, WithoutEdges}
-use Rattle.check_sides.specs.Plan.{Plan}
+use Rattle.check_start.specs.Loads.{SystemPlan}
 use Rattle.check_text.specs.Buses.{LinkBuses}
 use Rattle.check_text.specs.Out.{WritesAll, WritesFront, WritesPart, Wrote}
 use Rattle.check_text.specs.Rows.{IsToldBy, OfJudged, TellsBefore, verdict_at_end}
@@ -66,7 +67,7 @@ IsMomentOver buses rows rest end = ((rest ≡ []) × EndsLater end rows) ⊎ Beg
 -- why the line after these rows is no row that may stand there
 abbrev pub IsNoRowLine : LinkBuses → List SeenRow → List ℕ → RowFault → Type 0
 IsNoRowLine buses rows line why =
-    (row_of buses.masters buses.ports (line_after rows) (column_parts line) ≡ Err why)
+    (row_of buses.resets buses.masters buses.ports (line_after rows) (column_parts line) ≡ Err why)
     ⊎ ((row : SeenRow) × SpellsRow buses (line_after rows) line row × HasRowFault rows row why)
 
 -- a text begins with a line that is no row after these; or what is left has no line end
@@ -79,7 +80,7 @@ BeginsWithNoRow buses rows text why =
 
 -- what is said of the rows so far, of the text after them and of how the rows end, if this is answered. A fault of the
 -- dump is told of rows that are lawful; one of the last time of the rows, without judging those of that time
-abbrev pub IsReplayAnswer : Bool → Plan → LinkBuses → Result Verdict ReplayFault → List SeenRow → List ℕ → End → Type 0
+abbrev pub IsReplayAnswer : Bool → SystemPlan → LinkBuses → Result Verdict ReplayFault → List SeenRow → List ℕ → End → Type 0
 IsReplayAnswer asked plan buses (Ok (Lawful counts)) rows rest end =
     (rest ≡ []) × (end ≡ Whole) × IsLawfulFile plan rows × HasCounts plan rows counts × HasLeft asked plan rows None
 IsReplayAnswer asked plan buses (Ok (Incomplete over)) rows rest end =
@@ -101,7 +102,7 @@ IsReplayAnswer asked plan buses (Err fault.Write) rows rest end = ⊤
 -- what is written of the rows so far, if this is answered: all that is told with a verdict; before a fault of the dump all
 -- that is told of rows that are lawful; where memory was refused a front of what is told of those that cross first; if a
 -- write failed such a front, and not all of it
-abbrev pub IsReplayOut : Bool → Plan → Result Verdict ReplayFault → List SeenRow → Option (List ℕ) → Option (List ℕ) → Type 0
+abbrev pub IsReplayOut : Bool → SystemPlan → Result Verdict ReplayFault → List SeenRow → Option (List ℕ) → Option (List ℕ) → Type 0
 IsReplayOut trace plan (Ok verdict) rows old new = WritesAll (IsToldBy trace plan verdict rows) old new
 IsReplayOut trace plan (Err (fault.Edges why)) rows old new = WritesAll (IsToldFile trace plan rows) old new
 IsReplayOut trace plan (Err (fault.Unknown unknown)) rows old new = WritesAll (IsToldPart trace plan rows) old new
@@ -112,7 +113,7 @@ IsReplayOut trace plan (Err fault.Memory) rows old new = WritesFront (IsToldPart
 IsReplayOut trace plan (Err fault.Write) rows old new = WritesPart (IsToldPart trace plan rows) old new
 
 -- the rows so far of a dump that has these to come, what is answered of them, and what was written
-pub record IsReplayed (asked trace : Bool) (plan : Plan) (buses : LinkBuses) (left : RowsLeft) (old new : Option (List ℕ))
+pub record IsReplayed (asked trace : Bool) (plan : SystemPlan) (buses : LinkBuses) (left : RowsLeft) (old new : Option (List ℕ))
     (answer : Result Verdict ReplayFault) : Type 0 where
   pub rows : List SeenRow
   pub front : List ℕ
@@ -123,8 +124,8 @@ pub record IsReplayed (asked trace : Bool) (plan : Plan) (buses : LinkBuses) (le
   pub out : IsReplayOut trace plan answer rows old new
 
 -- the rows of a dump that a verdict is of, and something that holds of them as far as they are lawful
-pub record OfReplayed (plan : Plan) (buses : LinkBuses) (left : RowsLeft) (verdict : Verdict) (Holds : List SeenRow → Type 0)
-    : Type 0 where
+pub record OfReplayed (plan : SystemPlan) (buses : LinkBuses) (left : RowsLeft) (verdict : Verdict)
+    (Holds : (crossed : List SeenRow) → Stretches plan crossed → Type 0) : Type 0 where
   pub rows : List SeenRow
   pub front : List ℕ
   pub rest : List ℕ
@@ -133,9 +134,9 @@ pub record OfReplayed (plan : Plan) (buses : LinkBuses) (left : RowsLeft) (verdi
   pub holds : OfJudged plan verdict rows Holds
 
 -- this was counted of them
-abbrev pub IsReplayCovered : Plan → LinkBuses → RowsLeft → Tally → Verdict → Type 0
+abbrev pub IsReplayCovered : SystemPlan → LinkBuses → RowsLeft → Tally → Verdict → Type 0
 IsReplayCovered plan buses left tally verdict =
-    OfReplayed plan buses left verdict (λ crossed. HasCovered plan crossed tally)
+    OfReplayed plan buses left verdict (λ crossed course. HasCovered plan crossed course tally)
 
 -- ---- for the proofs: a judge that takes rows
 
@@ -148,13 +149,13 @@ IsLatest (Some time) rows =
 -- why the judge of these rows does not take the row of a line, and what was counted of them
 abbrev pub LineStops : LinkBuses → ℕ → List ℕ → JudgeView → Tally → List ℕ → List ℕ → Halt → Type 0
 LineStops buses number line judge tally text grown (halt.Unlawful found) =
-    (plan : Plan) (rows : List SeenRow) (so_far : List ℕ) → HasTold plan rows judge so_far
+    (plan : SystemPlan) (rows : List SeenRow) (so_far : List ℕ) → HasTold plan rows judge so_far
     → ((row : SeenRow) × SpellsRow buses number line row × IsLater rows row)
     × IsFirstUnlawful plan rows found × IsCoveredBefore plan rows tally found
     × TellsBefore (is_traced judge) plan rows so_far text grown found
 LineStops buses number line judge tally text grown (halt.Fault (fault.Row on why)) =
-    (on ≡ number) × ((plan : Plan) (rows : List SeenRow) (so_far : List ℕ) → HasTold plan rows judge so_far
-    → ((row_of buses.masters buses.ports number (column_parts line) ≡ Err why)
+    (on ≡ number) × ((plan : SystemPlan) (rows : List SeenRow) (so_far : List ℕ) → HasTold plan rows judge so_far
+    → ((row_of buses.resets buses.masters buses.ports number (column_parts line) ≡ Err why)
     ⊎ ((row : SeenRow) × SpellsRow buses number line row × HasRowFault rows row why)) × (grown ≡ text))
 LineStops buses number line judge tally text grown (halt.Fault (fault.Edges why)) = ⊥
 LineStops buses number line judge tally text grown (halt.Fault (fault.Unknown unknown)) = ⊥
@@ -181,7 +182,7 @@ pub record TookLines (buses : LinkBuses) (first now : JudgeView) (place : Place)
   pub latest : IsLatest place.latest rows
   pub traced : is_traced now ≡ is_traced first
   pub asked : is_asked now ≡ is_asked first
-  pub told : (plan : Plan) → Judges plan [] first → Wrote (HasTold plan rows now) old new text
+  pub told : (plan : SystemPlan) → Judges plan [] first → Wrote (HasTold plan rows now) old new text
 
 -- and then no line was left
 pub record AllTaken (buses : LinkBuses) (first now : JudgeView) (place : Place) (old new : Option (List ℕ)) (text : List ℕ)
@@ -216,7 +217,7 @@ answer_refused (refusal.Unlawful found) = Ok (Unlawful found)
 answer_refused refusal.Memory = Err fault.Memory
 
 -- what is told by an answer was written, but for this text; or a front of it
-abbrev pub ReplayWrote : Bool → Plan → Result Verdict ReplayFault → List SeenRow → Option (List ℕ) → Option (List ℕ) → List ℕ
+abbrev pub ReplayWrote : Bool → SystemPlan → Result Verdict ReplayFault → List SeenRow → Option (List ℕ) → Option (List ℕ) → List ℕ
     → Type 0
 ReplayWrote trace plan (Ok verdict) rows old new text = Wrote (IsToldBy trace plan verdict rows) old new text
 ReplayWrote trace plan (Err (fault.Edges why)) rows old new text = Wrote (IsToldFile trace plan rows) old new text
@@ -228,8 +229,8 @@ ReplayWrote trace plan (Err fault.Memory) rows old new text = WritesFront (IsTol
 ReplayWrote trace plan (Err fault.Write) rows old new text = WritesPart (IsToldPart trace plan rows) old new
 
 -- what was counted, if this is answered
-abbrev pub IsReplayCounted : Plan → Result Verdict ReplayFault → List SeenRow → Tally → Type 0
-IsReplayCounted plan (Ok verdict) rows tally = OfJudged plan verdict rows (λ crossed. HasCovered plan crossed tally)
+abbrev pub IsReplayCounted : SystemPlan → Result Verdict ReplayFault → List SeenRow → Tally → Type 0
+IsReplayCounted plan (Ok verdict) rows tally = OfJudged plan verdict rows (λ crossed course. HasCovered plan crossed course tally)
 IsReplayCounted plan (Err why) rows tally = ⊤
 
 -- a judge of no rows took some and answers this
@@ -240,17 +241,17 @@ pub record IsReplayedBy (buses : LinkBuses) (first : JudgeView) (tally : Tally) 
   pub rest : List ℕ
   pub is : left.text ≡ front ++ rest
   pub spell : AreRowLines buses 2 rows front
-  pub answers : (plan : Plan) → Judges plan [] first → IsReplayAnswer (is_asked first) plan buses answer rows rest left.end
-  pub counted : (plan : Plan) → Judges plan [] first → IsReplayCounted plan answer rows tally
-  pub told : (plan : Plan) → Judges plan [] first → ReplayWrote (is_traced first) plan answer rows old new text
+  pub answers : (plan : SystemPlan) → Judges plan [] first → IsReplayAnswer (is_asked first) plan buses answer rows rest left.end
+  pub counted : (plan : SystemPlan) → Judges plan [] first → IsReplayCounted plan answer rows tally
+  pub told : (plan : SystemPlan) → Judges plan [] first → ReplayWrote (is_traced first) plan answer rows old new text
 
 -- the last rows of a judge are judged, unless a beat of their time ends them, and this is answered, by how the rows end
 pub record EndsReplay (judge : JudgeView) (tally : Tally) (end : RowsEnd) (latest : Option ℕ) (text grown : List ℕ)
     (answer : Result Verdict ReplayFault) : Type 0 where
-  pub answers : (plan : Plan) (buses : LinkBuses) (rows : List SeenRow) → IsLatest latest rows → Judges plan rows judge
+  pub answers : (plan : SystemPlan) (buses : LinkBuses) (rows : List SeenRow) → IsLatest latest rows → Judges plan rows judge
       → IsReplayAnswer (is_asked judge) plan buses answer rows [] (end_of end)
-  pub counted : (plan : Plan) (rows : List SeenRow) → Judges plan rows judge → IsReplayCounted plan answer rows tally
-  pub told : (plan : Plan) (rows : List SeenRow) (so_far : List ℕ) (old new : Option (List ℕ)) → HasTold plan rows judge so_far
+  pub counted : (plan : SystemPlan) (rows : List SeenRow) → Judges plan rows judge → IsReplayCounted plan answer rows tally
+  pub told : (plan : SystemPlan) (rows : List SeenRow) (so_far : List ℕ) (old new : Option (List ℕ)) → HasTold plan rows judge so_far
       → Wrote (HasTold plan rows judge) old new text → ReplayWrote (is_traced judge) plan answer rows old new grown
 
 -- the answer was given in the midst of a line: memory was refused, or a write failed

@@ -1,7 +1,7 @@
 //! The rows of a dump, one after the other, through the judge of captures.
 ghost use Rattle.std.specs.Prelude.{◌≡◌, ◌≤◌, ◌+◌, [], List, None, Some, true, ℕ, is_some, length, OnOk, IfOk, IfErr, IfSome};
 ghost use Rattle.check_rows.specs.Row.{SeenRow};
-ghost use Rattle.check_sides.specs.Plan.{Plan};
+ghost use Rattle.check_start.specs.Loads.{SystemPlan};
 ghost use Rattle.check_review.specs.View.{Judges, is_asked, is_covered, is_traced};
 ghost use Rattle.check_text.specs.Buses.{HasBuses, link_buses};
 ghost use Rattle.check_text.specs.Rows.{Took};
@@ -328,11 +328,11 @@ pub fn judge_dump<D: Read + Drop, W: Write>(
     requires masters { length buses.now.masters.now ≤ MAX_JUDGED_MASTERS }
     requires ports { length buses.now.ports.now ≤ MAX_JUDGED_PORTS }
     requires buses { HasBuses judge.old.tally.watch.layout (link_buses buses.now) }
-    ensures replayed { (plan : Plan) → Judges plan [] judge.old → IfSome rows (λ left.
+    ensures replayed { (plan : SystemPlan) → Judges plan [] judge.old → IfSome rows (λ left.
         IsReplayed (is_asked judge.old) (is_traced judge.old) plan (link_buses buses.now) left
         (W.contents writer.old.writer.now) (W.contents writer.new.writer.now) result) }
     ensures covered { is_covered judge.new ≡ is_covered judge.old }
-    ensures covers { (plan : Plan) → Judges plan [] judge.old → IfOk result (λ verdict. IfSome rows (λ left.
+    ensures covers { (plan : SystemPlan) → Judges plan [] judge.old → IfOk result (λ verdict. IfSome rows (λ left.
         IsReplayCovered plan (link_buses buses.now) left judge.new.tally verdict)) }
     ensures same { writer.new.writer.ghost_name ≡ writer.old.writer.ghost_name }
 {

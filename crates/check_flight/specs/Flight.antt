@@ -40,6 +40,12 @@ IsInFlight number Idle = ⊥
 IsInFlight number (Asking at) = at ≡ number
 IsInFlight number (Asked at ask) = at ≡ number
 
+-- a request of the source has ended at the link
+abbrev pub IsAskedAt : ℕ → Turn → Type 0
+IsAskedAt number Idle = ⊥
+IsAskedAt number (Asking at) = ⊥
+IsAskedAt number (Asked at ask) = at ≡ number
+
 -- the request in flight that has ended
 abbrev pub asked : Turn → Option Request
 asked Idle = None

@@ -1,11 +1,12 @@
 -- What a port's slave makes of a request. What stands there changes and answers as `check_memory` says (`specs/Slave.antt`
 -- there); the rest is this project's own.
-use Rattle.std.specs.Prelude.{ℕ, ◌+◌, ◌%◌, ◌^◌, Bool, true, false, ◌||◌, List, [], Option, Some, None}
+use Rattle.std.specs.Prelude.{ℕ, ◌+◌, ◌%◌, ◌^◌, Bool, true, false, ◌||◌, List, [], Option, Some, None, unwrap_or}
 use Rattle.tl_types.specs.Request.{Request}
 use Rattle.check_memory.specs.declared.slave.Slave.{Slave}
 use Rattle.check_memory.specs.declared.slave.Slave.TheVariants.{Memory, Device}
 use Rattle.check_memory.specs.Slave.{slave_after, slave_takes_bytes, expected_of}
 use Rattle.check_contests.specs.declared.accepted.Accepted.{Accepted}
+use Rattle.check_contests.specs.Cut.{slave_cut}
 use Rattle.check_contests.specs.Contests.{slave_accepting, kept_accepting, kept_of, kept_answering}
 use Rattle.check_flight.specs.declared.answer.Answer.{Answer}
 use Rattle.check_flight.specs.declared.order.Order.{Order}
@@ -129,3 +130,13 @@ answering slave wide (Some ask) = answered_by slave.order slave wide ask
 abbrev pub due_answering : ℕ → PortSlave → ℕ → Option Request → Option Answer
 due_answering port slave wide None = None
 due_answering port slave wide (Some ask) = due_answered_by slave.order port slave wide ask
+
+-- ---- a reset
+
+-- a request is cut short that it has accepted, or begun to
+abbrev pub once_cut : PortSlave → Request → PortSlave
+once_cut slave ask = record slave { kept = slave_cut slave.kept ask }
+
+-- no request is kept any more, and this stands there, if something is loaded; the places in the port's list go on
+abbrev pub once_reset : PortSlave → Option Slave → PortSlave
+once_reset slave loaded = record slave { kept = unwrap_or loaded slave.kept; contests = [] }

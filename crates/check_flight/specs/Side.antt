@@ -1,5 +1,5 @@
 -- What is kept of one side of a crossbar, and what beats make of that. It is this project's own.
-use Rattle.std.specs.Prelude.{ℕ, List, Option, Some, None, slice_get, slice_set, unwrap_or, option_map}
+use Rattle.std.specs.Prelude.{ℕ, List, Option, Some, None, map, slice_get, slice_set, unwrap_or, option_map}
 use Rattle.check_beats.specs.Bus.{bus_bytes}
 use Rattle.check_beats.specs.State.{Under, nothing_under, ask_after, reply_after}
 use Rattle.check_beats.specs.declared.beat.AskHead.{AskHead}
@@ -64,3 +64,10 @@ flights_due flights wide (Some answer) = slice_set flights wide (flight_due (fli
 
 abbrev pub side_due : SideView → ℕ → Option Answer → SideView
 side_due side wide answer = record side { flights = flights_due side.flights wide answer }
+
+-- nothing is under way at the links, and nothing is in flight
+abbrev pub side_reset : SideView → SideView
+side_reset side = record {
+  links = map (λ (under : Under). nothing_under under.bus) side.links;
+  flights = map (λ (flight : Flight). idle) side.flights;
+}

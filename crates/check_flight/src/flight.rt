@@ -2,12 +2,12 @@
 //!
 //! A message is some 300 bytes long, and most beats need but a few of them. So what is in flight is kept in one place
 //! and written there: if it is nothing, what stands of a message is left as it is, and says nothing.
-ghost use Rattle.std.specs.Prelude.{◌≡◌, ◌≤◌, ◌↔◌, length, IsTrue, IsSomeAnd, OnOk, OnErr, Some, None, option_map};
+ghost use Rattle.std.specs.Prelude.{◌≡◌, ℕ, ◌≤◌, ◌↔◌, length, IsTrue, IsSomeAnd, OnOk, OnErr, Some, None, option_map};
 ghost use Rattle.check_beats.specs.Form.{FitsAsk};
 ghost use Rattle.check_beats.specs.State.{ask_of, ends_ask, first_ask};
 ghost use Rattle.check_flight.specs.PortSlave.{accepting, answering, due_accepting, due_answering, may_need_to_accept, may_need_to_answer};
 ghost use Rattle.check_flight.specs.Flight.Turn.{Idle, Asking, Asked};
-ghost use Rattle.check_flight.specs.Flight.{asked, flight_due, idle, IsInFlight};
+ghost use Rattle.check_flight.specs.Flight.{asked, flight_due, idle, IsAskedAt, IsInFlight};
 
 use crate::answer::Answer;
 use crate::place::FlightPlace;
@@ -74,6 +74,16 @@ impl Flight {
         match self.stage {
             Stage::Nothing => false,
             Stage::Begun(at) | Stage::Ended(at) => at == number,
+        }
+    }
+
+    /// The number of the link at which the request has ended, if it has.
+    pub fn asked_at(&self) -> Option<usize>
+        ensures { (number : ℕ) → (result ≡ Some number) ↔ IsAskedAt number self.now.turn }
+    {
+        match self.stage {
+            Stage::Nothing | Stage::Begun(_) => None,
+            Stage::Ended(at) => Some(at),
         }
     }
 

@@ -1,11 +1,11 @@
 //! One side of a crossbar.
-ghost use Rattle.std.specs.Prelude.{◌≡◌, ◌<◌, ◌≤◌, ℕ, Some, None, false, length, IfOk, OnOk, OnErr, IsTrue, IsSomeAnd};
+ghost use Rattle.std.specs.Prelude.{◌≡◌, ◌<◌, ◌≤◌, ℕ, Some, None, false, length, map, IfOk, OnOk, OnErr, IsTrue, IsSomeAnd};
 ghost use Rattle.check_beats.specs.Form.{FitsAsk, FitsReply};
 ghost use Rattle.check_beats.specs.State.{nothing_under, first_ask, first_reply, ends_ask, ends_reply, ask_of};
 ghost use Rattle.check_flight.specs.PortSlave.{accepting, answering, due_accepting, due_answering, may_need_to_accept, may_need_to_answer};
 ghost use Rattle.check_flight.specs.Flight.Turn.{Asking, Asked};
 ghost use Rattle.check_flight.specs.Flight.{asked, idle};
-ghost use Rattle.check_flight.specs.Side.{ask_crossed, ask_ended, bus_at, flight_at, reply_crossed, reply_ended, side_due, side_under, side_with, under_at};
+ghost use Rattle.check_flight.specs.Side.{ask_crossed, ask_ended, bus_at, flight_at, reply_crossed, reply_ended, side_due, side_reset, side_under, side_with, under_at};
 
 use crate::flight::Flight;
 use crate::place::FlightPlace;
@@ -56,6 +56,24 @@ fn fresh_flights(alloc: Global, count: usize) -> Result<Vec<Flight>, AllocError>
     Ok(flights)
 }
 
+/// Nothing is under way at links any more.
+fn reset_links(links: &mut [UnderWay])
+    ensures { links.new ≡ map (λ under. nothing_under under.bus) links.old }
+{
+    for link in links.iter_mut() {
+        link.reset();
+    }
+}
+
+/// Nothing is in flight any more.
+fn clear_flights(flights: &mut [Flight])
+    ensures { flights.new ≡ map (λ _. idle) flights.old }
+{
+    for flight in flights.iter_mut() {
+        flight.clear();
+    }
+}
+
 impl Side {
     /// A side with a link of each of these buses, and with the wide sources below this one, before any beat.
     pub fn new(alloc: Global, buses: &[Bus], wides: usize) -> Result<Side, AllocError>
@@ -69,6 +87,14 @@ impl Side {
             links: fresh_links(alloc, buses)?,
             flights: fresh_flights(alloc, wides)?,
         })
+    }
+
+    /// A reset: nothing is under way at the links, and nothing is in flight.
+    pub fn reset(&mut self)
+        ensures { self.new ≡ side_reset self.old }
+    {
+        reset_links(&mut self.links);
+        clear_flights(&mut self.flights);
     }
 
     /// How many links it has.

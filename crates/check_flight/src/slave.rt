@@ -2,12 +2,13 @@
 ghost use Rattle.std.specs.Prelude.{◌≡◌, Some, true, false, IfOk, IsTrue, OnOk, OnErr};
 ghost use Rattle.check_memory.specs.Slave.{slave_takes_bytes};
 ghost use Rattle.check_flight.specs.Flight.{due_kept};
-ghost use Rattle.check_flight.specs.PortSlave.{accepting, answer_of, answer_of_kept, answering, contested_by, due_accepting, due_answering, fresh_slave, may_be_unknown, may_need_to_accept, may_need_to_answer, served_by};
+ghost use Rattle.check_flight.specs.PortSlave.{accepting, answer_of, answer_of_kept, answering, contested_by, once_cut, due_accepting, due_answering, fresh_slave, may_be_unknown, may_need_to_accept, may_need_to_answer, once_reset, served_by};
 
 use crate::answer::Answer;
 use crate::order::Order;
 use crate::place::FlightPlace;
-use check_contests::{Accepted, Contests};
+use check_cells::AskSoFar;
+use check_contests::{Accepted, Contests, cut_short};
 use check_memory::Slave;
 use std::alloc::{AllocError, Global};
 use std::marker::Model;
@@ -65,6 +66,26 @@ impl PortSlave {
             served: 0,
             contests: Contests::new(alloc),
         }
+    }
+
+    /// A reset cuts a request short that it has accepted, or begun to: nobody knows the bytes that this may write. If there is no
+    /// memory for a page, nothing is changed.
+    pub fn cut_short(&mut self, alloc: Global, ask: &AskSoFar) -> Result<(), AllocError>
+        ensures cut { OnOk result (self.new ≡ once_cut self.old ask.now) }
+        ensures unchanged { OnErr result (self.new ≡ self.old) }
+    {
+        cut_short(alloc, &mut self.kept, ask)
+    }
+
+    /// A reset: no request is kept any more. What stands there from then on is handed in, or stays. The places of requests in
+    /// the port's list go on.
+    pub fn reset(&mut self, loaded: Option<Slave>)
+        ensures { self.new ≡ once_reset self.old loaded }
+    {
+        if let Some(loaded) = loaded {
+            self.kept = loaded;
+        }
+        self.contests.clear();
     }
 
     /// When requests take effect there.

@@ -1,13 +1,14 @@
 -- The keys of a system file. This project's own.
 use Rattle.std.specs.Prelude.{ℕ, List, codes}
 use Rattle.check_keys.specs.declared.fault.Key.{Key}
-use Rattle.check_keys.specs.declared.fault.Key.TheVariants.{Bus, Unaligned, Decode, Period, Port, Name, Kind, Base, Length, Ranges, Reset, Image, Unknown, Sizes, Order, Mirror, Volatile, Master, Sources, First, Stride, Reach}
+use Rattle.check_keys.specs.declared.fault.Key.TheVariants.{Bus, Unaligned, Decode, Resets, Period, Port, Name, Kind, Base, Length, Ranges, Reset, Image, Unknown, Sizes, Order, Mirror, Volatile, OnReset, Master, Sources, First, Stride, Reach}
 
 -- the key, as a file has it
 abbrev pub key_name : Key → List ℕ
 key_name Bus = codes "bus"
 key_name Unaligned = codes "unaligned"
 key_name Decode = codes "decode"
+key_name Resets = codes "resets"
 key_name Period = codes "period"
 key_name Port = codes "port"
 key_name Name = codes "name"
@@ -22,6 +23,7 @@ key_name Sizes = codes "sizes"
 key_name Order = codes "order"
 key_name Mirror = codes "mirror"
 key_name Volatile = codes "volatile"
+key_name OnReset = codes "on_reset"
 key_name Master = codes "master"
 key_name Sources = codes "sources"
 key_name First = codes "first"

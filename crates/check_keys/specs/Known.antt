@@ -23,14 +23,14 @@ wire_keys =
 -- the keys that a table of this kind may have. `slots` and `ops` are a script's, and mean nothing to a judge
 abbrev pub known_keys : TableKind → List (List ℕ)
 known_keys Top =
-    codes "bus" ∷ codes "unaligned" ∷ codes "decode" ∷ codes "period" ∷ codes "port" ∷ codes "master" ∷ codes "clock" ∷
-    codes "reset" ∷ codes "reset_active" ∷ codes "edge" ∷ codes "bits" ∷ codes "names" ∷ codes "slots" ∷ codes "extra" ∷ []
+    codes "bus" ∷ codes "unaligned" ∷ codes "decode" ∷ codes "resets" ∷ codes "period" ∷ codes "port" ∷ codes "master" ∷
+    codes "clock" ∷ codes "reset" ∷ codes "reset_active" ∷ codes "edge" ∷ codes "bits" ∷ codes "names" ∷ codes "slots" ∷ codes "extra" ∷ []
 known_keys Names = wire_keys
 known_keys Port =
     codes "name" ∷ codes "kind" ∷ codes "base" ∷ codes "length" ∷ codes "ranges" ∷ codes "reset" ∷
     codes "image" ∷ codes "unknown" ∷ codes "sizes" ∷ codes "order" ∷ codes "bus" ∷ codes "mirror" ∷
-    codes "volatile" ∷ codes "signals" ∷ codes "wires" ∷ codes "bits" ∷ codes "clock" ∷ codes "link_reset" ∷
-    codes "reset_active" ∷ codes "edge" ∷ codes "extra" ∷ []
+    codes "volatile" ∷ codes "on_reset" ∷ codes "signals" ∷ codes "wires" ∷ codes "bits" ∷ codes "clock" ∷
+    codes "link_reset" ∷ codes "reset_active" ∷ codes "edge" ∷ codes "extra" ∷ []
 known_keys Master =
     codes "name" ∷ codes "sources" ∷ codes "first" ∷ codes "stride" ∷ codes "bus" ∷ codes "reach" ∷ codes "signals" ∷
     codes "wires" ∷ codes "bits" ∷ codes "clock" ∷ codes "link_reset" ∷ codes "reset_active" ∷ codes "edge" ∷

@@ -4,6 +4,7 @@ ghost use Rattle.tl_types.specs.Operation.{reply_op_of};
 ghost use Rattle.tl_types.specs.Request.{IsLawfulRequest};
 ghost use Rattle.check_memory.specs.Known.{known as known_of};
 ghost use Rattle.check_memory.specs.Partial.{permits, takes_bytes, after_partial, after_forgetting, loaded, start_of, visible, AreWithin, holds};
+ghost use Rattle.check_memory.specs.Cells.{forgotten};
 ghost use Rattle.check_memory.specs.Pattern.{pattern, shown_cells};
 ghost use Rattle.check_memory.specs.Place.{fill_of, tabulate};
 
@@ -13,7 +14,7 @@ use crate::range::{first_of, holds, start_in};
 use crate::sheet::PAGE_BYTES;
 use crate::sizes::Sizes;
 use crate::volatile::{hide, serve_in_page};
-use check_cells::{Cells, Pattern};
+use check_cells::{AskSoFar, Cells, Pattern};
 use std::alloc::{AllocError, Global};
 use std::marker::Model;
 use tl_map::Range;
@@ -111,6 +112,23 @@ impl PartialMemory {
         start_in(first, &self.mirrors, ask.address(), ask.width() as u64)
     }
 
+    /// Where the bytes stand of the window of a request that may not have crossed as a whole.
+    pub fn start_so_far(&self, ask: &AskSoFar) -> u64
+        ensures value { result ≡ start_of self.now ask.now }
+        ensures in_space { permits self.now ask.now ≡ true → result + 2 ^ ask.now.size ≤ 2 ^ 64 }
+    {
+        let _within = self.ranges.as_slice();
+        self.find_start_so_far(ask)
+    }
+
+    /// Where the bytes stand of the window of a request that may not have crossed as a whole.
+    fn find_start_so_far(&self, ask: &AskSoFar) -> u64
+        ensures { result ≡ start_of self.now ask.now }
+    {
+        let first = first_of(self.ranges.as_slice());
+        start_in(first, &self.mirrors, ask.address(), ask.width() as u64)
+    }
+
     /// Whether a request is legal here.
     pub fn permits(&self, ask: &Ask) -> bool
         ensures { result ≡ permits self.now ask.now }
@@ -120,6 +138,17 @@ impl PartialMemory {
         self.sizes.allows(ask.op(), ask.size())
             && aligned
             && holds(self.ranges.as_slice(), self.start(ask), width)
+    }
+
+    /// Whether a request is legal here that may not have crossed as a whole.
+    pub fn permits_so_far(&self, ask: &AskSoFar) -> bool
+        ensures { result ≡ permits self.now ask.now }
+    {
+        let width = ask.width() as u64;
+        let aligned = ask.address() % width == 0;
+        self.sizes.allows(ask.op(), ask.size())
+            && aligned
+            && holds(self.ranges.as_slice(), self.start_so_far(ask), width)
     }
 
     /// Whether a request is legal here and carries bytes.
@@ -213,6 +242,19 @@ impl PartialMemory {
         let cells = &mut answer.cells;
         serve_in_page(&mut self.pages, at, self.kind, &self.volatile, ask, cells);
         self.pages.forget(at, first, flags);
+        Ok(())
+    }
+
+    /// Forgets each byte that is flagged, from an address on. If there is no memory for a page, nothing is changed.
+    pub fn forget(&mut self, alloc: Global, first: u64, flags: &[bool]) -> Result<(), AllocError>
+        requires { first + length flags.now ≤ 2 ^ 64 }
+        ensures after { OnOk result (self.new
+            ≡ record self.old { cells = forgotten flags.now first self.old.cells }) }
+        ensures unchanged { OnErr result (self.new ≡ self.old) }
+    {
+        let pages = &mut self.pages;
+        hold_flagged(pages, alloc, first, flags)?;
+        forget_bytes(pages, first, flags);
         Ok(())
     }
 

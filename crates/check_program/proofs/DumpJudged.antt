@@ -5,13 +5,14 @@ use Rattle.std.specs.Io.KnownBytes.{Appends}
 use Rattle.std.proofs.KnownBytes.{Keeps-refl}
 use Rattle.check_beats.specs.declared.bus.Bus.{Bus}
 use Rattle.check_description.specs.Description.{Description, Makes}
+use Rattle.check_review.specs.Stretches.{Stretches}
 use Rattle.check_review.specs.Covered.{AppendsCoverage, HasCovered}
 use Rattle.check_review.specs.View.{Judges, is_asked, is_covered, is_traced}
 use Rattle.check_review.specs.declared.judge.Judge.{Judge}
 use Rattle.check_review.specs.declared.tally.Tally.{Tally}
 use Rattle.check_rows.specs.Row.{SeenRow}
 use Rattle.check_samples.specs.Left.{RowsLeft}
-use Rattle.check_sides.specs.Plan.{Plan}
+use Rattle.check_start.specs.Loads.{SystemPlan}
 use Rattle.check_signals.specs.Names.{SignalNames, names_of_file}
 use Rattle.check_signals.specs.declared.fault.KeyFault.{KeyFault}
 use Rattle.check_signals.specs.declared.fault.KeyFault.TheVariants as key
@@ -40,13 +41,13 @@ module _ (asked : Asked) (given : GivenParts) (system : Description) (judge : Ju
     (of_it : IsJudgeOf asked given system judge buses) (links : WaveLinks) (rows : Option RowsLeft)
     (has : HasLinks asked given.file system links) (opened : IfSome given.capture (IsOpened links rows)) where
   -- something that holds of the rows by each plan of the judge
-  of_rows : (Holds : LinkBuses → Plan → RowsLeft → Type 0)
-      → ((plan : Plan) → Judges plan [] judge → IfSome rows (λ left. Holds buses plan left))
+  of_rows : (Holds : LinkBuses → SystemPlan → RowsLeft → Type 0)
+      → ((plan : SystemPlan) → Judges plan [] judge → IfSome rows (λ left. Holds buses plan left))
       → IfSome given.capture (OfTheRows asked given.file given.images system (λ plan left. Holds (buses_of system) plan left))
   of_rows Holds holds = go given.capture opened
     where
       of_text : (text : List ℕ) (known : Option RowsLeft) → IsOpened links known text
-          → ((plan : Plan) → Judges plan [] judge → IfSome known (λ left. Holds buses plan left))
+          → ((plan : SystemPlan) → Judges plan [] judge → IfSome known (λ left. Holds buses plan left))
           → OfTheRows asked given.file given.images system (λ plan left. Holds (buses_of system) plan left) text
       of_text text None is holds = absurd is
       of_text text (Some left) is holds = record {
@@ -63,7 +64,7 @@ module _ (asked : Asked) (given : GivenParts) (system : Description) (judge : Ju
       go (Some text) is = of_text text rows is holds
 
   pub is_answered : (old new : Option (List ℕ)) (answer : Result Verdict ReplayFault)
-      → ((plan : Plan) → Judges plan [] judge
+      → ((plan : SystemPlan) → Judges plan [] judge
       → IfSome rows (λ left. IsReplayed (is_asked judge) (is_traced judge) plan buses left old new answer))
       → IsAnswered asked given system old new answer
   is_answered old new answer replayed =
@@ -75,9 +76,9 @@ module _ (asked : Asked) (given : GivenParts) (system : Description) (judge : Ju
 
   pub dump_counted : (tally : Tally) (covered : Bool) (old new : List ℕ) (verdict : Verdict) → Makes given.parts system
       → covered ≡ is_covered judge
-      → ((plan : Plan) → Judges plan [] judge → IfSome rows (λ left. IsReplayCovered plan buses left tally verdict))
-      → ((plan : Plan) (crossed : List SeenRow) → HasCovered plan crossed tally
-      → AppendsCoverage covered plan crossed old new)
+      → ((plan : SystemPlan) → Judges plan [] judge → IfSome rows (λ left. IsReplayCovered plan buses left tally verdict))
+      → ((plan : SystemPlan) (crossed : List SeenRow) (course : Stretches plan crossed) → HasCovered plan crossed course tally
+      → AppendsCoverage covered plan crossed course old new)
       → IsDumpCounted asked given old new (is_lawful asked.complete verdict)
   dump_counted tally covered old new verdict made same covers appends = record {
     system = system;
@@ -85,12 +86,12 @@ module _ (asked : Asked) (given : GivenParts) (system : Description) (judge : Ju
     verdict = verdict;
     answered = refl;
     covered = of_rows (λ b plan left. OfReplayed plan b left verdict
-        (λ crossed. AppendsCoverage asked.coverage plan crossed old new)) (λ plan start. go plan rows (covers plan start));
+        (λ crossed course. AppendsCoverage asked.coverage plan crossed course old new)) (λ plan start. go plan rows (covers plan start));
   }
     where
-      go : (plan : Plan) (known : Option RowsLeft) → IfSome known (λ left. IsReplayCovered plan buses left tally verdict)
+      go : (plan : SystemPlan) (known : Option RowsLeft) → IfSome known (λ left. IsReplayCovered plan buses left tally verdict)
           → IfSome known (λ left. OfReplayed plan buses left verdict
-          (λ crossed. AppendsCoverage asked.coverage plan crossed old new))
+          (λ crossed course. AppendsCoverage asked.coverage plan crossed course old new))
       go plan None is = tt
       go plan (Some left) is = record {
         rows = is.rows;
@@ -98,10 +99,10 @@ module _ (asked : Asked) (given : GivenParts) (system : Description) (judge : Ju
         rest = is.rest;
         is = is.is;
         spell = is.spell;
-        holds = of_judged plan verdict is.rows (λ crossed. HasCovered plan crossed tally)
-            (λ crossed. AppendsCoverage asked.coverage plan crossed old new)
-            (λ crossed has. subst (λ a. AppendsCoverage a plan crossed old new) (same ∙ of_it.coverage)
-            (appends plan crossed has)) is.holds;
+        holds = of_judged plan verdict is.rows (λ crossed course. HasCovered plan crossed course tally)
+            (λ crossed course. AppendsCoverage asked.coverage plan crossed course old new)
+            (λ crossed course has. subst (λ a. AppendsCoverage a plan crossed course old new) (same ∙ of_it.coverage)
+            (appends plan crossed course has)) is.holds;
       }
 
 -- ---- what is promised of a result

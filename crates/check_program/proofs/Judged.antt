@@ -2,6 +2,7 @@
 use Rattle.std.proofs.Common.{◌≡◌, ◌∙◌, ℕ, Bool, List, [], Option, None, Some, Result, Ok, Err, IfOk, IfSome, ap, refl, subst, sym}
 use Rattle.check_beats.specs.declared.bus.Bus.{Bus}
 use Rattle.check_description.specs.Description.{Description, Makes}
+use Rattle.check_review.specs.Stretches.{Stretches}
 use Rattle.check_review.specs.Covered.{AppendsCoverage, HasCovered}
 use Rattle.check_review.specs.View.{Judges, is_asked, is_covered, is_traced}
 use Rattle.check_review.specs.declared.judge.Judge.{Judge}
@@ -15,7 +16,7 @@ use Rattle.check_text.specs.Rows.{OfJudged}
 use Rattle.check_text.specs.declared.fault.CaptureFault.{CaptureFault}
 use Rattle.check_text.specs.declared.fault.Verdict.{Verdict}
 use Rattle.check_text.specs.declared.fault.Verdict.TheVariants as verdicts
-use Rattle.check_sides.specs.Plan.{Plan}
+use Rattle.check_start.specs.Loads.{SystemPlan}
 use Rattle.check_program.specs.declared.asked.Asked.{Asked}
 use Rattle.check_program.specs.declared.fault.CheckFault.{CheckFault}
 use Rattle.check_program.specs.declared.engine.Prepared.{Prepared}
@@ -37,12 +38,13 @@ pub record IsJudgeOf (asked : Asked) (given : GivenParts) (system : Description)
   pub have : buses ≡ buses_of system
 
 -- the buses of the links are those of the system
-pub buses_are : (masters ports : List Bus) (system : Description)
-    → masters ≡ master_buses system.masters → ports ≡ port_buses system.ports
-    → ◌≡◌ {A = LinkBuses} (record { masters = masters; ports = ports }) (buses_of system)
-buses_are masters ports system of_masters of_ports =
-    ap (λ (m : List Bus). with_buses m ports) of_masters
-    ∙ ap (λ (p : List Bus). with_buses (master_buses system.masters) p) of_ports
+pub buses_are : (masters ports : List Bus) (resets : Bool) (system : Description)
+    → masters ≡ master_buses system.masters → ports ≡ port_buses system.ports → resets ≡ system.resets
+    → ◌≡◌ {A = LinkBuses} (record { masters = masters; ports = ports; resets = resets }) (buses_of system)
+buses_are masters ports resets system of_masters of_ports of_resets =
+    ap (λ (m : List Bus). with_buses m ports resets) of_masters
+    ∙ ap (λ (p : List Bus). with_buses (master_buses system.masters) p resets) of_ports
+    ∙ ap (λ (r : Bool). with_buses (master_buses system.masters) (port_buses system.ports) r) of_resets
 
 -- what a judge is that was prepared, with the buses of the system
 pub of_prepared : (asked : Asked) (given : GivenParts) (prepared : Prepared) (buses : LinkBuses)
@@ -57,8 +59,8 @@ of_prepared asked given prepared buses is have = record {
 }
 
 pub by_the_plan : (asked : Asked) (given : GivenParts) (system : Description) (judge : Judge) (buses : LinkBuses)
-    (Holds : LinkBuses → Plan → Type 0) → IsJudgeOf asked given system judge buses
-    → ((plan : Plan) → Judges plan [] judge → Holds buses plan)
+    (Holds : LinkBuses → SystemPlan → Type 0) → IsJudgeOf asked given system judge buses
+    → ((plan : SystemPlan) → Judges plan [] judge → Holds buses plan)
     → ByThePlan asked.terms system given.images (Holds (buses_of system))
 by_the_plan asked given system judge buses Holds of_it holds = record {
   some = of_it.judges.some;
@@ -68,7 +70,7 @@ by_the_plan asked given system judge buses Holds of_it holds = record {
 by_the_traced_plan : (asked : Asked) (given : GivenParts) (system : Description) (judge : Judge) (buses : LinkBuses)
     (old new : Option (List ℕ)) (answer : Result Verdict CaptureFault)
     → IsJudgeOf asked given system judge buses
-    → ((plan : Plan) → Judges plan [] judge → IfSome given.capture
+    → ((plan : SystemPlan) → Judges plan [] judge → IfSome given.capture
     (λ text. IsWritten (is_asked judge) (is_traced judge) plan buses (text_start text) old new answer))
     → IsWrittenByJudge asked given system old new answer
 by_the_traced_plan asked given system judge buses old new answer of_it tells =
@@ -82,9 +84,9 @@ by_the_traced_plan asked given system judge buses old new answer of_it tells =
 pub has_verdict : (asked : Asked) (given : GivenParts) (system : Description) (judge : Judge) (buses : LinkBuses)
     (old told : Option (List ℕ)) (verdict : Verdict)
     → IsJudgeOf asked given system judge buses → Makes given.parts system
-    → ((plan : Plan) → Judges plan [] judge → IfSome given.capture
+    → ((plan : SystemPlan) → Judges plan [] judge → IfSome given.capture
     (λ text. IsVerdict (is_asked judge) plan buses (text_start text) verdict))
-    → ((plan : Plan) → Judges plan [] judge → IfSome given.capture
+    → ((plan : SystemPlan) → Judges plan [] judge → IfSome given.capture
     (λ text. IsWritten (is_asked judge) (is_traced judge) plan buses (text_start text) old told (Ok verdict)))
     → HasVerdict asked given old told system verdict
 has_verdict asked given system judge buses old told verdict of_it made found tells = record {
@@ -99,8 +101,8 @@ has_verdict asked given system judge buses old told verdict of_it made found tel
 pub is_stopped : (asked : Asked) (given : GivenParts) (system : Description) (judge : Judge) (buses : LinkBuses)
     (old new : Option (List ℕ)) (fault : CaptureFault)
     → IsJudgeOf asked given system judge buses → Makes given.parts system
-    → ((plan : Plan) → Judges plan [] judge → IfSome given.capture (λ text. IsFault plan buses (text_start text) fault))
-    → ((plan : Plan) → Judges plan [] judge → IfSome given.capture
+    → ((plan : SystemPlan) → Judges plan [] judge → IfSome given.capture (λ text. IsFault plan buses (text_start text) fault))
+    → ((plan : SystemPlan) → Judges plan [] judge → IfSome given.capture
     (λ text. IsWritten (is_asked judge) (is_traced judge) plan buses (text_start text) old new (Err fault)))
     → IsStopped asked given old new fault
 is_stopped asked given system judge buses old new fault of_it made found tells = record {
@@ -114,14 +116,21 @@ is_stopped asked given system judge buses old new fault of_it made found tells =
 -- ---- what is covered
 
 -- what follows of the rows of a verdict that are lawful
-pub of_judged : (plan : Plan) (v : Verdict) (rows : List SeenRow) (P Q : List SeenRow → Type 0)
-    → ((crossed : List SeenRow) → P crossed → Q crossed) → OfJudged plan v rows P → OfJudged plan v rows Q
-of_judged plan (verdicts.Lawful counts) rows P Q to is = record { lawful = is.lawful; holds = to is.lawful.crossed is.holds }
-of_judged plan (verdicts.Incomplete left) rows P Q to is = record { lawful = is.lawful; holds = to is.lawful.crossed is.holds }
-of_judged plan (verdicts.Unlawful found) rows P Q to is = record { first = is.first; holds = to is.first.before is.holds }
+pub of_judged : (plan : SystemPlan) (v : Verdict) (rows : List SeenRow)
+    (P Q : (crossed : List SeenRow) → Stretches plan crossed → Type 0)
+    → ((crossed : List SeenRow) (course : Stretches plan crossed) → P crossed course → Q crossed course)
+    → OfJudged plan v rows P → OfJudged plan v rows Q
+of_judged plan (verdicts.Lawful counts) rows P Q to is =
+    record { lawful = is.lawful; holds = to is.lawful.crossed is.lawful.course is.holds }
+of_judged plan (verdicts.Incomplete left) rows P Q to is =
+    record { lawful = is.lawful; holds = to is.lawful.crossed is.lawful.course is.holds }
+of_judged plan (verdicts.Unlawful found) rows P Q to is =
+    record { first = is.first; holds = to is.first.before is.first.course is.holds }
 
-of_capture : (plan : Plan) (buses : LinkBuses) (from : TextPlace) (v : Verdict) (P Q : List SeenRow → Type 0)
-    → ((crossed : List SeenRow) → P crossed → Q crossed) → OfCapture plan buses from v P → OfCapture plan buses from v Q
+of_capture : (plan : SystemPlan) (buses : LinkBuses) (from : TextPlace) (v : Verdict)
+    (P Q : (crossed : List SeenRow) → Stretches plan crossed → Type 0)
+    → ((crossed : List SeenRow) (course : Stretches plan crossed) → P crossed course → Q crossed course)
+    → OfCapture plan buses from v P → OfCapture plan buses from v Q
 of_capture plan buses from v P Q to is = record {
   rows = is.rows;
   at = is.at;
@@ -139,10 +148,10 @@ pub is_counted : (asked : Asked) (given : GivenParts) (system : Description) (ju
     (tally : Tally) (covered : Bool) (old new : List ℕ) (verdict : Verdict)
     → IsJudgeOf asked given system judge buses → Makes given.parts system → IsVerdictOf asked given system verdict
     → covered ≡ is_covered judge
-    → ((plan : Plan) → Judges plan [] judge → IfSome given.capture
+    → ((plan : SystemPlan) → Judges plan [] judge → IfSome given.capture
     (λ text. IsCovered plan buses (text_start text) tally verdict))
-    → ((plan : Plan) (crossed : List SeenRow) → HasCovered plan crossed tally
-    → AppendsCoverage covered plan crossed old new)
+    → ((plan : SystemPlan) (crossed : List SeenRow) (course : Stretches plan crossed) → HasCovered plan crossed course tally
+    → AppendsCoverage covered plan crossed course old new)
     → IsCounted asked given old new (is_lawful asked.complete verdict)
 is_counted asked given system judge buses tally covered old new verdict of_it made is same covers appends = record {
   system = system;
@@ -154,10 +163,10 @@ is_counted asked given system judge buses tally covered old new verdict of_it ma
       (λ text. TellsCovered asked.coverage plan b (text_start text) old new verdict)) of_it (λ plan start.
       of_known given.capture (λ text. IsCovered plan buses (text_start text) tally verdict)
       (λ text. TellsCovered asked.coverage plan buses (text_start text) old new verdict) (λ text is_covered_there.
-      of_capture plan buses (text_start text) verdict (λ crossed. HasCovered plan crossed tally)
-      (λ crossed. AppendsCoverage asked.coverage plan crossed old new)
-      (λ crossed has. subst (λ a. AppendsCoverage a plan crossed old new) (same ∙ of_it.coverage)
-      (appends plan crossed has)) is_covered_there) (covers plan start));
+      of_capture plan buses (text_start text) verdict (λ crossed course. HasCovered plan crossed course tally)
+      (λ crossed course. AppendsCoverage asked.coverage plan crossed course old new)
+      (λ crossed course has. subst (λ a. AppendsCoverage a plan crossed course old new) (same ∙ of_it.coverage)
+      (appends plan crossed course has)) is_covered_there) (covers plan start));
 }
 
 pub counted_if : (asked : Asked) (given : GivenParts) (old new : List ℕ) (lawful : Bool) (result : Result Bool CheckFault)

@@ -13,7 +13,7 @@ use Rattle.check_description.specs.Slave.{error_slave, kept_at_reset, kept_by, s
 use Rattle.check_description.specs.declared.kind.PortKind.{PortKind}
 use Rattle.check_description.specs.declared.kind.PortKind.TheVariants.{Memory, Device}
 use Rattle.check_watch.specs.Past.{slave_at}
-use Rattle.check_sides.specs.Plan.{Plan}
+use Rattle.check_start.specs.Loads.{SystemPlan}
 use Rattle.check_start.specs.Slaves.{image_at, order_of, shared_side, slaves_from}
 use Rattle.check_start.specs.Start.{IsPlanOf}
 use Rattle.check_start.specs.declared.slaves.SlaveSide.{SlaveSide}
@@ -84,12 +84,12 @@ module _ (side : SlaveSide) (orders : SideOrders) (images : List (List ℕ)) (er
       (slave_seen number first (image_at images number) (order_of side orders first) one.0 one.1)
       (from_seen (number + 1) ports rest.0 rest.1))
 
-pub plan_mirrors : (terms : Terms) (system : Description) (images : List (List ℕ)) (plan : Plan)
-    → IsPlanOf terms system images plan → HasMirrors plan (map port_mirrors system.ports)
+pub plan_mirrors : (terms : Terms) (system : Description) (images : List (List ℕ)) (plan : SystemPlan)
+    → IsPlanOf terms system images plan → HasMirrors plan.begins (map port_mirrors system.ports)
 plan_mirrors terms system images plan is port =
     let side = shared_side terms.links in
     let error = error_slave terms.orders.masters in
-    let made = step (slaves_from side terms.orders images 0 system.ports) (λ slaves. Ok (slaves ++ error ∷ [])) plan.resets
+    let made = step (slaves_from side terms.orders images 0 system.ports) (λ slaves. Ok (slaves ++ error ∷ [])) plan.begins.resets
     is.resets in
     from_seen side terms.orders images error refl 0 system.ports made.0 made.1 port
-    ∙ ap (λ (l : List PortSlave). mirrors_of (slave_at l port).kept) (same_slaves (made.0 ++ error ∷ []) plan.resets made.2)
+    ∙ ap (λ (l : List PortSlave). mirrors_of (slave_at l port).kept) (same_slaves (made.0 ++ error ∷ []) plan.begins.resets made.2)

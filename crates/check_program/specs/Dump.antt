@@ -6,7 +6,7 @@ use Rattle.check_description.specs.Description.{Description, Makes}
 use Rattle.check_review.specs.Covered.{AppendsCoverage}
 use Rattle.check_review.specs.Order.{are_masters_watched, are_ports_watched}
 use Rattle.check_samples.specs.Left.{RowsLeft}
-use Rattle.check_sides.specs.Plan.{Plan}
+use Rattle.check_start.specs.Loads.{SystemPlan}
 use Rattle.check_signals.specs.Names.{LinkNames, SignalNames, names_of_file}
 use Rattle.check_signals.specs.declared.fault.KeyFault.{KeyFault}
 use Rattle.check_start.specs.Start.{ByThePlan, system_names}
@@ -66,7 +66,7 @@ IsNamesFault file links fault =
 
 -- of the rows of the dump, by these names and by each plan of the system, and there is one, this holds
 pub record OfTheRows (asked : Asked) (file : List ℕ) (images : List (List ℕ)) (system : Description)
-    (Holds : Plan → RowsLeft → Type 0) (text : List ℕ) : Type 0 where
+    (Holds : SystemPlan → RowsLeft → Type 0) (text : List ℕ) : Type 0 where
   pub links : WaveLinks
   pub has : HasLinks asked file system links
   pub left : RowsLeft
@@ -194,7 +194,7 @@ pub record IsDumpCounted (asked : Asked) (given : GivenParts) (old new : List �
   pub verdict : Verdict
   pub answered : lawful ≡ is_lawful asked.complete verdict
   pub covered : IfSome given.capture (OfTheRows asked given.file given.images system (λ plan left.
-      OfReplayed plan (buses_of system) left verdict (λ crossed. AppendsCoverage asked.coverage plan crossed old new)))
+      OfReplayed plan (buses_of system) left verdict (λ crossed course. AppendsCoverage asked.coverage plan crossed course old new)))
 
 abbrev pub IsOutcomeCounted : Asked → GivenParts → List ℕ → List ℕ → Bool → Type 0
 IsOutcomeCounted asked given old new lawful =

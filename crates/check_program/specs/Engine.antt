@@ -7,7 +7,7 @@ use Rattle.check_description.specs.File.{Parts}
 use Rattle.check_description.specs.Description.{Description, IsFirstFaultOf, Makes}
 use Rattle.check_beats.specs.declared.bus.Bus.{Bus}
 use Rattle.check_review.specs.View.{Judges, is_asked, is_covered, is_traced}
-use Rattle.check_sides.specs.Plan.{Plan}
+use Rattle.check_start.specs.Loads.{SystemPlan}
 use Rattle.check_lines.specs.Names.{NamesView}
 use Rattle.check_lines.specs.Verdict.{empty_line, incomplete_line, lawful_line, unlawful_line}
 use Rattle.check_lines.specs.declared.verdict.VerdictCounts.{VerdictCounts}
@@ -37,10 +37,11 @@ pub record GivenParts : Type 0 where
 
 -- the buses of the system's links
 abbrev pub buses_of : Description → LinkBuses
-buses_of system = record { masters = master_buses system.masters; ports = port_buses system.ports }
+buses_of system =
+    record { masters = master_buses system.masters; ports = port_buses system.ports; resets = system.resets }
 
 -- by each plan of the system, and there is one: this holds of the text of the capture
-abbrev pub OfTheText : Asked → GivenParts → Description → (Plan → List ℕ → Type 0) → Type 0
+abbrev pub OfTheText : Asked → GivenParts → Description → (SystemPlan → List ℕ → Type 0) → Type 0
 OfTheText asked given system Holds =
     ByThePlan asked.terms system given.images (λ plan. IfSome given.capture (Holds plan))
 
@@ -162,8 +163,8 @@ pub record IsCounted (asked : Asked) (given : GivenParts) (old new : List ℕ) (
 
 -- ---- for the proofs
 
-abbrev pub with_buses : List Bus → List Bus → LinkBuses
-with_buses masters ports = record { masters = masters; ports = ports }
+abbrev pub with_buses : List Bus → List Bus → Bool → LinkBuses
+with_buses masters ports resets = record { masters = masters; ports = ports; resets = resets }
 
 -- of the system that the parts make: a judge that has seen no beat and tells what is asked for, and the names and the
 -- buses of the links
@@ -178,6 +179,7 @@ pub record IsPrepared (asked : Asked) (parts : Parts) (images : List (List ℕ))
   pub names : prepared.names ≡ system_names system
   pub masters : prepared.master_buses.items ≡ master_buses system.masters
   pub ports : prepared.port_buses.items ≡ port_buses system.ports
+  pub resets : prepared.resets ≡ system.resets
 
 -- why there is none: the first fault of the parts or of the images, or want of memory
 abbrev pub IsUnprepared : Terms → Parts → List (List ℕ) → CheckFault → Type 0

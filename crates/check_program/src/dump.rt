@@ -120,7 +120,7 @@ fn check_linked<D: Read + Drop, W: Write>(
     requires masters { length prepared.old.master_buses.items ≤ MAX_JUDGED_MASTERS }
     requires ports { length prepared.old.port_buses.items ≤ MAX_JUDGED_PORTS }
     requires buses { HasBuses prepared.old.judge.tally.watch.layout
-        (with_buses prepared.old.master_buses.items prepared.old.port_buses.items) }
+        (with_buses prepared.old.master_buses.items prepared.old.port_buses.items prepared.old.resets) }
     ensures same_writer { writer.new.writer.ghost_name ≡ writer.old.writer.ghost_name }
     ensures checked { (asked : AskedFor) (file : List ℕ) (parts : PartsView) (images : List (List ℕ))
         (known : Option (List ℕ)) (is : IsPrepared asked parts images prepared.old)
@@ -137,6 +137,7 @@ fn check_linked<D: Read + Drop, W: Write>(
     let buses = Buses {
         masters: &prepared.master_buses,
         ports: &prepared.port_buses,
+        resets: prepared.resets,
     };
     let verdict = judge_dump(alloc, rows, writer, &mut prepared.judge, &buses)?;
     prepared.judge.append_coverage(covered)?;
@@ -157,7 +158,7 @@ pub(crate) fn check_dump<D: Read + Drop, W: Write>(
     requires masters { length prepared.old.master_buses.items ≤ MAX_JUDGED_MASTERS }
     requires ports { length prepared.old.port_buses.items ≤ MAX_JUDGED_PORTS }
     requires buses { HasBuses prepared.old.judge.tally.watch.layout
-        (with_buses prepared.old.master_buses.items prepared.old.port_buses.items) }
+        (with_buses prepared.old.master_buses.items prepared.old.port_buses.items prepared.old.resets) }
     ensures same_writer { writer.new.writer.ghost_name ≡ writer.old.writer.ghost_name }
     ensures checked { (asked : AskedFor) (parts : PartsView) (images : List (List ℕ)) (known : Option (List ℕ))
         → asked.terms.links ≡ links → IsPrepared asked parts images prepared.old → IsText known (D.remaining dump)

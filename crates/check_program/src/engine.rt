@@ -1,10 +1,11 @@
 //! The engine: from the parts of a system and the bytes of a capture to the line of the verdict.
-ghost use Rattle.std.specs.Prelude.{◌≡◌, ◌≤◌, ◌++◌, ℕ, List, [], Option, if◌then◌else◌, is_some, length, map, IfOk, IfErr, IfSome, OnOk};
+ghost use Rattle.std.specs.Prelude.{◌≡◌, ◌+◌, ◌≤◌, ◌++◌, ℕ, List, [], Option, if◌then◌else◌, is_some, length, map, IfOk, IfErr, IfSome, OnOk};
 ghost use Rattle.std.specs.Io.KnownBytes.{Appends};
 ghost use Rattle.check_description.specs.File.{parts_view, Parts as PartsView};
 ghost use Rattle.check_sides.specs.Plan.{Plan};
 ghost use Rattle.check_sides.specs.View.{Keeps};
 ghost use Rattle.check_unanswered.specs.View.{Holds};
+ghost use Rattle.check_start.specs.Loads.{AreLoadsOf, SystemPlan};
 ghost use Rattle.check_start.specs.Start.{IsPlanOf};
 ghost use Rattle.check_start.specs.declared.start.Terms.{Terms as IsTerms};
 ghost use Rattle.check_coverage.specs.View.{Covers};
@@ -28,7 +29,7 @@ use check_lines::{Names, VerdictCounts, push_empty, push_incomplete, push_lawful
 use check_review::Judge;
 use check_rows::Buses;
 use check_sides::{Links, Watch};
-use check_start::{begin, pending_of};
+use check_start::{Loads, begin, pending_of};
 use check_text::{Verdict, judge_capture};
 use check_unanswered::Pending;
 use std::alloc::{AllocError, Global};
@@ -107,8 +108,8 @@ fn coverage_if(
     asked: bool,
 ) -> Result<Option<Coverage>, AllocError>
     ensures asked { IfOk result (λ coverage. is_some coverage ≡ asked) }
-    ensures none_yet { IfOk result (λ coverage. (terms : IsTerms) (images : List (List ℕ)) (plan : Plan)
-        → IsPlanOf terms system.now images plan → IfSome coverage (Covers plan [])) }
+    ensures none_yet { IfOk result (λ coverage. (terms : IsTerms) (images : List (List ℕ)) (plan : SystemPlan)
+        → IsPlanOf terms system.now images plan → IfSome coverage (Covers plan.begins [] [])) }
 {
     if asked {
         Ok(Some(Coverage::new(alloc, mirrors_of(alloc, system)?)))
@@ -117,27 +118,29 @@ fn coverage_if(
     }
 }
 
-/// The judge of a capture, of a judge of beats that has seen none, which tells what is asked for. If it is given what is
-/// covered, which is nothing yet, it counts what the rows cover.
+/// The judge of a capture, of a judge of beats that has seen none and of what a reset loads, which tells what is asked for. If it
+/// is given what is covered, which is nothing yet, it counts what the rows cover.
 fn judge_of(
     alloc: Global,
     watch: Watch,
+    loads: Loads,
     coverage: Option<Coverage>,
     asked: Asked,
 ) -> Result<Judge, AllocError>
-    ensures judges { IfOk result (λ judge. (plan : Plan) → Keeps plan [] watch → IfSome coverage (Covers plan [])
-        → Judges plan [] judge) }
+    requires { length loads ≡ length watch.layout.ports + 1 }
+    ensures judges { IfOk result (λ judge. (plan : SystemPlan) → Keeps plan.begins [] watch → AreLoadsOf plan loads
+        → IfSome coverage (Covers plan.begins [] []) → Judges plan [] judge) }
     ensures layout { IfOk result (λ judge. judge.tally.watch.layout ≡ watch.layout) }
     ensures trace { IfOk result (λ judge. is_traced judge ≡ asked.trace) }
     ensures complete { IfOk result (λ judge. is_asked judge ≡ asked.complete) }
     ensures coverage { IfOk result (λ judge. is_covered judge ≡ is_some coverage) }
 {
     let pending = pending_if(alloc, &watch, asked.complete)?;
-    Ok(Judge::new(watch, asked.trace, pending, coverage))
+    Ok(Judge::new(watch, loads, asked.trace, pending, coverage))
 }
 
-/// What a capture is judged by: a judge that has seen no beat, whether it is asked which requests are left, and the names and
-/// the buses of the links of its system.
+/// What a capture is judged by: a judge that has seen no beat, whether it is asked which requests are left, the names and the
+/// buses of the links of its system, and whether there may be rows of resets.
 #[derive(Drop)]
 pub(crate) struct Prepared {
     pub(crate) judge: Judge,
@@ -145,6 +148,7 @@ pub(crate) struct Prepared {
     pub(crate) names: Names,
     pub(crate) master_buses: Vec<Bus>,
     pub(crate) port_buses: Vec<Bus>,
+    pub(crate) resets: bool,
 }
 
 /// What a capture is judged by, of a crossbar that is the system of these parts.
@@ -159,20 +163,21 @@ fn prepare(
     ensures masters { IfOk result (λ prepared. length prepared.master_buses.items ≤ MAX_JUDGED_MASTERS) }
     ensures ports { IfOk result (λ prepared. length prepared.port_buses.items ≤ MAX_JUDGED_PORTS) }
     ensures buses { IfOk result (λ prepared. HasBuses prepared.judge.tally.watch.layout
-        (with_buses prepared.master_buses.items prepared.port_buses.items)) }
+        (with_buses prepared.master_buses.items prepared.port_buses.items prepared.resets)) }
     ensures fault { IfErr result
         (IsUnprepared asked.terms (parts_view parts) (map (λ image. image.items) images.now)) }
 {
     let system = describe(alloc, parts)?;
     let coverage = coverage_if(alloc, &system, asked.coverage)?;
     let begun = begin(alloc, system, images, asked.terms)?;
-    let judge = judge_of(alloc, begun.watch, coverage, asked)?;
+    let judge = judge_of(alloc, begun.watch, begun.loads, coverage, asked)?;
     Ok(Prepared {
         judge,
         complete: asked.complete,
         names: begun.names,
         master_buses: begun.master_buses,
         port_buses: begun.port_buses,
+        resets: begun.resets,
     })
 }
 
@@ -207,7 +212,7 @@ fn check_prepared<C: Read + Drop, W: Write>(
     requires masters { length prepared.old.master_buses.items ≤ MAX_JUDGED_MASTERS }
     requires ports { length prepared.old.port_buses.items ≤ MAX_JUDGED_PORTS }
     requires buses { HasBuses prepared.old.judge.tally.watch.layout
-        (with_buses prepared.old.master_buses.items prepared.old.port_buses.items) }
+        (with_buses prepared.old.master_buses.items prepared.old.port_buses.items prepared.old.resets) }
     ensures same_writer { writer.new.writer.ghost_name ≡ writer.old.writer.ghost_name }
     ensures checked { (asked : AskedFor) (file : List ℕ) (parts : PartsView) (images : List (List ℕ))
         (known : Option (List ℕ)) → IsPrepared asked parts images prepared.old → IsText known (C.remaining capture)
@@ -221,6 +226,7 @@ fn check_prepared<C: Read + Drop, W: Write>(
     let buses = Buses {
         masters: &prepared.master_buses,
         ports: &prepared.port_buses,
+        resets: prepared.resets,
     };
     let verdict = judge_capture(alloc, capture, writer, &mut prepared.judge, &buses)?;
     prepared.judge.append_coverage(covered)?;
@@ -311,7 +317,7 @@ fn check_read<C: Read + Drop, W: Write>(
     requires masters { length prepared.old.master_buses.items ≤ MAX_JUDGED_MASTERS }
     requires ports { length prepared.old.port_buses.items ≤ MAX_JUDGED_PORTS }
     requires buses { HasBuses prepared.old.judge.tally.watch.layout
-        (with_buses prepared.old.master_buses.items prepared.old.port_buses.items) }
+        (with_buses prepared.old.master_buses.items prepared.old.port_buses.items prepared.old.resets) }
     ensures same_writer { writer.new.writer.ghost_name ≡ writer.old.writer.ghost_name }
     ensures checked { (asked : AskedFor) (parts : PartsView) (images : List (List ℕ)) → asked.terms.links ≡ links
         → IsPrepared asked parts images prepared.old → IsOutcome asked (record {

@@ -3,7 +3,7 @@ ghost use Rattle.std.specs.Prelude.{◌≡◌, ℕ, List, map, IfOk};
 ghost use Rattle.tl_map.specs.declared.range.Range.{Range as IsRange};
 ghost use Rattle.check_description.specs.Mirror.{mirrors_kept};
 ghost use Rattle.check_description.specs.Port.{port_view};
-ghost use Rattle.check_sides.specs.Plan.{Plan};
+ghost use Rattle.check_start.specs.Loads.{SystemPlan};
 ghost use Rattle.check_start.specs.Start.{IsPlanOf};
 ghost use Rattle.check_start.specs.declared.start.Terms.{Terms};
 ghost use Rattle.check_coverage.specs.Mirrors.{HasMirrors};
@@ -60,8 +60,8 @@ fn all_mirrors(alloc: Global, ports: &[Port]) -> Result<Vec<Mirrors>, AllocError
 
 /// The same of the ports of a system.
 pub(crate) fn mirrors_of(alloc: Global, system: &Description) -> Result<Vec<Mirrors>, AllocError>
-    ensures { IfOk result (λ all. (terms : Terms) (images : List (List ℕ)) (plan : Plan)
-        → IsPlanOf terms system.now images plan → HasMirrors plan all.items) }
+    ensures { IfOk result (λ all. (terms : Terms) (images : List (List ℕ)) (plan : SystemPlan)
+        → IsPlanOf terms system.now images plan → HasMirrors plan.begins all.items) }
 {
     all_mirrors(alloc, system.ports())
 }

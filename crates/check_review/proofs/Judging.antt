@@ -1,11 +1,11 @@
 -- One row of a file more.
-use Rattle.std.proofs.Common.{◌≡◌, ◌∙◌, ℕ, inl, append-nil, append_assoc, length-append, IfSome, ◌+◌, ◌-◌, ◌%◌, ◌^◌, ◌<◌, ◌≤◌, List, [], ◌∷◌, ◌++◌, Bool, reverse, length, All, Contains, refl, sym, ap, subst, arith}
+use Rattle.std.proofs.Common.{◌≡◌, ◌∙◌, ℕ, inl, append-nil, append_assoc, length-append, IfSome, ◌+◌, ◌-◌, ◌%◌, ◌^◌, ◌<◌, ◌≤◌, List, [], ◌∷◌, ◌++◌, Bool, false, reverse, length, All, Contains, refl, sym, ap, subst, arith}
 use Rattle.std.specs.List.{AllByRecursion}
 use Rattle.std.specs.List.Sorted.{IsPermutation}
 use Rattle.std.proofs.lemmas.List.{length_push}
 use Rattle.std.proofs.lemmas.List.Elements.{All-append, All-contains, All-weaker, All-from_recursion, recursion_from_All, Contains-append_left}
 use Rattle.std.proofs.lemmas.List.Sorted.{IsPermutation-refl, IsPermutation-sym, IsPermutation-trans, IsPermutation-cons, IsPermutation-append, IsPermutation-reverse, IsPermutation-push_more, All-permutation, Contains-permutation, length_permutation, IsNonDecreasingBy-push, IsNonDecreasingBy-short}
-use Rattle.check_sides.specs.Plan.{Plan}
+use Rattle.check_start.specs.Loads.{AreLoadsOf, SystemPlan}
 use Rattle.check_sides.specs.View.{Keeps}
 use Rattle.check_sides.specs.Lawful.{IsLawful}
 use Rattle.check_rows.specs.Moment.{Moment, IsMoment, Takes, HasFault}
@@ -19,32 +19,36 @@ use Rattle.check_review.specs.declared.stop.Refusal.TheVariants as refusal
 use Rattle.check_review.specs.declared.stop.Stop.TheVariants as stop
 use Rattle.check_review.specs.declared.stop.Unlawful.{Unlawful}
 use Rattle.check_review.specs.declared.tally.Tally.{Tally}
+use Rattle.check_review.specs.Stretches.{Stretches, IsLawfulStretch, Stretch, stretches}
 use Rattle.check_review.specs.Order.{CrossesBefore, IsCrossing, IsLater, NeverFalls, HasRowFault, sightings_of}
-use Rattle.check_review.specs.Told.{AppendsTold, IsTold}
-use Rattle.check_review.specs.View.{HasTold, JudgeView, Judges, Kept, TellsOn, TellsStop, is_traced}
-use Rattle.check_review.specs.Verdict.{IsLawfulFile, IsFirstUnlawful, IsStop, IsToldBefore, IsToldEarlier, IsToldFile, IsToldPart, MayWantAmong, MayWantMemory, OfUnlawful, StopsAt, StopsTelling, stop_of}
+use Rattle.check_review.specs.Told.{IsToldOfAll}
+use Rattle.check_review.specs.View.{HasTold, JudgeView, Judges, KeepsOn, KeptIn, TellsOn, TellsStop, is_traced}
+use Rattle.check_review.specs.Verdict.{IsLawfulFile, IsFirstUnlawful, IsUnlawfulAfter, IsStop, IsToldBefore, IsToldEarlier, IsToldFile, IsToldPart, MayWantAmong, MayWantMemory, OfUnlawful, StopsAt, StopsTelling, stop_of}
+use Rattle.check_review.proofs.Stretching.{course_none, one_stretch}
 use Rattle.check_review.proofs.Watched.{seen_one, lawful_rest}
 use Rattle.check_review.proofs.Ordered.{all_weaker, in_order_rest, in_order_onto, reversed_middle}
 use Rattle.check_review.proofs.Unique.{crossing_is_unique}
 
 -- ---- none yet
 
-pub judges_none : (plan : Plan) (judge : JudgeView) → judge.moment ≡ record { time = 0; rows = [] } → judge.rows ≡ 0
-    → judge.tally.requests ≡ 0 → judge.tally.answered ≡ 0 → Keeps plan [] judge.tally.watch
-    → IfSome judge.tally.pending (Holds plan []) → IfSome judge.tally.coverage (Covers plan []) → Judges plan [] judge
-judges_none plan judge fresh rows requests answered keeps pending covers =
+pub judges_none : (plan : SystemPlan) (judge : JudgeView) → judge.moment ≡ record { time = 0; rows = [] } → judge.rows ≡ 0
+    → judge.tally.requests ≡ 0 → judge.tally.answered ≡ 0 → Keeps plan.begins [] judge.tally.watch
+    → AreLoadsOf plan judge.tally.loads → IfSome judge.tally.pending (Holds plan.begins [])
+    → IfSome judge.tally.coverage (Covers plan.begins [] []) → Judges plan [] judge
+judges_none plan judge fresh rows requests answered keeps loads pending covers =
     let none : judge.moment.rows ≡ [] = ap (λ (m : Moment). m.rows) fresh in
     let P : List SeenRow → Type 0 = λ l. IsCrossing [] (reverse l ++ []) in
     record {
       before = [];
       crossing = subst P (sym none) (record { same = IsPermutation-refl []; in_order = tt });
+      course = course_none plan;
       now = (let All_now : List SeenRow → Type 0 = λ l. AllByRecursion (λ row. row.time ≡ judge.moment.time) l in
           subst All_now (sym none) tt);
       earlier = tt;
       begun = λ is. ap (λ (m : Moment). m.time) fresh;
       never_falls = IsNonDecreasingBy-short (λ (row : SeenRow). row.time) [] (omega arith);
       kept = record {
-        tallied = record { keeps = keeps; requests = requests; answered = answered; covers = covers };
+        tallied = record { keeps = keeps; loads = loads; requests = requests; answered = answered; covers = covers };
         pending = pending;
       };
       rows = rows;
@@ -115,33 +119,33 @@ put_same row rows next before same =
     IsPermutation-append (row ∷ reverse rows) (reverse next) before before all (IsPermutation-refl before)
 
 -- the rows of earlier times are the same
-pub judges_now : (plan : Plan) (file : List SeenRow) (row : SeenRow) (old new : JudgeView) (judges : Judges plan file old)
+pub judges_now : (plan : SystemPlan) (file : List SeenRow) (row : SeenRow) (old new : JudgeView) (judges : Judges plan file old)
     → Takes old.moment row new.moment → IsRowMore old new
-    → (next : Judges plan (file ++ row ∷ []) new) × (next.before ≡ judges.before)
+    → Judges plan (file ++ row ∷ []) new
 judges_now plan file row old new judges takes more =
     let earlier : AllByRecursion (λ r. r.time < new.moment.time) judges.before =
     all_weaker (λ r. r.time < old.moment.time) (λ r. r.time < new.moment.time)
-    (λ r lt. let e = takes.time in omega (arith, lt, e)) judges.before judges.earlier in (
-      record {
-        before = judges.before;
-        crossing = record {
-          same = IsPermutation-push_more file (reverse old.moment.rows ++ judges.before)
-              (reverse new.moment.rows ++ judges.before) row judges.crossing.same
-              (put_same row old.moment.rows new.moment.rows judges.before takes.rows);
-          in_order = in_order_onto new.moment.time new.moment.rows judges.before more.moment.in_order more.moment.at_time earlier
-              (in_order_rest (reverse old.moment.rows) judges.before judges.crossing.in_order);
-        };
-        now = recursion_from_All (λ r. r.time ≡ new.moment.time) new.moment.rows more.moment.at_time;
-        earlier = earlier;
-        begun = λ none. absurd (no_rows_left row old.moment.rows new.moment.rows takes.rows none);
-        never_falls = falls_never file row old.moment.time judges.never_falls
-            (latest old.moment file judges.before more.was judges.crossing.same judges.earlier)
-            (let e = takes.now in omega (arith, e));
-        kept = (let P : Tally → Type 0 = λ t. Kept plan judges.before t in subst P (sym more.tally) judges.kept);
-        rows = row_more file row old.rows new.rows judges.rows more.rows;
-      },
-      refl,
-    )
+    (λ r lt. let e = takes.time in omega (arith, lt, e)) judges.before judges.earlier in
+    record {
+      before = judges.before;
+      crossing = record {
+        same = IsPermutation-push_more file (reverse old.moment.rows ++ judges.before)
+            (reverse new.moment.rows ++ judges.before) row judges.crossing.same
+            (put_same row old.moment.rows new.moment.rows judges.before takes.rows);
+        in_order = in_order_onto new.moment.time new.moment.rows judges.before more.moment.in_order more.moment.at_time earlier
+            (in_order_rest (reverse old.moment.rows) judges.before judges.crossing.in_order);
+      };
+      course = judges.course;
+      now = recursion_from_All (λ r. r.time ≡ new.moment.time) new.moment.rows more.moment.at_time;
+      earlier = earlier;
+      begun = λ none. absurd (no_rows_left row old.moment.rows new.moment.rows takes.rows none);
+      never_falls = falls_never file row old.moment.time judges.never_falls
+          (latest old.moment file judges.before more.was judges.crossing.same judges.earlier)
+          (let e = takes.now in omega (arith, e));
+      kept = (let P : Tally → Type 0 = λ t. KeptIn plan judges.before judges.course t in
+          subst P (sym more.tally) judges.kept);
+      rows = row_more file row old.rows new.rows judges.rows more.rows;
+    }
 
 -- ---- a row of a later time
 
@@ -159,11 +163,11 @@ later_all moment file before row is same earlier later =
     All-weaker (λ r. r.time ≤ moment.time) (λ r. r.time < row.time) (λ r le. omega (arith, le, later)) file
     (latest moment file before is same earlier)
 
-pub judges_later : (plan : Plan) (file : List SeenRow) (row : SeenRow) (old new : JudgeView) (judges : Judges plan file old)
+pub judges_later : (plan : SystemPlan) (file : List SeenRow) (row : SeenRow) (old new : JudgeView) (judges : Judges plan file old)
     → IsLaterRow row old new
-    → Kept plan (reverse old.moment.rows ++ judges.before) new.tally
-    → (next : Judges plan (file ++ row ∷ []) new) × (next.before ≡ reverse old.moment.rows ++ judges.before)
-judges_later plan file row old new judges more kept =
+    → (course : Stretches plan (reverse old.moment.rows ++ judges.before))
+    → KeptIn plan (reverse old.moment.rows ++ judges.before) course new.tally → Judges plan (file ++ row ∷ []) new
+judges_later plan file row old new judges more course kept =
     let crossed : List SeenRow = reverse old.moment.rows ++ judges.before in
     let all_file : All (λ r. r.time < row.time) file =
     later_all old.moment file judges.before row more.was judges.crossing.same judges.earlier more.later in
@@ -174,28 +178,27 @@ judges_later plan file row old new judges more kept =
     let time_is : new.moment.time ≡ row.time = ap (λ (m : Moment). m.time) more.moment in
     let Crossing : List SeenRow → Type 0 = λ l. IsCrossing (file ++ row ∷ []) (reverse l ++ crossed) in
     let Earlier : ℕ → Type 0 = λ t. AllByRecursion (λ r. r.time < t) crossed in
-    let Now : List SeenRow → Type 0 = λ l. AllByRecursion (λ r. r.time ≡ new.moment.time) l in (
-      record {
-        before = crossed;
-        crossing = subst Crossing (sym rows_is) (record {
-          same = IsPermutation-push_more file crossed (row ∷ crossed) row judges.crossing.same
-              (IsPermutation-refl (row ∷ crossed));
-          in_order = (
-            all_weaker (λ r. r.time < row.time) (λ r. CrossesBefore r row) (λ r lt. inl lt) crossed all,
-            judges.crossing.in_order,
-          );
-        });
-        now = subst Now (sym rows_is) (sym time_is, tt);
-        earlier = subst Earlier (sym time_is) all;
-        begun = λ none. absurd (cc);
-        never_falls = falls_never file row old.moment.time judges.never_falls
-            (latest old.moment file judges.before more.was judges.crossing.same judges.earlier)
-            (let lt = more.later in omega (arith, lt));
-        kept = kept;
-        rows = row_more file row old.rows new.rows judges.rows more.rows;
-      },
-      refl,
-    )
+    let Now : List SeenRow → Type 0 = λ l. AllByRecursion (λ r. r.time ≡ new.moment.time) l in
+    record {
+      before = crossed;
+      crossing = subst Crossing (sym rows_is) (record {
+        same = IsPermutation-push_more file crossed (row ∷ crossed) row judges.crossing.same
+            (IsPermutation-refl (row ∷ crossed));
+        in_order = (
+          all_weaker (λ r. r.time < row.time) (λ r. CrossesBefore r row) (λ r lt. inl lt) crossed all,
+          judges.crossing.in_order,
+        );
+      });
+      course = course;
+      now = subst Now (sym rows_is) (sym time_is, tt);
+      earlier = subst Earlier (sym time_is) all;
+      begun = λ none. absurd (cc);
+      never_falls = falls_never file row old.moment.time judges.never_falls
+          (latest old.moment file judges.before more.was judges.crossing.same judges.earlier)
+          (let lt = more.later in omega (arith, lt));
+      kept = kept;
+      rows = row_more file row old.rows new.rows judges.rows more.rows;
+    }
 
 -- ---- a row that is refused
 
@@ -212,7 +215,7 @@ earlier_row moment file before row is same begun lt = go moment.rows refl
         let now = All-contains (λ r. r.time ≡ moment.time) moment.rows first is.at_time there in
         (first, in_file moment file before first same there, omega (arith, lt, now))
 
-pub fault_of : (plan : Plan) (file : List SeenRow) (row : SeenRow) (judge : JudgeView) (f : RowFault) → IsMoment judge.moment
+pub fault_of : (plan : SystemPlan) (file : List SeenRow) (row : SeenRow) (judge : JudgeView) (f : RowFault) → IsMoment judge.moment
     → Judges plan file judge → HasFault judge.moment row f
     → HasRowFault file row f
 fault_of plan file row judge fault.TimeFalls moment judges has =
@@ -234,27 +237,25 @@ fault_of plan file row judge fault.Channel moment judges has = has
 
 -- ---- rows that are not lawful
 
-pub first_unlawful : (plan : Plan) (file : List SeenRow) (judge : JudgeView) (found : Unlawful)
-    (judges : Judges plan file judge)
-    (stops : StopsAt plan judge.moment.rows judges.before found)
-    → (first : IsFirstUnlawful plan file found) × (first.before ≡ reverse stops.done ++ judges.before)
+abbrev pub first_unlawful : (plan : SystemPlan) (file : List SeenRow) (judge : JudgeView) (found : Unlawful)
+    (judges : Judges plan file judge) → StopsAt plan judge.moment.rows judges.before found → IsFirstUnlawful plan file found
 first_unlawful plan file judge found judges stops =
     let P : List SeenRow → Type 0 = λ l. IsCrossing file l in
     let is : reverse judge.moment.rows ++ judges.before ≡ reverse stops.left
     ++ (stops.row ∷ (reverse stops.done ++ judges.before)) =
-    ap (λ l. reverse l ++ judges.before) stops.are ∙ reversed_middle stops.done stops.left judges.before stops.row in (
-      record {
-        row = stops.row;
-        after = reverse stops.left;
-        before = reverse stops.done ++ judges.before;
-        crossing = subst P is judges.crossing;
-        is = stops.is;
-      },
-      refl,
-    )
+    ap (λ l. reverse l ++ judges.before) stops.are ∙ reversed_middle stops.done stops.left judges.before stops.row in
+    record {
+      row = stops.row;
+      beat = stops.beat;
+      after = reverse stops.left;
+      before = reverse stops.done ++ judges.before;
+      crossing = subst P is judges.crossing;
+      course = stops.course;
+      is = stops.is;
+    }
 
 -- memory may be refused to one of the rows of the moment, and so to a row of the file
-pub may_want : (wants : Bool) (plan : Plan) (file : List SeenRow) (judge : JudgeView) (judges : Judges plan file judge)
+pub may_want : (wants : Bool) (plan : SystemPlan) (file : List SeenRow) (judge : JudgeView) (judges : Judges plan file judge)
     → MayWantAmong wants plan judge.moment.rows judges.before → MayWantMemory wants plan file
 may_want wants plan file judge judges want =
     let P : List SeenRow → Type 0 = λ l. IsCrossing file l in
@@ -266,19 +267,43 @@ may_want wants plan file judge judges want =
       after = reverse want.left;
       before = reverse want.done ++ judges.before;
       crossing = subst P is judges.crossing;
+      course = want.course;
       is = want.is;
     }
 
--- a file that has such a row is not lawful
-pub not_lawful : (plan : Plan) (file : List SeenRow) (found : Unlawful) → IsFirstUnlawful plan file found
-    → IsLawfulFile plan file → ⊥
-not_lawful plan file found first whole =
+plain_rest : (after before : List SeenRow) → AllByRecursion (λ row. row.is_reset ≡ false) (after ++ before)
+    → AllByRecursion (λ row. row.is_reset ≡ false) before
+plain_rest [] before plain = plain
+plain_rest (row ∷ after) before plain = plain_rest after before plain.1
+
+-- rows of a file that cross before others of it are no reset, if none of the file is
+plain_before : (file after before : List SeenRow) → AllByRecursion (λ row. row.is_reset ≡ false) file
+    → IsPermutation file (after ++ before) → AllByRecursion (λ row. row.is_reset ≡ false) before
+plain_before file after before plain same =
+    let P : SeenRow → Type 0 = λ row. row.is_reset ≡ false in
+    plain_rest after before (recursion_from_All P (after ++ before)
+    (All-permutation P file (after ++ before) same (All-from_recursion P file plain)))
+
+-- a file without a reset that has such a row is not lawful
+pub not_lawful : (plan : SystemPlan) (file : List SeenRow) (found : Unlawful)
+    → AllByRecursion (λ row. row.is_reset ≡ false) file → IsFirstUnlawful plan file found → IsLawfulFile plan file → ⊥
+not_lawful plan file found plain first whole =
     let same : whole.crossed ≡ first.after ++ first.row ∷ first.before =
     crossing_is_unique file whole.crossed (first.after ++ first.row ∷ first.before) whole.crossing first.crossing in
-    let P : List SeenRow → Type 0 = λ l. IsLawful plan (sightings_of plan.layout l) in
-    let rest : IsLawful plan (sightings_of plan.layout (first.row ∷ first.before)) =
-    lawful_rest plan first.after (first.row ∷ first.before) (subst P same whole.lawful) in
-    first.is.unlawful (subst (IsLawful plan) (seen_one plan.layout first.row first.before first.is.watched) rest)
+    let all = one_stretch plan whole.crossed whole.course.now whole.course.ended
+    (plain_before file [] whole.crossed plain whole.crossing.same) whole.course.are in
+    let here = one_stretch plan first.before first.course.now first.course.ended
+    (plain_before file (first.after ++ first.row ∷ []) first.before plain
+    (subst (IsPermutation file) (sym (append_assoc first.after (first.row ∷ []) first.before)) first.crossing.same))
+    first.course.are in
+    let begins = plan.begins in
+    let lawful : IsLawful begins (sightings_of begins.layout whole.crossed) = subst IsLawfulStretch all.0 whole.lawful in
+    let P : List SeenRow → Type 0 = λ l. IsLawful begins (sightings_of begins.layout l) in
+    let rest : IsLawful begins (sightings_of begins.layout (first.row ∷ first.before)) =
+    lawful_rest begins first.after (first.row ∷ first.before) (subst P same lawful) in
+    let unlawful : IsUnlawfulAfter (record { plan = begins; rows = first.before }) first.row found =
+    subst (λ (s : Stretch). IsUnlawfulAfter s first.row found) here.0 first.is in
+    unlawful.unlawful (subst (IsLawful begins) (seen_one begins.layout first.row first.before unlawful.watched) rest)
 
 -- ---- what is told
 
@@ -286,103 +311,105 @@ none : (rows : List SeenRow) → length rows ≡ 0 → rows ≡ []
 none [] is = refl
 none (row ∷ rows) is = absurd (omega (arith, is))
 
+none_told : (trace : Bool) (plan : SystemPlan) (crossed : List SeenRow) (course : Stretches plan crossed) → crossed ≡ []
+    → IsToldOfAll trace (stretches course) []
+none_told trace plan [] course is =
+    rw (course.are.0, course.are.1) ([], [], refl, refl, refl)
+none_told trace plan (row ∷ crossed) course is = absurd (cc)
+
 rest_none : (now before : List SeenRow) → length (now ++ before) ≡ 0 → length before ≡ 0
 rest_none now before is = let both = length-append now before in omega (arith, is, both)
 
 -- of no rows nothing is told
-pub told_none : (plan : Plan) (judge : JudgeView) → Judges plan [] judge → HasTold plan [] judge []
+pub told_none : (plan : SystemPlan) (judge : JudgeView) → Judges plan [] judge → HasTold plan [] judge []
 told_none plan judge judges =
-    let P : List SeenRow → Type 0 = λ l. IsTold (is_traced judge) plan (sightings_of plan.layout l) [] in
+    let before : judges.before ≡ [] = none judges.before (rest_none (reverse judge.moment.rows) judges.before
+    (length_permutation [] _ judges.crossing.same)) in
     record {
       judges = judges;
-      told = subst P (sym (none judges.before (rest_none (reverse judge.moment.rows) judges.before
-          (length_permutation [] _ judges.crossing.same)))) refl;
+      told = none_told (is_traced judge) plan judges.before judges.course before;
     }
-
-told_of : (trace other : Bool) (plan : Plan) (rows others : List SeenRow) (text : List ℕ) → other ≡ trace → others ≡ rows
-    → IsTold trace plan (sightings_of plan.layout rows) text
-    → IsTold other plan (sightings_of plan.layout others) text
-told_of trace other plan rows others text same_trace same_rows is = rw (same_trace, same_rows) is
 
 -- the rows of the moment at hand are told
-pub told_later : (plan : Plan) (file : List SeenRow) (row : SeenRow) (old new : JudgeView) (so_far now next : List ℕ)
-    (has : HasTold plan file old so_far) → IsLaterRow row old new
-    → Kept plan (reverse old.moment.rows ++ has.judges.before) new.tally → is_traced new ≡ is_traced old
-    → AppendsTold (is_traced old) plan (sightings_of plan.layout has.judges.before)
-    (sightings_of plan.layout (reverse old.moment.rows ++ has.judges.before)) now next
+pub told_later : (plan : SystemPlan) (file : List SeenRow) (row : SeenRow) (old new : JudgeView) (tally : Tally)
+    (so_far now next : List ℕ) (has : HasTold plan file old so_far) → IsLaterRow row old new → new.tally ≡ tally
+    → is_traced new ≡ is_traced old
+    → KeepsOn plan has.judges.before has.judges.course (reverse old.moment.rows ++ has.judges.before) (is_traced old) tally
+    now next
     → TellsOn plan (file ++ row ∷ []) new so_far now next
-told_later plan file row old new so_far now next has more kept trace told =
-    let judged = judges_later plan file row old new has.judges more kept in
-    record {
-      more = told.more;
-      grown = told.grown;
-      told = record {
-        judges = judged.0;
-        told = told_of (is_traced old) (is_traced new) plan _ _ _ trace judged.1 (told.told so_far has.told);
-      };
-    }
+unfolding judges_later
+told_later plan file row old new tally so_far now next has more same trace on = record {
+  more = on.told.more;
+  grown = on.told.grown;
+  told = record {
+    judges = judges_later plan file row old new has.judges more on.next
+        (subst (KeptIn plan (reverse old.moment.rows ++ has.judges.before) on.next) (sym same) on.kept);
+    told = subst (λ t. IsToldOfAll t (stretches on.next) (so_far ++ on.told.more)) (sym trace)
+        (on.told.told so_far has.told);
+  };
+}
 
 -- a row of the moment's time tells nothing
-pub told_now : (plan : Plan) (file : List SeenRow) (row : SeenRow) (old new : JudgeView) (so_far text : List ℕ)
+pub told_now : (plan : SystemPlan) (file : List SeenRow) (row : SeenRow) (old new : JudgeView) (so_far text : List ℕ)
     → HasTold plan file old so_far → Takes old.moment row new.moment → IsRowMore old new
     → TellsOn plan (file ++ row ∷ []) new so_far text text
+unfolding judges_now
 told_now plan file row old new so_far text has takes more =
-    let judged = judges_now plan file row old new has.judges takes more in
     let trace : is_traced new ≡ is_traced old = ap (λ (t : Tally). t.trace) more.tally in
     record {
       more = [];
       grown = sym (append-nil text);
       told = record {
-        judges = judged.0;
-        told = told_of (is_traced old) (is_traced new) plan _ _ _ trace judged.1
-            (subst (λ text. IsTold (is_traced old) plan (sightings_of plan.layout has.judges.before) text)
-            (sym (append-nil so_far)) has.told);
+        judges = judges_now plan file row old new has.judges takes more;
+        told = subst (λ t. IsToldOfAll t (stretches has.judges.course) (so_far ++ [])) (sym trace)
+            (subst (IsToldOfAll (is_traced old) (stretches has.judges.course)) (sym (append-nil so_far)) has.told);
       };
     }
 
 -- what is told before the first unlawful row
-pub told_before : (plan : Plan) (file : List SeenRow) (judge : JudgeView) (found : Unlawful) (so_far now next : List ℕ)
+pub told_before : (plan : SystemPlan) (file : List SeenRow) (judge : JudgeView) (found : Unlawful) (so_far now next : List ℕ)
     (has : HasTold plan file judge so_far)
-    → StopsTelling (is_traced judge) plan judge.moment.rows has.judges.before now next found
+    → StopsTelling (is_traced judge) plan judge.moment.rows has.judges.before has.judges.course now next found
     → (more : List ℕ) × (next ≡ now ++ more) × IsToldBefore (is_traced judge) plan file (so_far ++ more) found
-told_before plan file judge found so_far now next has stops =
-    let first = first_unlawful plan file judge found has.judges stops.stops in (
-      stops.told.more,
-      stops.told.grown,
-      record {
-        first = first.0;
-        told = told_of (is_traced judge) (is_traced judge) plan _ _ _ refl first.1 (stops.told.told so_far has.told);
-      },
-    )
+told_before plan file judge found so_far now next has stops = (
+  stops.told.more,
+  stops.told.grown,
+  record {
+    first = first_unlawful plan file judge found has.judges stops.stops;
+    told = stops.told.told so_far has.told;
+  },
+)
 
 -- what is told of a lawful file
-pub told_file : (plan : Plan) (file : List SeenRow) (judge : JudgeView) (tally : Tally) (so_far now next : List ℕ)
+pub told_file : (plan : SystemPlan) (file : List SeenRow) (judge : JudgeView) (tally : Tally) (so_far now next : List ℕ)
     (has : HasTold plan file judge so_far)
-    → Kept plan (reverse judge.moment.rows ++ has.judges.before) tally
-    → AppendsTold (is_traced judge) plan (sightings_of plan.layout has.judges.before)
-    (sightings_of plan.layout (reverse judge.moment.rows ++ has.judges.before)) now next
+    → KeepsOn plan has.judges.before has.judges.course (reverse judge.moment.rows ++ has.judges.before) (is_traced judge)
+    tally now next
     → (more : List ℕ) × (next ≡ now ++ more) × IsToldFile (is_traced judge) plan file (so_far ++ more)
-told_file plan file judge tally so_far now next has kept told = (
-  told.more,
-  told.grown,
+told_file plan file judge tally so_far now next has on = (
+  on.told.more,
+  on.told.grown,
   record {
     lawful = record {
       crossed = reverse judge.moment.rows ++ has.judges.before;
       crossing = has.judges.crossing;
-      lawful = kept.tallied.keeps.lawful;
+      course = on.next;
+      lawful = on.kept.tallied.keeps.lawful;
     };
-    told = told.told so_far has.told;
+    told = on.told.told so_far has.told;
   },
 )
 
--- rows that are refused, but not for want of memory, are not lawful
-pub refused_is_not_lawful : (plan : Plan) (file : List SeenRow) (why : Refusal) → OfUnlawful (IsFirstUnlawful plan file) why
+-- rows without a reset that are refused, but not for want of memory, are not lawful
+pub refused_is_not_lawful : (plan : SystemPlan) (file : List SeenRow) (why : Refusal)
+    → AllByRecursion (λ row. row.is_reset ≡ false) file → OfUnlawful (IsFirstUnlawful plan file) why
     → (why ≡ refusal.Memory → ⊥) → IsLawfulFile plan file → ⊥
-refused_is_not_lawful plan file (refusal.Unlawful found) first other lawful = not_lawful plan file found first lawful
-refused_is_not_lawful plan file refusal.Memory first other lawful = other refl
+refused_is_not_lawful plan file (refusal.Unlawful found) plain first other lawful =
+    not_lawful plan file found plain first lawful
+refused_is_not_lawful plan file refusal.Memory plain first other lawful = other refl
 
 -- what becomes of a row of a later time where those before it are refused, and what is told then
-pub stops_so : (plan : Plan) (file : List SeenRow) (row : SeenRow) (why : Refusal) → IsLater file row
+pub stops_so : (plan : SystemPlan) (file : List SeenRow) (row : SeenRow) (why : Refusal) → IsLater file row
     → OfUnlawful (IsFirstUnlawful plan file) why → IsStop plan file row (stop_of why)
 stops_so plan file row (refusal.Unlawful found) later first = (later, first)
 stops_so plan file row refusal.Memory later first = later
@@ -392,7 +419,7 @@ pub wants_so : {P : Type 0} (why : Refusal) → stop_of why ≡ stop.Memory → 
 wants_so (refusal.Unlawful found) is to = absurd (cc)
 wants_so refusal.Memory is to = to refl
 
-pub tells_so : (trace : Bool) (plan : Plan) (file : List SeenRow) (so_far now next : List ℕ) (why : Refusal)
+pub tells_so : (trace : Bool) (plan : SystemPlan) (file : List SeenRow) (so_far now next : List ℕ) (why : Refusal)
     → OfUnlawful (λ found. (more : List ℕ) × (next ≡ now ++ more)
     × IsToldBefore trace plan file (so_far ++ more) found) why
     → TellsStop trace plan file so_far now next (stop_of why)
@@ -414,7 +441,7 @@ turned_none rows is =
     let short = ap length is in omega (arith, long, short))
 
 -- what a judge has told is told of the rows of earlier times
-pub told_earlier : (plan : Plan) (file : List SeenRow) (judge : JudgeView) (text : List ℕ) → HasTold plan file judge text
+pub told_earlier : (plan : SystemPlan) (file : List SeenRow) (judge : JudgeView) (text : List ℕ) → HasTold plan file judge text
     → IsToldEarlier (is_traced judge) plan file text
 told_earlier plan file judge text has = record {
   time = judge.moment.time;
@@ -422,6 +449,7 @@ told_earlier plan file judge text has = record {
     after = reverse judge.moment.rows;
     before = has.judges.before;
     crossing = has.judges.crossing;
+    course = has.judges.course;
     lawful = has.judges.kept.tallied.keeps.lawful;
     told = has.told;
   };
@@ -431,23 +459,25 @@ told_earlier plan file judge text has = record {
       (has.judges.begun (turned_none judge.moment.rows is)) has.judges.earlier;
 }
 
-pub part_of_file : (trace : Bool) (plan : Plan) (file : List SeenRow) (text : List ℕ) → IsToldFile trace plan file text
+pub part_of_file : (trace : Bool) (plan : SystemPlan) (file : List SeenRow) (text : List ℕ) → IsToldFile trace plan file text
     → IsToldPart trace plan file text
 part_of_file trace plan file text told = record {
   after = [];
   before = told.lawful.crossed;
   crossing = told.lawful.crossing;
+  course = told.lawful.course;
   lawful = told.lawful.lawful;
   told = told.told;
 }
 
-pub part_before : (trace : Bool) (plan : Plan) (file : List SeenRow) (text : List ℕ) (found : Unlawful)
+pub part_before : (trace : Bool) (plan : SystemPlan) (file : List SeenRow) (text : List ℕ) (found : Unlawful)
     → IsToldBefore trace plan file text found → IsToldPart trace plan file text
 part_before trace plan file text found told = record {
   after = told.first.after ++ told.first.row ∷ [];
   before = told.first.before;
   crossing = subst (IsCrossing file) (sym (append_assoc told.first.after
       (told.first.row ∷ []) told.first.before)) told.first.crossing;
+  course = told.first.course;
   lawful = told.first.is.lawful;
   told = told.told;
 }

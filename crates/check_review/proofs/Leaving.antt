@@ -11,7 +11,8 @@ use Rattle.check_unanswered.specs.Began.{IsComplete, IsLeft}
 use Rattle.check_unanswered.specs.View.{Holds, PendingView}
 use Rattle.check_unanswered.specs.declared.request.Left.{Left}
 use Rattle.check_review.specs.declared.tally.Tally.{Tally}
-use Rattle.check_review.specs.Count.{answered_in_past, asked_in_past}
+use Rattle.check_review.specs.Count.{answered_in, answered_in_past, asked_in, asked_in_past}
+use Rattle.check_review.specs.Stretches.{Earlier, bins_in}
 use Rattle.check_review.specs.Order.{is_watched, sightings_of, watched}
 use Rattle.check_review.specs.Verdict.{IsWhatIsLeft}
 use Rattle.check_review.specs.View.{Kept, Tallied}
@@ -29,22 +30,23 @@ what_is_left plan rows (Some one) kept (Some left) is holds complete some =
     let same : one ≡ kept = cc in some (subst (Holds plan rows) same holds)
 
 -- a step at a watched link, with what it was seen to do to the requests in flight, and a note of that
-pub record IsNoted (plan : Plan) (before : List SeenRow) (row : SeenRow) (old mid new : Tally)
+pub record IsNoted (earlier : Earlier) (plan : Plan) (before : List SeenRow) (row : SeenRow) (old mid new : Tally)
     (what : Option Change) : Type 0 where
   pub here : is_watched plan.layout row.sighting.link ≡ true
-  pub tallied : Tallied plan (row ∷ before) mid
+  pub tallied : Tallied earlier plan (row ∷ before) mid
   pub same : mid.pending ≡ old.pending
   pub asked : is_some what ≡ is_some old.pending
   pub change : IsLawful plan (row.sighting ∷ sightings_of plan.layout before)
       → IfSome what (IsChange plan (sightings_of plan.layout before) row.sighting)
-  pub noted : Tallied plan (row ∷ before) mid → Tallied plan (row ∷ before) new
+  pub noted : Tallied earlier plan (row ∷ before) mid → Tallied earlier plan (row ∷ before) new
   pub holds : IfSome mid.pending (Holds plan (watched plan.layout before)) → is_some what ≡ is_some mid.pending
       → IfSome what (IsChange plan (sightings_of plan.layout before) row.sighting)
       → IfSome new.pending (Holds plan (row ∷ watched plan.layout before))
 
-pub kept_noted : (plan : Plan) (before : List SeenRow) (row : SeenRow) (old mid new : Tally) (change : Option Change)
-    → Kept plan before old → IsNoted plan before row old mid new change → Kept plan (row ∷ before) new
-kept_noted plan before row old mid new change kept step =
+pub kept_noted : (earlier : Earlier) (plan : Plan) (before : List SeenRow) (row : SeenRow) (old mid new : Tally)
+    (change : Option Change) → Kept earlier plan before old → IsNoted earlier plan before row old mid new change
+    → Kept earlier plan (row ∷ before) new
+kept_noted earlier plan before row old mid new change kept step =
     let lawful : IsLawful plan (row.sighting ∷ sightings_of plan.layout before) =
     subst (IsLawful plan) (seen_one plan.layout row before step.here) step.tallied.keeps.lawful in
     let H : Option PendingView → Type 0 = λ p. IfSome p (Holds plan (watched plan.layout before)) in
@@ -57,17 +59,19 @@ kept_noted plan before row old mid new change kept step =
     }
 
 -- a row at a link that is not watched
-pub kept_unwatched : (plan : Plan) (before : List SeenRow) (row : SeenRow) (tally : Tally)
-    → is_watched plan.layout row.sighting.link ≡ false → Kept plan before tally → Kept plan (row ∷ before) tally
-kept_unwatched plan before row tally other kept =
+pub kept_unwatched : (earlier : Earlier) (plan : Plan) (before : List SeenRow) (row : SeenRow) (tally : Tally)
+    → is_watched plan.layout row.sighting.link ≡ false → Kept earlier plan before tally
+    → Kept earlier plan (row ∷ before) tally
+kept_unwatched earlier plan before row tally other kept =
     let same = sym (seen_other plan.layout row before other) in
     let R : List SeenRow → Type 0 = λ rows. IfSome tally.pending (Holds plan rows) in
     record {
       tallied = record {
         keeps = subst (λ past. Keeps plan past tally.watch) same kept.tallied.keeps;
-        requests = kept.tallied.requests ∙ ap (asked_in_past plan) same;
-        answered = kept.tallied.answered ∙ ap (answered_in_past plan) same;
-        covers = subst (λ rows. IfSome tally.coverage (Covers plan rows)) (sym (watched_other plan.layout row before other))
+        loads = kept.tallied.loads;
+        requests = kept.tallied.requests ∙ ap (asked_in_past (asked_in earlier.ended) plan) same;
+        answered = kept.tallied.answered ∙ ap (answered_in_past (answered_in earlier.ended) plan) same;
+        covers = subst (λ rows. IfSome tally.coverage (Covers plan (bins_in earlier.ended) rows)) (sym (watched_other plan.layout row before other))
             kept.tallied.covers;
       };
       pending = subst R (sym (watched_other plan.layout row before other)) kept.pending;

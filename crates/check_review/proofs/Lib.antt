@@ -2,8 +2,11 @@ pub mod Watched
 pub mod Ordered
 pub mod Unique
 pub mod Telling
+pub mod Mirrored
+pub mod Stretching
 pub mod Keeping
 pub mod Leaving
+pub mod Resetting
 pub mod Judging
 pub mod Counting
 pub mod Covering

@@ -6,6 +6,7 @@ use Rattle.check_coverage.specs.Flights.{ends_a_reply, ends_an_ask, is_counted}
 use Rattle.check_sides.specs.Plan.{Plan}
 use Rattle.check_watch.specs.Scene.{ended_by}
 use Rattle.check_sides.specs.Lawful.{what_is_seen}
+use Rattle.check_review.specs.Stretches.{Stretch, sightings_in}
 
 abbrev pub is_whole_ask : Seen → Bool
 is_whole_ask seen = ends_an_ask (ended_by seen)
@@ -18,14 +19,25 @@ abbrev pub one_more : Bool → ℕ → ℕ
 one_more true count = (count + 1) % 2 ^ 64
 one_more false count = count
 
--- how many whole requests these are
-abbrev pub asked_in_past : Plan → List Sighting → ℕ
-asked_in_past plan [] = 0
-asked_in_past plan (x ∷ past) =
-    one_more (is_counted plan.layout.links x.link && is_whole_ask (what_is_seen plan past x)) (asked_in_past plan past)
+-- how many whole requests there are with these, if there were so many before them
+abbrev pub asked_in_past : ℕ → Plan → List Sighting → ℕ
+asked_in_past before plan [] = before
+asked_in_past before plan (x ∷ past) =
+    one_more (is_counted plan.layout.links x.link && is_whole_ask (what_is_seen plan past x))
+    (asked_in_past before plan past)
 
--- how many whole replies these are
-abbrev pub answered_in_past : Plan → List Sighting → ℕ
-answered_in_past plan [] = 0
-answered_in_past plan (x ∷ past) =
-    one_more (is_counted plan.layout.links x.link && is_whole_reply (what_is_seen plan past x)) (answered_in_past plan past)
+-- how many whole replies
+abbrev pub answered_in_past : ℕ → Plan → List Sighting → ℕ
+answered_in_past before plan [] = before
+answered_in_past before plan (x ∷ past) =
+    one_more (is_counted plan.layout.links x.link && is_whole_reply (what_is_seen plan past x))
+    (answered_in_past before plan past)
+
+-- how many whole requests, and how many whole replies, are those of stretches, the latest first
+abbrev pub asked_in : List Stretch → ℕ
+asked_in [] = 0
+asked_in (stretch ∷ ended) = asked_in_past (asked_in ended) stretch.plan (sightings_in stretch)
+
+abbrev pub answered_in : List Stretch → ℕ
+answered_in [] = 0
+answered_in (stretch ∷ ended) = answered_in_past (answered_in ended) stretch.plan (sightings_in stretch)

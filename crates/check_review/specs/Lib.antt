@@ -1,4 +1,5 @@
 pub mod Order
+pub mod Stretches
 pub mod Count
 pub mod Told
 pub mod Verdict

@@ -8,6 +8,8 @@ use Rattle.check_review.specs.declared.stop.Stop.{Stop}
 use Rattle.check_review.specs.declared.stop.Stop.TheVariants as stops
 use Rattle.check_review.specs.declared.tally.Tally.{Tally}
 use Rattle.check_review.specs.Covered.{CoversStop}
+use Rattle.check_start.specs.Loads.{SystemPlan}
+use Rattle.check_review.specs.Stretches.{Earlier}
 use Rattle.check_review.specs.Order.{sightings_of}
 use Rattle.check_review.specs.Told.{AppendsTold}
 use Rattle.check_review.specs.Verdict.{IsStop, IsUnlawfulAfter, MayWantAfter, MayWantMemory, OfUnlawful}
@@ -16,34 +18,35 @@ use Rattle.check_review.specs.View.{HasTold, JudgeView, Judges, Tallied, TellsOn
 -- it judges the same crossbar, and is asked for the same
 pub record SameAsked (old new : Tally) : Type 0 where
   pub layout : new.watch.layout ≡ old.watch.layout
+  pub loads : new.loads ≡ old.loads
   pub trace : new.trace ≡ old.trace
   pub asked : is_some new.pending ≡ is_some old.pending
   pub covered : is_some new.coverage ≡ is_some old.coverage
 
 -- the beat of a row whose link is watched is judged after those before it, and what is told of it is appended to a text
 pub record TellsRow (row : SeenRow) (old new : Tally) (text more : List ℕ) (result : Result Unit Refusal) : Type 0 where
-  pub keeps : (plan : Plan) (before : List SeenRow) → Tallied plan before old
-      → OnOk result (Tallied plan (row ∷ before) new)
-  pub told : (plan : Plan) (before : List SeenRow) → Tallied plan before old
+  pub keeps : (earlier : Earlier) (plan : Plan) (before : List SeenRow) → Tallied earlier plan before old
+      → OnOk result (Tallied earlier plan (row ∷ before) new)
+  pub told : (earlier : Earlier) (plan : Plan) (before : List SeenRow) → Tallied earlier plan before old
       → OnOk result (AppendsTold old.trace plan (sightings_of plan.layout before)
       (sightings_of plan.layout (row ∷ before)) text more)
-  pub fault : (plan : Plan) (before : List SeenRow) → Tallied plan before old
-      → IfErr result (OfUnlawful (IsUnlawfulAfter plan before row))
+  pub fault : (earlier : Earlier) (plan : Plan) (before : List SeenRow) → Tallied earlier plan before old
+      → IfErr result (OfUnlawful (IsUnlawfulAfter (record { plan = plan; rows = before }) row))
   pub quiet : IfErr result (OfUnlawful (λ _. more ≡ text))
   pub uncovered : IfErr result (OfUnlawful (λ _. new.coverage ≡ old.coverage))
-  pub memory : (plan : Plan) (before : List SeenRow) → Tallied plan before old
-      → IfErr result (λ why. why ≡ refusal.Memory → MayWantAfter (wants old) plan before row)
+  pub memory : (earlier : Earlier) (plan : Plan) (before : List SeenRow) → Tallied earlier plan before old
+      → IfErr result (λ why. why ≡ refusal.Memory → MayWantAfter (wants old) (record { plan = plan; rows = before }) row)
 
 -- a row is the next of a file, and what is told of the rows before it is appended to a text
 pub record TakesRow (row : SeenRow) (old new : JudgeView) (text more : List ℕ) (result : Result Unit Stop) : Type 0 where
-  pub keeps : (plan : Plan) (file : List SeenRow) → Judges plan file old
+  pub keeps : (plan : SystemPlan) (file : List SeenRow) → Judges plan file old
       → OnOk result (Judges plan (file ++ row ∷ []) new)
-  pub told : (plan : Plan) (file : List SeenRow) (so_far : List ℕ) → HasTold plan file old so_far
+  pub told : (plan : SystemPlan) (file : List SeenRow) (so_far : List ℕ) → HasTold plan file old so_far
       → OnOk result (TellsOn plan (file ++ row ∷ []) new so_far text more)
-  pub stop : (plan : Plan) (file : List SeenRow) → Judges plan file old → IfErr result (IsStop plan file row)
-  pub stop_told : (plan : Plan) (file : List SeenRow) (so_far : List ℕ) → HasTold plan file old so_far
+  pub stop : (plan : SystemPlan) (file : List SeenRow) → Judges plan file old → IfErr result (IsStop plan file row)
+  pub stop_told : (plan : SystemPlan) (file : List SeenRow) (so_far : List ℕ) → HasTold plan file old so_far
       → IfErr result (TellsStop (is_traced old) plan file so_far text more)
-  pub stop_covered : (plan : Plan) (file : List SeenRow) → Judges plan file old
+  pub stop_covered : (plan : SystemPlan) (file : List SeenRow) → Judges plan file old
       → IfErr result (CoversStop plan file new.tally)
-  pub memory : (plan : Plan) (file : List SeenRow) → Judges plan file old
+  pub memory : (plan : SystemPlan) (file : List SeenRow) → Judges plan file old
       → IfErr result (λ why. why ≡ stops.Memory → MayWantMemory (wants old.tally) plan file)

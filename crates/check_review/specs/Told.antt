@@ -11,6 +11,7 @@ use Rattle.check_sides.specs.Lawful.{what_is_seen}
 use Rattle.check_watch.specs.declared.links.Links.{Links}
 use Rattle.check_lines.specs.Trace.{HasOwner, IsLine}
 use Rattle.check_coverage.specs.Flights.{is_counted}
+use Rattle.check_review.specs.Stretches.{Stretch, sightings_in}
 
 -- where messages of a link are counted, the source is somebody's
 abbrev pub IsCountedOfOwner : Links → List Owner → Link → ℕ → Type 0
@@ -32,6 +33,13 @@ IsTold trace plan (x ∷ past) text =
     × IsToldOf (trace && is_counted plan.layout.links x.link) plan.layout.owners x.link (source_of x.beat)
     (what_is_seen plan past x) more
 
+-- what is told of stretches, the latest of which is in front: what is told of those before it, and then what is told of it
+abbrev pub IsToldOfAll : Bool → List Stretch → List ℕ → Type 0
+IsToldOfAll trace [] text = text ≡ []
+IsToldOfAll trace (stretch ∷ ended) text =
+    (so_far : List ℕ) × (more : List ℕ) × (text ≡ so_far ++ more) × IsToldOfAll trace ended so_far
+    × IsTold trace stretch.plan (sightings_in stretch) more
+
 -- ---- for the proofs: a text that grows
 
 -- a text grew by what is told of a beat that ends this
@@ -44,3 +52,9 @@ pub record AppendsTold (trace : Bool) (plan : Plan) (past now : List Sighting) (
   pub more : List ℕ
   pub grown : new ≡ old ++ more
   pub told : (so_far : List ℕ) → IsTold trace plan past so_far → IsTold trace plan now (so_far ++ more)
+
+-- the same of the beats of stretches that crossed since others did
+pub record GrowsTold (trace : Bool) (past now : List Stretch) (old new : List ℕ) : Type 0 where
+  pub more : List ℕ
+  pub grown : new ≡ old ++ more
+  pub told : (so_far : List ℕ) → IsToldOfAll trace past so_far → IsToldOfAll trace now (so_far ++ more)

@@ -3,6 +3,7 @@ use Rattle.std.specs.Prelude.{◌≡◌, ◌⊎◌, ℕ, ◌%◌, ◌^◌, ◌<�
 use Rattle.std.specs.List.{AllByRecursion}
 use Rattle.check_sides.specs.Plan.{Plan}
 use Rattle.check_sides.specs.Lawful.{IsLawful, IsFirstFault, MayNeedMemory}
+use Rattle.check_start.specs.Loads.{SystemPlan}
 use Rattle.check_rows.specs.Row.{SeenRow}
 use Rattle.check_rows.specs.declared.row.Row.{Row}
 use Rattle.check_unanswered.specs.Began.{IsComplete, IsLeft, row_with}
@@ -13,23 +14,27 @@ use Rattle.check_review.specs.declared.stop.Refusal.TheVariants as refusal
 use Rattle.check_review.specs.declared.stop.Stop.{Stop}
 use Rattle.check_review.specs.declared.stop.Stop.TheVariants as stop
 use Rattle.check_review.specs.declared.stop.Unlawful.{Unlawful}
-use Rattle.check_review.specs.Order.{IsCrossing, IsLater, HasRowFault, is_watched, sightings_of, watched}
-use Rattle.check_review.specs.Count.{asked_in_past, answered_in_past}
-use Rattle.check_review.specs.Told.{AppendsTold, IsTold}
+use Rattle.check_review.specs.Order.{IsCrossing, IsLater, HasRowFault, is_watched}
+use Rattle.check_review.specs.Stretches.{Stretches, IsLawfulStretch, Stretch, sightings_in, stretches, watched_in}
+use Rattle.check_review.specs.Count.{asked_in, answered_in}
+use Rattle.check_review.specs.Told.{GrowsTold, IsToldOfAll}
 
--- the rows of a file, in the order in which their beats cross, are lawful at the links that are watched
-pub record IsLawfulFile (plan : Plan) (file : List SeenRow) : Type 0 where
+-- the rows of a file, in the order in which their beats cross, are lawful at the links that are watched: those since the last
+-- reset, and those of each stretch that a reset has ended
+pub record IsLawfulFile (plan : SystemPlan) (file : List SeenRow) : Type 0 where
   pub crossed : List SeenRow
   pub crossing : IsCrossing file crossed
-  pub lawful : IsLawful plan (sightings_of plan.layout crossed)
+  pub course : Stretches plan crossed
+  pub lawful : IsLawfulStretch course.now
 
 -- how many rows a file has, and how many whole requests and replies are seen of them
-pub record HasCounts (plan : Plan) (file : List SeenRow) (counts : VerdictCounts) : Type 0 where
+pub record HasCounts (plan : SystemPlan) (file : List SeenRow) (counts : VerdictCounts) : Type 0 where
   pub crossed : List SeenRow
   pub crossing : IsCrossing file crossed
+  pub course : Stretches plan crossed
   pub rows : counts.rows ≡ length file % 2 ^ 64
-  pub requests : counts.requests ≡ asked_in_past plan (sightings_of plan.layout crossed)
-  pub answered : counts.answered ≡ answered_in_past plan (sightings_of plan.layout crossed)
+  pub requests : counts.requests ≡ asked_in (stretches course)
+  pub answered : counts.answered ≡ answered_in (stretches course)
 
 -- what is answered of the requests that are left after some rows: nothing unless that is asked for; else that none is, or
 -- how many there are and the oldest
@@ -38,52 +43,58 @@ IsWhatIsLeft false plan rows left = left ≡ None
 IsWhatIsLeft true plan rows None = IsComplete plan rows
 IsWhatIsLeft true plan rows (Some left) = IsLeft plan rows left
 
--- the same after the rows of a file, in the order in which their beats cross, at the links that are watched
-pub record HasLeft (asked : Bool) (plan : Plan) (file : List SeenRow) (left : Option Left) : Type 0 where
+-- the same after the rows of a file, in the order in which their beats cross, at the links that are watched: a reset leaves
+-- nothing in flight
+pub record HasLeft (asked : Bool) (plan : SystemPlan) (file : List SeenRow) (left : Option Left) : Type 0 where
   pub crossed : List SeenRow
   pub crossing : IsCrossing file crossed
-  pub is : IsWhatIsLeft asked plan (watched plan.layout crossed) left
+  pub course : Stretches plan crossed
+  pub is : IsWhatIsLeft asked course.now.plan (watched_in course.now) left
 
 -- a row is named by all but its lanes
 abbrev pub IsNamedBy : SeenRow → Row → Type 0
 IsNamedBy row named = row_with named row.sighting.lanes ≡ row
 
--- the rows before are lawful, and this one is not, after them: it has this first fault
-pub record IsUnlawfulAfter (plan : Plan) (before : List SeenRow) (row : SeenRow) (found : Unlawful) : Type 0 where
+-- the rows of a stretch are lawful, and this one is not, after them: it has this first fault
+pub record IsUnlawfulAfter (stretch : Stretch) (row : SeenRow) (found : Unlawful) : Type 0 where
   pub named : IsNamedBy row found.row
-  pub watched : IsTrue (is_watched plan.layout row.sighting.link)
-  pub lawful : IsLawful plan (sightings_of plan.layout before)
-  pub unlawful : IsLawful plan (row.sighting ∷ sightings_of plan.layout before) → ⊥
-  pub fault : IsFirstFault plan (sightings_of plan.layout before) row.sighting found.fault
+  pub watched : IsTrue (is_watched stretch.plan.layout row.sighting.link)
+  pub lawful : IsLawfulStretch stretch
+  pub unlawful : IsLawful stretch.plan (row.sighting ∷ sightings_in stretch) → ⊥
+  pub fault : IsFirstFault stretch.plan (sightings_in stretch) row.sighting found.fault
 
 -- the row is the first one, in the order in which beats cross, that makes the file unlawful, with its first fault
-pub record IsFirstUnlawful (plan : Plan) (file : List SeenRow) (found : Unlawful) : Type 0 where
+pub record IsFirstUnlawful (plan : SystemPlan) (file : List SeenRow) (found : Unlawful) : Type 0 where
   pub row : SeenRow
+  pub beat : row.is_reset ≡ false
   pub after : List SeenRow
   pub before : List SeenRow
   pub crossing : IsCrossing file (after ++ row ∷ before)
-  pub is : IsUnlawfulAfter plan before row found
+  pub course : Stretches plan before
+  pub is : IsUnlawfulAfter course.now row found
 
 -- the rows of a file are lawful, and this is told of them
-pub record IsToldFile (trace : Bool) (plan : Plan) (file : List SeenRow) (text : List ℕ) : Type 0 where
+pub record IsToldFile (trace : Bool) (plan : SystemPlan) (file : List SeenRow) (text : List ℕ) : Type 0 where
   pub lawful : IsLawfulFile plan file
-  pub told : IsTold trace plan (sightings_of plan.layout lawful.crossed) text
+  pub told : IsToldOfAll trace (stretches lawful.course) text
 
 -- the row is the first one that makes a file unlawful, and this is told of those that cross before it
-pub record IsToldBefore (trace : Bool) (plan : Plan) (file : List SeenRow) (text : List ℕ) (found : Unlawful) : Type 0 where
+pub record IsToldBefore (trace : Bool) (plan : SystemPlan) (file : List SeenRow) (text : List ℕ) (found : Unlawful)
+    : Type 0 where
   pub first : IsFirstUnlawful plan file found
-  pub told : IsTold trace plan (sightings_of plan.layout first.before) text
+  pub told : IsToldOfAll trace (stretches first.course) text
 
 -- rows of a file are lawful that cross before all others of it, and this is told of them
-pub record IsToldPart (trace : Bool) (plan : Plan) (file : List SeenRow) (text : List ℕ) : Type 0 where
+pub record IsToldPart (trace : Bool) (plan : SystemPlan) (file : List SeenRow) (text : List ℕ) : Type 0 where
   pub after : List SeenRow
   pub before : List SeenRow
   pub crossing : IsCrossing file (after ++ before)
-  pub lawful : IsLawful plan (sightings_of plan.layout before)
-  pub told : IsTold trace plan (sightings_of plan.layout before) text
+  pub course : Stretches plan before
+  pub lawful : IsLawfulStretch course.now
+  pub told : IsToldOfAll trace (stretches course) text
 
 -- the rows of a file that are of an earlier time than its last are lawful, and this is told of them
-pub record IsToldEarlier (trace : Bool) (plan : Plan) (file : List SeenRow) (text : List ℕ) : Type 0 where
+pub record IsToldEarlier (trace : Bool) (plan : SystemPlan) (file : List SeenRow) (text : List ℕ) : Type 0 where
   pub time : ℕ
   pub part : IsToldPart trace plan file text
   pub now : AllByRecursion (λ row. row.time ≡ time) part.after
@@ -96,47 +107,51 @@ OfUnlawful P (refusal.Unlawful found) = P found
 OfUnlawful P refusal.Memory = Unit {0}
 
 -- the first unlawful row of rows that cross in this order, after those before
-pub record StopsAt (plan : Plan) (rows before : List SeenRow) (found : Unlawful) : Type 0 where
+pub record StopsAt (plan : SystemPlan) (rows before : List SeenRow) (found : Unlawful) : Type 0 where
   pub row : SeenRow
+  pub beat : row.is_reset ≡ false
   pub done : List SeenRow
   pub left : List SeenRow
   pub are : rows ≡ done ++ row ∷ left
-  pub is : IsUnlawfulAfter plan (reverse done ++ before) row found
+  pub course : Stretches plan (reverse done ++ before)
+  pub is : IsUnlawfulAfter course.now row found
 
 -- and a text grew by what is told of those that cross before it
-pub record StopsTelling (trace : Bool) (plan : Plan) (rows before : List SeenRow) (old new : List ℕ)
-    (found : Unlawful) : Type 0 where
+pub record StopsTelling (trace : Bool) (plan : SystemPlan) (rows before : List SeenRow) (course : Stretches plan before)
+    (old new : List ℕ) (found : Unlawful) : Type 0 where
   pub stops : StopsAt plan rows before found
-  pub told : AppendsTold trace plan (sightings_of plan.layout before) (sightings_of plan.layout (reverse stops.done ++ before)) old new
+  pub told : GrowsTold trace (stretches course) (stretches stops.course) old new
 
 -- ---- want of memory
 
--- memory can be refused to the lawful beat of a row after those before: for what is told or counted of it, if it
--- is to be, or for what is kept
-abbrev pub MayWantAfter : Bool → Plan → List SeenRow → SeenRow → Type 0
-MayWantAfter wants plan before row =
-    (wants ≡ true) ⊎ (IsLawful plan (row.sighting ∷ sightings_of plan.layout before)
-    × MayNeedMemory plan (sightings_of plan.layout before) row.sighting)
+-- memory can be refused to a reset; and to the lawful beat of a row after those of a stretch: for what is told or counted of
+-- it, if it is to be, or for what is kept
+abbrev pub MayWantAfter : Bool → Stretch → SeenRow → Type 0
+MayWantAfter wants stretch row =
+    (row.is_reset ≡ true) ⊎ ((wants ≡ true) ⊎ (IsLawful stretch.plan (row.sighting ∷ sightings_in stretch)
+    × MayNeedMemory stretch.plan (sightings_in stretch) row.sighting))
 
 -- it can be refused to one of these rows, which cross in this order after those before
-pub record MayWantAmong (wants : Bool) (plan : Plan) (rows before : List SeenRow) : Type 0 where
+pub record MayWantAmong (wants : Bool) (plan : SystemPlan) (rows before : List SeenRow) : Type 0 where
   pub row : SeenRow
   pub done : List SeenRow
   pub left : List SeenRow
   pub are : rows ≡ done ++ row ∷ left
-  pub is : MayWantAfter wants plan (reverse done ++ before) row
+  pub course : Stretches plan (reverse done ++ before)
+  pub is : MayWantAfter wants course.now row
 
 -- it can be refused to a row of a file, in the order in which beats cross
-pub record MayWantMemory (wants : Bool) (plan : Plan) (file : List SeenRow) : Type 0 where
+pub record MayWantMemory (wants : Bool) (plan : SystemPlan) (file : List SeenRow) : Type 0 where
   pub row : SeenRow
   pub after : List SeenRow
   pub before : List SeenRow
   pub crossing : IsCrossing file (after ++ row ∷ before)
-  pub is : MayWantAfter wants plan before row
+  pub course : Stretches plan before
+  pub is : MayWantAfter wants course.now row
 
 -- why a row is not taken after those of the file: it may not stand there, or it is of a later time, and they are not
 -- lawful, or memory was refused
-abbrev pub IsStop : Plan → List SeenRow → SeenRow → Stop → Type 0
+abbrev pub IsStop : SystemPlan → List SeenRow → SeenRow → Stop → Type 0
 IsStop plan file row (stop.Row fault) = HasRowFault file row fault
 IsStop plan file row (stop.Beat found) = IsLater file row × IsFirstUnlawful plan file found
 IsStop plan file row stop.Memory = IsLater file row

@@ -1,13 +1,16 @@
 //! The judge of the rows of a file.
-ghost use Rattle.std.specs.Prelude.{◌≡◌, ◌+◌, ◌%◌, ◌^◌, ◌<◌, ◌≤◌, ◌↔◌, ℕ, true, false, List, [], ◌∷◌, ◌++◌, Err, is_some, length, IsOk, IfOk, OnOk, OnErr, IfErr, IfSome};
+ghost use Rattle.std.specs.Prelude.{◌≡◌, ◌+◌, ◌%◌, ◌^◌, ◌<◌, ◌≤◌, ℕ, true, false, List, [], ◌∷◌, ◌++◌, Err, is_some, length, IsOk, IfOk, OnOk, OnErr, IfErr, IfSome};
+ghost use Rattle.std.specs.List.{AllByRecursion};
 ghost use Rattle.tl_text.specs.Text.{BeginsWith};
 ghost use Rattle.check_beats.specs.Bus.{bus_bytes};
-ghost use Rattle.check_sides.specs.Plan.{Plan, bus_of};
+ghost use Rattle.check_sides.specs.Plan.{bus_of};
 ghost use Rattle.check_sides.specs.View.{Keeps};
 ghost use Rattle.check_rows.specs.Moment.{HasFault, IsLink, IsMoment, Takes};
 ghost use Rattle.check_rows.specs.Row.{SeenRow, seen_row};
 ghost use Rattle.check_unanswered.specs.View.{Holds};
 ghost use Rattle.check_coverage.specs.View.{Covers};
+ghost use Rattle.check_start.specs.Loads.{AreLoadsOf, SystemPlan};
+ghost use Rattle.check_review.specs.Stretches.{Stretches};
 ghost use Rattle.check_review.specs.Covered.{AppendsCoverage, HasCovered, IsCoveredBefore, IsCoveredFile};
 ghost use Rattle.check_review.specs.Steps.{SameAsked, TakesRow};
 ghost use Rattle.check_review.specs.View.{HasTold, Judges, TellsOn, is_asked, is_covered, is_traced, wants};
@@ -19,6 +22,7 @@ use check_coverage::Coverage;
 use check_lines::VerdictCounts;
 use check_rows::{Moment, Row, RowFault};
 use check_sides::Watch;
+use check_start::Loads;
 use check_unanswered::Pending;
 use std::alloc::{AllocError, Global};
 use std::marker::Model;
@@ -47,17 +51,19 @@ impl Model for Judge {
 }
 
 impl Judge {
-    /// The judge of a capture, with a judge of beats that has seen none; it tells replies if they are traced. If it is
-    /// given the requests in flight, which are none yet, it says at the end which are left. If it is given what is
-    /// covered, which is nothing yet, it counts what the rows cover.
+    /// The judge of a capture, with a judge of beats that has seen none, and what a reset of the whole system loads; it
+    /// tells replies if they are traced. If it is given the requests in flight, which are none yet, it says at the end
+    /// which are left. If it is given what is covered, which is nothing yet, it counts what the rows cover.
     pub fn new(
         watch: Watch,
+        loads: Loads,
         trace: bool,
         pending: Option<Pending>,
         coverage: Option<Coverage>,
     ) -> Judge
-        ensures judges { (plan : Plan) → Keeps plan [] watch → IfSome pending (Holds plan [])
-            → IfSome coverage (Covers plan []) → Judges plan [] result }
+        requires { length loads ≡ length watch.layout.ports + 1 }
+        ensures judges { (plan : SystemPlan) → Keeps plan.begins [] watch → AreLoadsOf plan loads
+            → IfSome pending (Holds plan.begins []) → IfSome coverage (Covers plan.begins [] []) → Judges plan [] result }
         ensures layout { result.tally.watch.layout ≡ watch.layout }
         ensures trace { is_traced result ≡ trace }
         ensures asked { is_asked result ≡ is_some pending }
@@ -66,6 +72,7 @@ impl Judge {
         Judge {
             tally: Tally {
                 watch,
+                loads,
                 trace,
                 pending,
                 coverage,
@@ -82,7 +89,8 @@ impl Judge {
     fn put(&mut self, row: &Row, lanes: &[u8]) -> Result<bool, RowFault>
         requires link { IsLink row.now.link }
         requires lanes { bus_bytes row.now.bus ≤ length lanes.now }
-        requires bus { bus_of self.old.tally.watch.layout row.now.link ≤ bus_bytes row.now.bus }
+        requires bus { row.now.is_reset ≡ false
+            → bus_of self.old.tally.watch.layout row.now.link ≤ bus_bytes row.now.bus }
         ensures tally { self.new.tally ≡ self.old.tally }
         ensures was { IsMoment self.old.moment }
         ensures moment { IsMoment self.new.moment }
@@ -108,7 +116,8 @@ impl Judge {
     fn begin_moment(&mut self, row: &Row, lanes: &[u8])
         requires link { IsLink row.now.link }
         requires lanes { bus_bytes row.now.bus ≤ length lanes.now }
-        requires bus { bus_of self.old.tally.watch.layout row.now.link ≤ bus_bytes row.now.bus }
+        requires bus { row.now.is_reset ≡ false
+            → bus_of self.old.tally.watch.layout row.now.link ≤ bus_bytes row.now.bus }
         requires later { self.old.moment.time < row.now.time }
         ensures { self.new ≡ record {
           tally = self.old.tally;
@@ -130,7 +139,8 @@ impl Judge {
     ) -> Result<(), Stop>
         requires link { IsLink row.now.link }
         requires lanes { bus_bytes row.now.bus ≤ length lanes.now }
-        requires bus { bus_of self.old.tally.watch.layout row.now.link ≤ bus_bytes row.now.bus }
+        requires bus { row.now.is_reset ≡ false
+            → bus_of self.old.tally.watch.layout row.now.link ≤ bus_bytes row.now.bus }
         requires later { self.old.moment.time < row.now.time }
         ensures same { SameAsked self.old.tally self.new.tally }
         ensures row { TakesRow (seen_row row.now lanes.now) self.old self.new text.old.items text.new.items result }
@@ -155,7 +165,8 @@ impl Judge {
     ) -> Result<(), Stop>
         requires link { IsLink row.now.link }
         requires lanes { bus_bytes row.now.bus ≤ length lanes.now }
-        requires bus { bus_of self.old.tally.watch.layout row.now.link ≤ bus_bytes row.now.bus }
+        requires bus { row.now.is_reset ≡ false
+            → bus_of self.old.tally.watch.layout row.now.link ≤ bus_bytes row.now.bus }
         ensures same { SameAsked self.old.tally self.new.tally }
         ensures row { TakesRow (seen_row row.now lanes.now) self.old self.new text.old.items text.new.items result }
     {
@@ -171,14 +182,15 @@ impl Judge {
     fn go_on_quietly(&mut self, alloc: Global, row: &Row, lanes: &[u8]) -> Result<bool, AllocError>
         requires link { IsLink row.now.link }
         requires lanes { bus_bytes row.now.bus ≤ length lanes.now }
-        requires bus { bus_of self.old.tally.watch.layout row.now.link ≤ bus_bytes row.now.bus }
+        requires bus { row.now.is_reset ≡ false
+            → bus_of self.old.tally.watch.layout row.now.link ≤ bus_bytes row.now.bus }
         requires later { self.old.moment.time < row.now.time }
         ensures same { SameAsked self.old.tally self.new.tally }
-        ensures told { (plan : Plan) (file : List SeenRow) (so_far text : List ℕ) → HasTold plan file self.old so_far
+        ensures told { (plan : SystemPlan) (file : List SeenRow) (so_far text : List ℕ) → HasTold plan file self.old so_far
             → IfOk result (λ taken. taken ≡ true
             → TellsOn plan (file ++ seen_row row.now lanes.now ∷ []) self.new so_far text text) }
         ensures left { IfOk result (λ taken. taken ≡ false → self.new ≡ self.old) }
-        ensures memory { (plan : Plan) (file : List SeenRow) → Judges plan file self.old
+        ensures memory { (plan : SystemPlan) (file : List SeenRow) → Judges plan file self.old
             → IfErr result (λ _. MayWantMemory (wants self.old.tally) plan file) }
     {
         // asked for its clause that they are a moment
@@ -200,13 +212,14 @@ impl Judge {
     ) -> Result<bool, AllocError>
         requires link { IsLink row.now.link }
         requires lanes { bus_bytes row.now.bus ≤ length lanes.now }
-        requires bus { bus_of self.old.tally.watch.layout row.now.link ≤ bus_bytes row.now.bus }
+        requires bus { row.now.is_reset ≡ false
+            → bus_of self.old.tally.watch.layout row.now.link ≤ bus_bytes row.now.bus }
         ensures same { SameAsked self.old.tally self.new.tally }
-        ensures told { (plan : Plan) (file : List SeenRow) (so_far text : List ℕ) → HasTold plan file self.old so_far
+        ensures told { (plan : SystemPlan) (file : List SeenRow) (so_far text : List ℕ) → HasTold plan file self.old so_far
             → IfOk result (λ taken. taken ≡ true
             → TellsOn plan (file ++ seen_row row.now lanes.now ∷ []) self.new so_far text text) }
         ensures left { IfOk result (λ taken. taken ≡ false → self.new ≡ self.old) }
-        ensures memory { (plan : Plan) (file : List SeenRow) → Judges plan file self.old
+        ensures memory { (plan : SystemPlan) (file : List SeenRow) → Judges plan file self.old
             → IfErr result (λ _. MayWantMemory (wants self.old.tally) plan file) }
     {
         match self.put(row, lanes) {
@@ -219,29 +232,32 @@ impl Judge {
     /// Judges the last rows, and appends what is told of them: the counts of the file and what is left of its requests,
     /// if it is lawful.
     pub fn end(&mut self, alloc: Global, text: &mut Vec<u8>) -> Result<Ending, Refusal>
-        ensures lawful { (plan : Plan) (file : List SeenRow) → Judges plan file self.old
-            → (result ≡ Err Refusal.Memory → ⊥) → IsOk result ↔ IsLawfulFile plan file }
-        ensures counts { (plan : Plan) (file : List SeenRow) → Judges plan file self.old
+        ensures lawful { (plan : SystemPlan) (file : List SeenRow) → Judges plan file self.old
+            → OnOk result (IsLawfulFile plan file) }
+        ensures taken { (plan : SystemPlan) (file : List SeenRow) → Judges plan file self.old
+            → AllByRecursion (λ row. row.is_reset ≡ false) file → (result ≡ Err Refusal.Memory → ⊥)
+            → IsLawfulFile plan file → IsOk result }
+        ensures counts { (plan : SystemPlan) (file : List SeenRow) → Judges plan file self.old
             → IfOk result (λ ending. HasCounts plan file ending.counts) }
-        ensures left { (plan : Plan) (file : List SeenRow) → Judges plan file self.old
+        ensures left { (plan : SystemPlan) (file : List SeenRow) → Judges plan file self.old
             → IfOk result (λ ending. HasLeft (is_asked self.old) plan file ending.left) }
-        ensures fault { (plan : Plan) (file : List SeenRow) → Judges plan file self.old
+        ensures fault { (plan : SystemPlan) (file : List SeenRow) → Judges plan file self.old
             → IfErr result (OfUnlawful (IsFirstUnlawful plan file)) }
-        ensures told { (plan : Plan) (file : List SeenRow) (so_far : List ℕ) → HasTold plan file self.old so_far
+        ensures told { (plan : SystemPlan) (file : List SeenRow) (so_far : List ℕ) → HasTold plan file self.old so_far
             → OnOk result ((more : List ℕ) × (text.new.items ≡ text.old.items ++ more)
             × IsToldFile (is_traced self.old) plan file (so_far ++ more)) }
-        ensures fault_told { (plan : Plan) (file : List SeenRow) (so_far : List ℕ)
+        ensures fault_told { (plan : SystemPlan) (file : List SeenRow) (so_far : List ℕ)
             → HasTold plan file self.old so_far
             → IfErr result (OfUnlawful (λ found. (more : List ℕ)
             × (text.new.items ≡ text.old.items ++ more)
             × IsToldBefore (is_traced self.old) plan file (so_far ++ more) found)) }
         ensures layout { self.new.tally.watch.layout ≡ self.old.tally.watch.layout }
         ensures covered { is_covered self.new ≡ is_covered self.old }
-        ensures covers { (plan : Plan) (file : List SeenRow) → Judges plan file self.old
+        ensures covers { (plan : SystemPlan) (file : List SeenRow) → Judges plan file self.old
             → OnOk result (IsCoveredFile plan file self.new.tally) }
-        ensures fault_covers { (plan : Plan) (file : List SeenRow) → Judges plan file self.old
+        ensures fault_covers { (plan : SystemPlan) (file : List SeenRow) → Judges plan file self.old
             → IfErr result (OfUnlawful (IsCoveredBefore plan file self.new.tally)) }
-        ensures memory { (plan : Plan) (file : List SeenRow) → Judges plan file self.old
+        ensures memory { (plan : SystemPlan) (file : List SeenRow) → Judges plan file self.old
             → IfErr result (λ why. why ≡ Refusal.Memory → MayWantMemory (wants self.old.tally) plan file) }
     {
         if let Err(refusal) = self.tally.judge_rows(alloc, &self.moment, text) {
@@ -257,11 +273,13 @@ impl Judge {
             left: self.tally.left(),
         })
     }
+
     /// Appends the text of what the rows have covered that were judged, if that is asked for. If memory is refused, the text
     /// begins with what it was.
     pub fn append_coverage(&self, text: &mut Vec<u8>) -> Result<(), AllocError>
-        ensures told { (plan : Plan) (crossed : List SeenRow) → HasCovered plan crossed self.now.tally
-            → OnOk result (AppendsCoverage (is_covered self.now) plan crossed text.old.items text.new.items) }
+        ensures told { (plan : SystemPlan) (crossed : List SeenRow) (course : Stretches plan crossed)
+            → HasCovered plan crossed course self.now.tally
+            → OnOk result (AppendsCoverage (is_covered self.now) plan crossed course text.old.items text.new.items) }
         ensures err { OnErr result (BeginsWith text.old.items text.new.items) }
     {
         match &self.tally.coverage {

@@ -5,8 +5,9 @@
 //! the order in which they stand there. It judges the beats of one time once a row of a later time comes, in the order in
 //! which they cross; [`Judge::end`] judges the last ones. What is promised is said of the whole file so far
 //! (`specs/Verdict.antt`): its rows in crossing order are lawful at the links that are watched, or [`Unlawful`] names the
-//! first one that makes them unlawful, with its first fault. Give no more rows to a judge that has answered an error: of it
-//! only what it counted before an unlawful row is promised.
+//! first one that makes them unlawful, with its first fault. A row of a reset ends a stretch of rows. The next one is judged
+//! by what the reset has loaded or left (`specs/Stretches.antt`). Give no more rows to a judge that has answered an error: of
+//! it only what it counted before an unlawful row is promised.
 //!
 //! A judge that is given the requests in flight ([`check_unanswered::Pending`]) says at the end of a lawful file which of
 //! them are left. If replies are traced, what is reported of rows is appended to a text as they are judged: a line for each

@@ -1,6 +1,7 @@
 //! Beats judged in the order in which they cross, and what they end, counted.
-ghost use Rattle.std.specs.Prelude.{◌≡◌, ◌≤◌, ℕ, ◌&&◌, false, true, List, ◌∷◌, ◌++◌, All, length, reverse, is_some, OnOk, IfOk, IfErr, IfSome};
+ghost use Rattle.std.specs.Prelude.{◌≡◌, ◌+◌, ◌≤◌, ℕ, ◌&&◌, false, true, List, ◌∷◌, ◌++◌, [], All, length, reverse, is_some, IsTrue, OnOk, IfOk, IfErr, IfSome};
 ghost use Rattle.check_watch.specs.Plan.{Sighting, seen_at, source_of};
+ghost use Rattle.check_sides.specs.Groups.{are_apart};
 ghost use Rattle.check_sides.specs.Lawful.{IsLawful};
 ghost use Rattle.check_sides.specs.Pending.{IsChange};
 ghost use Rattle.check_sides.specs.Plan.{CanCross, Plan, HasLink, bus_of};
@@ -11,19 +12,26 @@ ghost use Rattle.check_unanswered.specs.View.{Holds};
 ghost use Rattle.check_coverage.specs.Flights.{end_of};
 ghost use Rattle.check_coverage.specs.View.{Covers};
 ghost use Rattle.check_coverage.specs.Flights.{ends_a_reply, ends_an_ask, is_counted};
+ghost use Rattle.check_coverage.specs.Bins.{bins};
+ghost use Rattle.check_coverage.specs.Mirrors.{HaveSameMirrors};
+ghost use Rattle.check_coverage.specs.declared.bin.Bin.{Bin};
+ghost use Rattle.check_start.specs.Loads.{SystemPlan};
 ghost use Rattle.check_review.specs.Count.{one_more};
+ghost use Rattle.check_review.specs.Stretches.{Stretches, Earlier};
 ghost use Rattle.check_review.specs.Order.{sightings_of};
 ghost use Rattle.check_review.specs.Steps.{SameAsked, TellsRow};
 ghost use Rattle.check_review.specs.Told.{AppendsTold, AppendsToldOf, IsCountedOfOwner};
-ghost use Rattle.check_review.specs.View.{HasLanes, Kept, Tallied, wants};
+ghost use Rattle.check_review.specs.View.{HasLanes, KeepsOn, Kept, KeptIn, Tallied, wants};
 ghost use Rattle.check_review.specs.Verdict.{IsUnlawfulAfter, IsWhatIsLeft, MayWantAfter, MayWantAmong, OfUnlawful, StopsTelling};
 ghost use Rattle.check_review.specs.Covered.{StopsCovering};
 
 use crate::stop::{Refusal, Unlawful};
 use check_coverage::{Coverage, is_counted};
 use check_lines::push_answer;
+use check_memory::Slave;
 use check_rows::{Moment, Row};
 use check_sides::{Beat, Change, Ended, Link, Links, Seen, StepError, Watch};
+use check_start::Loads;
 use check_unanswered::{Left, Pending};
 use std::alloc::{AllocError, Global};
 
@@ -46,6 +54,8 @@ pub fn count_end(links: Links, link: Link, end: Ended, requests: &mut u64, answe
 #[derive(Drop)]
 pub struct Tally {
     pub watch: Watch,
+    /// What a reset of the whole system loads.
+    pub loads: Loads,
     /// Whether replies are told.
     pub trace: bool,
     /// The requests in flight, if it is asked which are left at the end.
@@ -60,6 +70,7 @@ impl Tally {
     /// Counts what a beat ends at a link.
     fn count(&mut self, link: Link, end: Ended)
         ensures watch { self.new.watch ≡ self.old.watch }
+        ensures loads { self.new.loads ≡ self.old.loads }
         ensures trace { self.new.trace ≡ self.old.trace }
         ensures pending { self.new.pending ≡ self.old.pending }
         ensures coverage { self.new.coverage ≡ self.old.coverage }
@@ -79,11 +90,11 @@ impl Tally {
         requires { HasLink self.old.watch.layout row.now.link }
         ensures rest { self.new ≡ record self.old { coverage = self.new.coverage } }
         ensures covered { is_some self.new.coverage ≡ is_some self.old.coverage }
-        ensures covers { (plan : Plan) (rows : List SeenRow) (lanes : List ℕ)
-            → IfSome self.old.coverage (Covers plan rows)
+        ensures covers { (plan : Plan) (earlier : List Bin) (rows : List SeenRow) (lanes : List ℕ)
+            → IfSome self.old.coverage (Covers plan earlier rows)
             → Keeps plan (beats_of (row_with row.now lanes ∷ rows)) self.old.watch
             → end ≡ end_of plan rows (row_with row.now lanes)
-            → OnOk result (IfSome self.new.coverage (Covers plan (row_with row.now lanes ∷ rows))) }
+            → OnOk result (IfSome self.new.coverage (Covers plan earlier (row_with row.now lanes ∷ rows))) }
         ensures memory { IfErr result (λ _. is_some self.old.coverage ≡ true) }
     {
         match &mut self.coverage {
@@ -124,11 +135,13 @@ impl Tally {
         requires { CanCross self.old.watch.layout row.now.link lanes.now }
         ensures same { SameAsked self.old self.new }
         ensures pending { self.new.pending ≡ self.old.pending }
-        ensures keeps { (plan : Plan) (before : List SeenRow) → Tallied plan before self.old
-            → IfOk result (λ taken. taken ≡ true → Tallied plan (row_with row.now lanes.now ∷ before) self.new) }
+        ensures keeps { (earlier : Earlier) (plan : Plan) (before : List SeenRow) → Tallied earlier plan before self.old
+            → IfOk result (λ taken. taken ≡ true
+            → Tallied earlier plan (row_with row.now lanes.now ∷ before) self.new) }
         ensures refused { IfOk result (λ taken. taken ≡ false → self.new ≡ self.old) }
-        ensures memory { (plan : Plan) (before : List SeenRow) → Tallied plan before self.old
-            → IfErr result (λ _. MayWantAfter (wants self.old) plan before (row_with row.now lanes.now)) }
+        ensures memory { (earlier : Earlier) (plan : Plan) (before : List SeenRow) → Tallied earlier plan before self.old
+            → IfErr result (λ _. MayWantAfter (wants self.old) (record { plan = plan; rows = before })
+            (row_with row.now lanes.now)) }
     {
         match self
             .watch
@@ -219,9 +232,11 @@ impl Tally {
     /// Notes what the beat of a row that was judged did to the requests in flight, if these are asked for.
     fn note(&mut self, change: Option<Change>, row: &Row)
         ensures layout { self.new.watch.layout ≡ self.old.watch.layout }
+        ensures loads { self.new.loads ≡ self.old.loads }
         ensures trace { self.new.trace ≡ self.old.trace }
         ensures coverage { self.new.coverage ≡ self.old.coverage }
-        ensures tallied { (plan : Plan) (before : List SeenRow) → Tallied plan before self.old → Tallied plan before self.new }
+        ensures tallied { (earlier : Earlier) (plan : Plan) (before : List SeenRow) → Tallied earlier plan before self.old
+            → Tallied earlier plan before self.new }
         ensures asked { is_some self.new.pending ≡ is_some self.old.pending }
         ensures holds { (plan : Plan) (rows : List SeenRow) (lanes : List ℕ)
             → IfSome self.old.pending (Holds plan rows)
@@ -246,8 +261,62 @@ impl Tally {
         }
     }
 
+    /// What a reset loads into the slaves of ports' links that are judged each by itself; nothing if none is.
+    fn own_loads(&self, alloc: Global) -> Result<Vec<Option<Slave>>, AllocError>
+        ensures { IfOk result (λ own. IsTrue (are_apart self.now.watch.layout.links) → own.items ≡ self.now.loads) }
+    {
+        match self.watch.links() {
+            Links::Each => self.loads.make(alloc),
+            Links::Both | Links::Masters | Links::Ports => Ok(Vec::new(alloc)),
+        }
+    }
+
+    /// After a reset no request is in flight, if these are asked for.
+    fn reset_pending(&mut self)
+        ensures rest { self.new ≡ record self.old { pending = self.new.pending } }
+        ensures asked { is_some self.new.pending ≡ is_some self.old.pending }
+        ensures holds { (plan later : Plan) (rows : List SeenRow) → later.layout ≡ plan.layout
+            → IfSome self.old.pending (Holds plan rows) → IfSome self.new.pending (Holds later []) }
+    {
+        match &mut self.pending {
+            Some(pending) => pending.reset(),
+            None => {}
+        }
+    }
+
+    /// After a reset what was covered is kept, if it is asked for.
+    fn reset_coverage(&mut self)
+        ensures rest { self.new ≡ record self.old { coverage = self.new.coverage } }
+        ensures covered { is_some self.new.coverage ≡ is_some self.old.coverage }
+        ensures covers { (plan later : Plan) (earlier : List Bin) (rows : List SeenRow) → HaveSameMirrors plan later
+            → IfSome self.old.coverage (Covers plan earlier rows)
+            → IfSome self.new.coverage (Covers later (bins plan rows ++ earlier) []) }
+    {
+        match &mut self.coverage {
+            Some(coverage) => coverage.reset(),
+            None => {}
+        }
+    }
+
+    /// The beats that are judged from now on are those after a reset of the whole system, by what it is said that is
+    /// loaded. Memory may be refused: then nothing is promised of what is kept from then on.
+    fn reset(&mut self, alloc: Global) -> Result<(), AllocError>
+        requires { length self.old.loads ≡ length self.old.watch.layout.ports + 1 }
+        ensures same { SameAsked self.old self.new }
+        ensures keeps { (system : SystemPlan) (before : List SeenRow) (course : Stretches system before) (row : SeenRow)
+            (text : List ℕ) → row.is_reset ≡ true → KeptIn system before course self.old
+            → OnOk result (KeepsOn system before course (row ∷ before) self.old.trace self.new text text) }
+    {
+        let loaded = self.loads.make(alloc)?;
+        let own = self.own_loads(alloc)?;
+        self.watch.reset(alloc, loaded, own)?;
+        self.reset_pending();
+        self.reset_coverage();
+        Ok(())
+    }
+
     /// Judges the beat of a row after those before it, if its link is watched, and appends what is told of it.
-    fn judge_row(
+    fn judge_beat(
         &mut self,
         alloc: Global,
         row: &Row,
@@ -256,18 +325,19 @@ impl Tally {
     ) -> Result<(), Refusal>
         requires { bus_of self.old.watch.layout row.now.link ≤ length lanes.now }
         ensures same { SameAsked self.old self.new }
-        ensures keeps { (plan : Plan) (before : List SeenRow) → Kept plan before self.old
-            → OnOk result (Kept plan (row_with row.now lanes.now ∷ before) self.new) }
-        ensures told { (plan : Plan) (before : List SeenRow) → Kept plan before self.old
+        ensures keeps { (earlier : Earlier) (plan : Plan) (before : List SeenRow) → Kept earlier plan before self.old
+            → OnOk result (Kept earlier plan (row_with row.now lanes.now ∷ before) self.new) }
+        ensures told { (earlier : Earlier) (plan : Plan) (before : List SeenRow) → Kept earlier plan before self.old
             → OnOk result (AppendsTold self.old.trace plan (sightings_of plan.layout before)
             (sightings_of plan.layout (row_with row.now lanes.now ∷ before)) text.old.items text.new.items) }
-        ensures fault { (plan : Plan) (before : List SeenRow) → Kept plan before self.old
-            → IfErr result (OfUnlawful (IsUnlawfulAfter plan before (row_with row.now lanes.now))) }
+        ensures fault { (earlier : Earlier) (plan : Plan) (before : List SeenRow) → Kept earlier plan before self.old
+            → IfErr result (OfUnlawful (IsUnlawfulAfter (record { plan = plan; rows = before })
+            (row_with row.now lanes.now))) }
         ensures quiet { IfErr result (OfUnlawful (λ _. text.new.items ≡ text.old.items)) }
         ensures uncovered { IfErr result (OfUnlawful (λ _. self.new.coverage ≡ self.old.coverage)) }
-        ensures memory { (plan : Plan) (before : List SeenRow) → Kept plan before self.old
+        ensures memory { (earlier : Earlier) (plan : Plan) (before : List SeenRow) → Kept earlier plan before self.old
             → IfErr result (λ why. why ≡ Refusal.Memory
-            → MayWantAfter (wants self.old) plan before (row_with row.now lanes.now)) }
+            → MayWantAfter (wants self.old) (record { plan = plan; rows = before }) (row_with row.now lanes.now)) }
     {
         if !self.watch.watches(row.link) {
             return Ok(());
@@ -280,16 +350,51 @@ impl Tally {
         Ok(())
     }
 
+    /// Judges the beat of a row, or a reset, after the rows before it, and appends what is told of it.
+    fn judge_row(
+        &mut self,
+        alloc: Global,
+        row: &Row,
+        lanes: &[u8],
+        text: &mut Vec<u8>,
+    ) -> Result<(), Refusal>
+        requires lanes { row.now.is_reset ≡ false → bus_of self.old.watch.layout row.now.link ≤ length lanes.now }
+        requires loads { length self.old.loads ≡ length self.old.watch.layout.ports + 1 }
+        ensures same { SameAsked self.old self.new }
+        ensures keeps { (system : SystemPlan) (before : List SeenRow) (course : Stretches system before)
+            → KeptIn system before course self.old → OnOk result (KeepsOn system before course
+            (row_with row.now lanes.now ∷ before) self.old.trace self.new text.old.items text.new.items) }
+        ensures beat { IfErr result (OfUnlawful (λ _. row.now.is_reset ≡ false)) }
+        ensures fault { (system : SystemPlan) (before : List SeenRow) (course : Stretches system before)
+            → KeptIn system before course self.old
+            → IfErr result (OfUnlawful (IsUnlawfulAfter course.now (row_with row.now lanes.now))) }
+        ensures quiet { IfErr result (OfUnlawful (λ _. text.new.items ≡ text.old.items)) }
+        ensures uncovered { IfErr result (OfUnlawful (λ _. self.new.coverage ≡ self.old.coverage)) }
+        ensures memory { (system : SystemPlan) (before : List SeenRow) (course : Stretches system before)
+            → KeptIn system before course self.old → IfErr result (λ why. why ≡ Refusal.Memory
+            → MayWantAfter (wants self.old) course.now (row_with row.now lanes.now)) }
+    {
+        if !row.is_reset {
+            return self.judge_beat(alloc, row, lanes, text);
+        }
+        match self.reset(alloc) {
+            Ok(()) => Ok(()),
+            Err(AllocError) => Err(Refusal::Memory),
+        }
+    }
+
     /// Takes the beat of a row after those before it, if it is lawful or its link is not watched, notes what it does to
     /// the requests in flight, and tells nothing: whether it did.
     fn pass_row(&mut self, alloc: Global, row: &Row, lanes: &[u8]) -> Result<bool, AllocError>
         requires { bus_of self.old.watch.layout row.now.link ≤ length lanes.now }
         ensures same { SameAsked self.old self.new }
-        ensures keeps { (plan : Plan) (before : List SeenRow) → Kept plan before self.old
-            → IfOk result (λ passed. passed ≡ true → Kept plan (row_with row.now lanes.now ∷ before) self.new) }
+        ensures keeps { (earlier : Earlier) (plan : Plan) (before : List SeenRow) → Kept earlier plan before self.old
+            → IfOk result (λ passed. passed ≡ true
+            → Kept earlier plan (row_with row.now lanes.now ∷ before) self.new) }
         ensures refused { IfOk result (λ passed. passed ≡ false → self.new ≡ self.old) }
-        ensures memory { (plan : Plan) (before : List SeenRow) → Kept plan before self.old
-            → IfErr result (λ _. MayWantAfter (wants self.old) plan before (row_with row.now lanes.now)) }
+        ensures memory { (earlier : Earlier) (plan : Plan) (before : List SeenRow) → Kept earlier plan before self.old
+            → IfErr result (λ _. MayWantAfter (wants self.old) (record { plan = plan; rows = before })
+            (row_with row.now lanes.now)) }
     {
         if !self.watch.watches(row.link) {
             return Ok(true);
@@ -303,50 +408,52 @@ impl Tally {
     }
 
     /// Takes the beats of the rows of a moment after those before them, if nothing is told of them, they are lawful,
-    /// and there is but one: whether it did. Nothing changes if it did not. It costs less than [`Tally::judge_rows`],
-    /// which has room for a fault.
+    /// and there is but one, and no reset: whether it did. Nothing changes if it did not. It costs less than
+    /// [`Tally::judge_rows`], which has room for a fault.
     pub fn pass_rows(&mut self, alloc: Global, moment: &Moment) -> Result<bool, AllocError>
         requires { All (HasLanes self.old.watch.layout) moment.now.rows }
         ensures same { SameAsked self.old self.new }
-        ensures keeps { (plan : Plan) (before : List SeenRow) → Kept plan before self.old
-            → IfOk result (λ passed. passed ≡ true → Kept plan (reverse moment.now.rows ++ before) self.new) }
-        ensures told { (plan : Plan) (before : List SeenRow) (text : List ℕ) → Kept plan before self.old
-            → IfOk result (λ passed. passed ≡ true → AppendsTold self.old.trace plan (sightings_of plan.layout before)
-            (sightings_of plan.layout (reverse moment.now.rows ++ before)) text text) }
+        ensures keeps { (system : SystemPlan) (before : List SeenRow) (course : Stretches system before) (text : List ℕ)
+            → KeptIn system before course self.old → IfOk result (λ passed. passed ≡ true
+            → KeepsOn system before course (reverse moment.now.rows ++ before) self.old.trace self.new text text) }
         ensures refused { IfOk result (λ passed. passed ≡ false → self.new ≡ self.old) }
-        ensures memory { (plan : Plan) (before : List SeenRow) → Kept plan before self.old
-            → IfErr result (λ _. MayWantAmong (wants self.old) plan moment.now.rows before) }
+        ensures memory { (system : SystemPlan) (before : List SeenRow) (course : Stretches system before)
+            → KeptIn system before course self.old
+            → IfErr result (λ _. MayWantAmong (wants self.old) system moment.now.rows before) }
     {
         if self.trace || moment.len() != 1 {
             return Ok(false);
         }
         let (row, lanes) = moment.get(0);
+        if row.is_reset {
+            return Ok(false);
+        }
         self.pass_row(alloc, row, lanes)
     }
 
-    /// Judges the beats of the rows of a moment after those before them, in the order in which they cross, up to the
-    /// first that is not lawful, and appends what is told of them.
+    /// Judges the rows of a moment after those before them, in the order in which they cross, up to the first that is not
+    /// lawful, and appends what is told of them.
     pub fn judge_rows(
         &mut self,
         alloc: Global,
         moment: &Moment,
         text: &mut Vec<u8>,
     ) -> Result<(), Refusal>
-        requires { All (HasLanes self.old.watch.layout) moment.now.rows }
+        requires lanes { All (HasLanes self.old.watch.layout) moment.now.rows }
+        requires loads { length self.old.loads ≡ length self.old.watch.layout.ports + 1 }
         ensures same { SameAsked self.old self.new }
-        ensures keeps { (plan : Plan) (before : List SeenRow) → Kept plan before self.old
-            → OnOk result (Kept plan (reverse moment.now.rows ++ before) self.new) }
-        ensures told { (plan : Plan) (before : List SeenRow) → Kept plan before self.old
-            → OnOk result (AppendsTold self.old.trace plan (sightings_of plan.layout before)
-            (sightings_of plan.layout (reverse moment.now.rows ++ before)) text.old.items text.new.items) }
-        ensures fault { (plan : Plan) (before : List SeenRow) → Kept plan before self.old
-            → IfErr result (OfUnlawful (StopsTelling self.old.trace plan moment.now.rows before
-            text.old.items text.new.items)) }
-        ensures fault_covered { (plan : Plan) (before : List SeenRow) → Kept plan before self.old
-            → IfErr result (OfUnlawful (StopsCovering plan moment.now.rows before self.new)) }
-        ensures memory { (plan : Plan) (before : List SeenRow) → Kept plan before self.old
-            → IfErr result (λ why. why ≡ Refusal.Memory
-            → MayWantAmong (wants self.old) plan moment.now.rows before) }
+        ensures keeps { (system : SystemPlan) (before : List SeenRow) (course : Stretches system before)
+            → KeptIn system before course self.old → OnOk result (KeepsOn system before course
+            (reverse moment.now.rows ++ before) self.old.trace self.new text.old.items text.new.items) }
+        ensures fault { (system : SystemPlan) (before : List SeenRow) (course : Stretches system before)
+            → KeptIn system before course self.old → IfErr result (OfUnlawful (StopsTelling self.old.trace system
+            moment.now.rows before course text.old.items text.new.items)) }
+        ensures fault_covered { (system : SystemPlan) (before : List SeenRow) (course : Stretches system before)
+            → KeptIn system before course self.old
+            → IfErr result (OfUnlawful (StopsCovering system moment.now.rows before self.new)) }
+        ensures memory { (system : SystemPlan) (before : List SeenRow) (course : Stretches system before)
+            → KeptIn system before course self.old → IfErr result (λ why. why ≡ Refusal.Memory
+            → MayWantAmong (wants self.old) system moment.now.rows before) }
     {
         for place in 0..moment.len() {
             let (row, lanes) = moment.get(place);

@@ -25,7 +25,7 @@ use Rattle.check_rows.specs.declared.columns.RowChannel.TheVariants as channel
 use Rattle.check_rows.specs.declared.fault.RowFault.{RowFault}
 use Rattle.check_rows.specs.Column.{column_parts}
 use Rattle.check_rows.specs.Front.{BeginsWithNumber, FirstIsNumber, FirstSpells, LastSpell}
-use Rattle.check_rows.specs.Row.{SeenBeat, ask_of_words, asks_for_mark, beat_of, reply_of_words, row_of}
+use Rattle.check_rows.specs.Row.{SeenBeat, ask_of_words, asks_for_mark, beat_of, reply_of_words, row_or_reset, row_of}
 use Rattle.check_rows.specs.Buses.{bus_of_link}
 use Rattle.check_rows.specs.declared.columns.RowChannel.{RowChannel}
 use Rattle.check_watch.specs.Plan.{seen_at}
@@ -439,16 +439,17 @@ reply-spells bus text opcode param size source lanes denied corrupt t₁ t₂ t�
     }
 
 -- three columns and the nine of a beat are a row
-pub row-spells : (masters ports : List Bus) (line time : ℕ) (link : Link) (channel : RowChannel) (bus : Bus)
+pub row-spells : (resets : Bool) (masters ports : List Bus) (line time : ℕ) (link : Link) (channel : RowChannel) (bus : Bus)
     (seen : SeenBeat) (text t₁ t₂ t₃ : List ℕ) → FirstSpells (decimal_of (2 ^ 64 - 1)) text time t₁
     → FirstSpells (link_of masters ports) t₁ link t₂ → FirstSpells channel_of t₂ channel t₃
     → bus_bytes bus ≡ bus_of_link masters ports link → LastSpell (beat_of (bus_bytes bus) channel) t₃ seen
-    → row_of masters ports line (column_parts text) ≡ Ok (record {
+    → row_of resets masters ports line (column_parts text) ≡ Ok (record {
       line = line;
       time = time;
+      is_reset = false;
       sighting = seen_at link seen.beat seen.lanes.known seen.lanes.bytes;
     })
-unfolding row_of field_at
-row-spells masters ports line time link channel bus seen text t₁ t₂ t₃ h₁ h₂ h₃ bytes h =
+unfolding row_of row_or_reset field_at
+row-spells resets masters ports line time link channel bus seen text t₁ t₂ t₃ h₁ h₂ h₃ bytes h =
     let all : column_parts text ≡ h₁.word ∷ h₂.word ∷ h₃.word ∷ column_parts t₃ = rw (h₁.parts, h₂.parts, h₃.parts) refl in
     rw (all, h.nine, h₁.spells, h₂.spells, h₃.spells, ← bytes, h.spells h₁.word h₂.word h₃.word) refl

@@ -1,5 +1,5 @@
 -- A row put in at its place among rows that cross one after the other.
-use Rattle.std.proofs.Common.{◌≡◌, ◌∙◌, ℕ, zero, suc, ◌+◌, ◌-◌, ◌<◌, ◌≤◌, lit≤, List, [], ◌∷◌, ◌++◌, take, drop, length, map, get_or, All, Contains, arith, refl, sym, subst, ap}
+use Rattle.std.proofs.Common.{◌≡◌, ◌∙◌, ℕ, zero, suc, Bool, true, false, ◌+◌, ◌-◌, ◌<◌, ◌≤◌, lit≤, List, [], ◌∷◌, ◌++◌, take, drop, length, map, get_or, All, Contains, arith, refl, sym, subst, ap}
 use Rattle.std.specs.List.{insert}
 use Rattle.std.proofs.lemmas.List.{drop-append-le, drop_at, get_or-map, length-append, length-drop, length-map, length-take-le, take-append-le, take-take}
 use Rattle.std.proofs.lemmas.List.Elements.{All-append, All-drop, All-take}
@@ -7,7 +7,7 @@ use Rattle.check_beats.specs.Bus.{bus_bytes}
 use Rattle.check_beats.specs.declared.bus.Bus.{Bus}
 use Rattle.check_beats.specs.declared.bus.Bus.TheVariants.{One, Two, Four, Eight, Sixteen, ThirtyTwo, SixtyFour}
 use Rattle.check_watch.specs.Plan.{seen_at}
-use Rattle.check_rows.specs.Moment.{Cross, HasBeat, IsGap, AreLanesKept, IsKeptGap, IsLink, IsMoment, Moment, kept_place, kept_row, moment_of, place_at, place_of_row}
+use Rattle.check_rows.specs.Moment.{Cross, HasBeat, IsGap, AreLanesKept, IsKeptGap, IsLink, IsMoment, Moment, kept_place, kept_row, moment_of, place_at, place_by, place_of_row}
 use Rattle.check_rows.specs.Row.{SeenRow, seen_row}
 use Rattle.check_rows.specs.declared.moment.Kept.{Kept}
 use Rattle.check_rows.specs.declared.row.Row.{Row}
@@ -16,16 +16,21 @@ use Rattle.check_watch.specs.declared.beat.Beat.TheVariants.{A, D}
 use Rattle.check_watch.specs.declared.beat.Link.{Link}
 use Rattle.check_watch.specs.declared.beat.Link.TheVariants.{Master, Port}
 
--- a row's place is one of 638: two channels of 64 masters and of 255 ports
+-- a beat's place is one of 638: two channels of 64 masters and of 255 ports
 inside-at : (link : Link) (beat : Beat) → IsLink link → place_at link beat < 638
 inside-at (Master n) (A b) h = omega (arith, h)
 inside-at (Port n) (A b) h = omega (arith, h)
 inside-at (Port n) (D b) h = omega (arith, h)
 inside-at (Master n) (D b) h = omega (arith, h)
 
-all-inside : (rows : List SeenRow) → All (λ row. IsLink row.sighting.link) rows → All (λ row. place_of_row row < 638) rows
+-- a row's is one of 639: that of a reset stands before those of beats
+inside-by : (is_reset : Bool) (link : Link) (beat : Beat) → IsLink link → place_by is_reset link beat < 639
+inside-by true link beat h = omega arith
+inside-by false link beat h = let inside = inside-at link beat h in omega (arith, inside)
+
+all-inside : (rows : List SeenRow) → All (λ row. IsLink row.sighting.link) rows → All (λ row. place_of_row row < 639) rows
 all-inside rows all k d inside = let row = get_or rows k d in
-    inside-at row.sighting.link row.sighting.beat (all k d inside)
+    inside-by row.is_reset row.sighting.link row.sighting.beat (all k d inside)
 
 -- rows that cross one after the other from a place on do so from a lower one on
 cross-lower : (low higher : ℕ) (rows : List SeenRow) → low ≤ higher → Cross higher rows → Cross low rows
@@ -76,8 +81,8 @@ cross-insert low (first ∷ more) (suc i) row d cross above inside before behind
     )
 
 -- so many rows are no more than there are places
-cross-length : (low : ℕ) (rows : List SeenRow) → Cross low rows → All (λ row. place_of_row row < 638) rows
-    → length rows ≤ 638 - low
+cross-length : (low : ℕ) (rows : List SeenRow) → Cross low rows → All (λ row. place_of_row row < 639) rows
+    → length rows ≤ 639 - low
 unfolding Cross
 cross-length low [] cross all = omega arith
 cross-length low (row ∷ more) cross all =
@@ -134,7 +139,7 @@ moment-insert moment i row h = record {
 }
 
 -- it has room
-pub moment-room : (moment : Moment) (i : ℕ) (row : SeenRow) → Belongs moment i row → length moment.rows < 638
+pub moment-room : (moment : Moment) (i : ℕ) (row : SeenRow) → Belongs moment i row → length moment.rows < 639
 moment-room moment i row h =
     let more = moment-insert moment i row h in
     let short = cross-length 0 (insert moment.rows i row) more.in_order
@@ -147,7 +152,7 @@ moment-room moment i row h =
 -- a row with these lanes
 abbrev seen_with : Row → List ℕ → SeenRow
 seen_with row lanes =
-    record { line = row.line; time = row.time; sighting = seen_at row.link row.beat row.known lanes }
+    record { line = row.line; time = row.time; is_reset = row.is_reset; sighting = seen_at row.link row.beat row.known lanes }
 
 -- a row is seen the same among more lanes
 kept-more : (lanes more : List ℕ) (kept : Kept) → kept.first + bus_bytes kept.row.bus ≤ length lanes
@@ -216,18 +221,18 @@ pub record CanBeKept (time : ℕ) (rows : List Kept) (lanes buffer : List ℕ) (
   pub link : IsLink row.link
   pub now : row.time ≡ time
   pub long : bus_bytes row.bus ≤ length buffer
-  pub gap : IsGap (map (kept_row lanes) rows) (place_at row.link row.beat) i
+  pub gap : IsGap (map (kept_row lanes) rows) (place_by row.is_reset row.link row.beat) i
 
 pub can-be-kept : (time : ℕ) (rows : List Kept) (lanes buffer : List ℕ) (row : Row) (i : ℕ) (old : Moment)
     → moment_of time rows lanes ≡ old → AreLanesKept time rows lanes → IsLink row.link → row.time ≡ old.time
-    → bus_bytes row.bus ≤ length buffer → IsGap old.rows (place_at row.link row.beat) i
+    → bus_bytes row.bus ≤ length buffer → IsGap old.rows (place_by row.is_reset row.link row.beat) i
     → CanBeKept time rows lanes buffer row i
 can-be-kept time rows lanes buffer row i old is kept link now long gap = record {
   kept = kept;
   link = link;
   now = subst (λ (m : Moment). row.time ≡ m.time) (sym is) now;
   long = long;
-  gap = subst (λ (m : Moment). IsGap m.rows (place_at row.link row.beat) i) (sym is) gap;
+  gap = subst (λ (m : Moment). IsGap m.rows (place_by row.is_reset row.link row.beat) i) (sym is) gap;
 }
 
 belongs : (time : ℕ) (rows : List Kept) (lanes buffer : List ℕ) (row : Row) (i : ℕ)
@@ -237,7 +242,7 @@ belongs time rows lanes buffer row i h =
 
 -- there is room for it
 pub kept-room : (time : ℕ) (rows : List Kept) (lanes buffer : List ℕ) (row : Row) (i : ℕ)
-    → CanBeKept time rows lanes buffer row i → length rows < 638
+    → CanBeKept time rows lanes buffer row i → length rows < 639
 kept-room time rows lanes buffer row i h =
     let room = moment-room (moment_of time rows lanes) i (seen_row row buffer) (belongs time rows lanes buffer row i h) in
     let size : length (map (kept_row lanes) rows) ≡ length rows = length-map rows (kept_row lanes) in

@@ -1,6 +1,6 @@
 -- The buses of the links of a system, those of the masters' links and those of the ports': a link exists if it has one.
 -- This project's own.
-use Rattle.std.specs.Prelude.{◌≡◌, ℕ, ◌<◌, List, length, Some, slice_get}
+use Rattle.std.specs.Prelude.{◌≡◌, ℕ, ◌<◌, Bool, true, false, List, length, Some, slice_get}
 use Rattle.check_beats.specs.declared.bus.Bus.{Bus}
 use Rattle.check_flight.specs.Side.{bus_at}
 use Rattle.check_watch.specs.declared.beat.Link.{Link}
@@ -20,3 +20,9 @@ HasBus masters ports (Port number) bus = slice_get ports number ≡ Some bus
 abbrev pub bus_of_link : List Bus → List Bus → Link → ℕ
 bus_of_link masters ports (Master number) = bus_at masters number
 bus_of_link masters ports (Port number) = bus_at ports number
+
+-- a beat is of a link that the system has, with that link's bus; a reset of the whole system is of none, and a link that
+-- each system has stands in its place
+abbrev pub IsLinkOfRow : Bool → List Bus → List Bus → Link → Bus → Type 0
+IsLinkOfRow true masters ports link bus = link ≡ Master 0
+IsLinkOfRow false masters ports link bus = IsLinkOf masters ports link × HasBus masters ports link bus

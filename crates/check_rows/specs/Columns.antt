@@ -1,5 +1,6 @@
 -- The columns of a row that are no numbers. This project's own.
-use Rattle.std.specs.Prelude.{ℕ, Bool, true, false, ◌&&◌, ◌==◌, nat_lt, List, [], ◌∷◌, codes, length, Result, Ok, Err, if◌then◌else◌}
+use Rattle.std.specs.Prelude.{ℕ, Bool, true, false, ◌&&◌, ◌==◌, nat_lt, List, [], ◌∷◌, codes, length, Option, Some, None, Result, Ok, Err, if◌then◌else◌}
+use Rattle.std.specs.List.{list_all}
 use Rattle.std.specs.Str.{bytes_eq}
 use Rattle.std.specs.Str.Parse.{digits_value}
 use Rattle.tl_text.specs.Number.{are_digits}
@@ -26,6 +27,12 @@ link_of masters ports (side ∷ digits) =
     else if side == 112 then index_of (length ports) digits >>= (λ n. Ok (Port n))
     else Err fault.Link
 
+-- what a row is of: the link that its word names; or no link but the whole system, which is reset, if the word is `reset`
+-- and the capture may have such rows
+abbrev pub or_reset : Bool → List ℕ → Result Link RowFault → Result (Option Link) RowFault
+or_reset resets word (Ok link) = Ok (Some link)
+or_reset resets word (Err why) = if resets && bytes_eq word (codes "reset") then Ok None else Err why
+
 -- the channel that a word names
 unfoldable pub channel_of : List ℕ → Result RowChannel RowFault
 channel_of word =
@@ -47,3 +54,7 @@ flag_or absent word = if length word == 0 then Ok absent else flag_of word
 -- a column that the channel does not have is empty
 unfoldable pub nothing_of : List ℕ → Result Unit RowFault
 nothing_of word = if length word == 0 then Ok tt else Err fault.Number
+
+-- nothing stands in any of these columns
+abbrev pub are_empty : List (List ℕ) → Bool
+are_empty words = list_all (λ word. length word == 0) words

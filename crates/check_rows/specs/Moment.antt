@@ -26,8 +26,13 @@ place_at (Port number) (A beat) = MAX_JUDGED_MASTERS + number
 place_at (Port number) (D beat) = MAX_JUDGED_MASTERS + MAX_JUDGED_PORTS + number
 place_at (Master number) (D beat) = MAX_JUDGED_MASTERS + 2 * MAX_JUDGED_PORTS + number
 
+-- the same of a row: a reset comes before all beats of its time
+abbrev pub place_by : Bool → Link → Beat → ℕ
+place_by true link beat = 0
+place_by false link beat = place_at link beat + 1
+
 abbrev pub place_of_row : SeenRow → ℕ
-place_of_row row = place_at row.sighting.link row.sighting.beat
+place_of_row row = place_by row.is_reset row.sighting.link row.sighting.beat
 
 -- each row crosses after those before it, and the first stands at `low` or after it
 unfoldable pub Cross : ℕ → List SeenRow → Type 0
@@ -94,7 +99,7 @@ pub record IsGap (rows : List SeenRow) (place i : ℕ) : Type 0 where
 
 -- the same of rows that are kept
 abbrev pub kept_place : Kept → ℕ
-kept_place kept = place_at kept.row.link kept.row.beat
+kept_place kept = place_by kept.row.is_reset kept.row.link kept.row.beat
 
 pub record IsKeptGap (rows : List Kept) (place i : ℕ) : Type 0 where
   pub inside : i ≤ length rows

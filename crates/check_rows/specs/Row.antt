@@ -1,13 +1,15 @@
 -- The row that the columns of a record spell, or the first fault that they have, from the left. This project's own.
-use Rattle.std.specs.Prelude.{ℕ, ◌^◌, ◌-◌, ◌==◌, Bool, ◌&&◌, List, length, take, Result, Ok, Err, if◌then◌else◌}
+use Rattle.std.specs.Prelude.{ℕ, ◌^◌, ◌-◌, ◌==◌, Bool, true, false, ◌&&◌, List, [], ◌∷◌, length, drop, take, Option, Some, None, Result, Ok, Err, if◌then◌else◌}
 use Rattle.check_beats.specs.Bus.{bus_bytes}
 use Rattle.check_beats.specs.declared.bus.Bus.{Bus}
 use Rattle.check_watch.specs.Plan.{Sighting, seen_at}
 use Rattle.check_watch.specs.declared.beat.Beat.{Beat}
 use Rattle.check_watch.specs.declared.beat.Beat.TheVariants as beat
+use Rattle.check_watch.specs.declared.beat.Link.{Link}
+use Rattle.check_watch.specs.declared.beat.Link.TheVariants.{Master}
 use Rattle.check_rows.specs.Buses.{bus_of_link}
 use Rattle.check_rows.specs.Column.{column, is_cut}
-use Rattle.check_rows.specs.Columns.{link_of, channel_of, flag_of, flag_or, nothing_of}
+use Rattle.check_rows.specs.Columns.{are_empty, link_of, channel_of, flag_of, flag_or, nothing_of, or_reset}
 use Rattle.check_rows.specs.declared.column.Column.TheVariants as named
 use Rattle.check_rows.specs.Lanes.{SeenLanes, lanes_of}
 use Rattle.check_rows.specs.Number.{decimal_of, decimal_or_zero, address_of, mask_of}
@@ -15,7 +17,7 @@ use Rattle.tl_text.specs.Reading.{◌>>=◌}
 use Rattle.check_rows.specs.declared.columns.RowChannel.{RowChannel}
 use Rattle.check_rows.specs.declared.columns.RowChannel.TheVariants as channel
 use Rattle.check_rows.specs.declared.fault.RowFault.{RowFault}
-use Rattle.check_rows.specs.declared.fault.RowFault.TheVariants.{Columns, Cut}
+use Rattle.check_rows.specs.declared.fault.RowFault.TheVariants.{Columns, Cut, Number}
 use Rattle.check_rows.specs.declared.row.Row.{Row}
 
 -- a beat with its lanes
@@ -23,11 +25,26 @@ pub record SeenBeat : Type 0 where
   pub beat : Beat
   pub lanes : SeenLanes
 
--- a row: the line on which it begins, and what was seen when
+-- a row: the line on which it begins, and what was seen when; or that the whole system was reset then, and in the place of what
+-- was seen stands something that means nothing
 pub record SeenRow : Type 0 where
   pub line : ℕ
   pub time : ℕ
+  pub is_reset : Bool
   pub sighting : Sighting
+
+-- what stands there in a row of a reset
+abbrev pub nothing_seen : Sighting
+nothing_seen =
+    seen_at (Master 0) (beat.A (record {
+      opcode = 0;
+      param = 0;
+      size = 0;
+      source = 0;
+      address = 0;
+      mask = 0;
+      corrupt = false;
+    })) 0 (0 ∷ [])
 
 -- a beat of channel A is never denied, and not corrupt if that column is empty
 unfoldable pub ask_of_words : ℕ → List (List ℕ) → Result SeenBeat RowFault
@@ -88,20 +105,30 @@ abbrev pub beat_of : ℕ → RowChannel → List (List ℕ) → Result SeenBeat 
 beat_of bus channel.A columns = ask_of_words bus columns
 beat_of bus channel.D columns = reply_of_words bus columns
 
--- the row that twelve columns on this line spell, in a system whose masters' and ports' links have these buses. Before any other
--- fault comes that the capture was cut short there
-unfoldable pub row_of : List Bus → List Bus → ℕ → List (List ℕ) → Result SeenRow RowFault
-row_of masters ports line columns =
+-- the row of a time that twelve columns on this line spell, if it is of a link, or of the whole system: then nothing stands in
+-- the columns after those of the time and of the link
+unfoldable pub row_or_reset : List Bus → List Bus → ℕ → ℕ → List (List ℕ) → Option Link → Result SeenRow RowFault
+row_or_reset masters ports line time columns (Some link) = do
+  channel ← channel_of (column columns named.Channel)
+  seen ← beat_of (bus_of_link masters ports link) channel columns
+  Ok (record {
+    line = line;
+    time = time;
+    is_reset = false;
+    sighting = seen_at link seen.beat seen.lanes.known seen.lanes.bytes;
+  })
+row_or_reset masters ports line time columns None =
+    if are_empty (drop 2 columns) then Ok (record { line = line; time = time; is_reset = true; sighting = nothing_seen })
+    else Err Number
+
+-- the row that twelve columns on this line spell, in a system whose masters' and ports' links have these buses, and that has rows
+-- of resets, or not. Before any other fault comes that the capture was cut short there
+unfoldable pub row_of : Bool → List Bus → List Bus → ℕ → List (List ℕ) → Result SeenRow RowFault
+row_of resets masters ports line columns =
     if length columns == 12 then (do
       time ← decimal_of (2 ^ 64 - 1) (column columns named.Time)
-      link ← link_of masters ports (column columns named.Link)
-      channel ← channel_of (column columns named.Channel)
-      seen ← beat_of (bus_of_link masters ports link) channel columns
-      Ok (record {
-        line = line;
-        time = time;
-        sighting = seen_at link seen.beat seen.lanes.known seen.lanes.bytes;
-      }))
+      link ← or_reset resets (column columns named.Link) (link_of masters ports (column columns named.Link))
+      row_or_reset masters ports line time columns link)
     else if is_cut columns then Err Cut
     else Err Columns
 
@@ -121,6 +148,7 @@ abbrev pub seen_row : Row → List ℕ → SeenRow
 seen_row row buffer = record {
   line = row.line;
   time = row.time;
+  is_reset = row.is_reset;
   sighting = seen_at row.link row.beat row.known (take (bus_bytes row.bus) buffer);
 }
 

@@ -1,5 +1,5 @@
 //! The columns of a capture.
-ghost use Rattle.std.specs.Prelude.{◌≡◌, ◌≢◌, ◌==◌, ◌≤◌, ◌<◌, ℕ, [], ◌∷◌, true, false, length, map, get_or, IfSome, IfNone};
+ghost use Rattle.std.specs.Prelude.{◌≡◌, ◌≢◌, ◌==◌, ◌≤◌, ◌<◌, ℕ, [], ◌∷◌, true, false, drop, length, map, get_or, IfSome, IfNone};
 ghost use Rattle.csv.specs.Records.{fields_of};
 ghost use Rattle.check_rows.specs.Column.{column, header, is_cut, name_of_column, column_parts, place_of_column, column_words};
 
@@ -63,6 +63,15 @@ impl Column {
 #[derive(Clone, Copy)]
 pub(crate) struct Columns<'a> {
     words: [&'a [u8]; COLUMNS],
+}
+
+impl<'a> Columns<'a> {
+    /// What stands in the columns after those of the time and of the link.
+    pub(crate) fn after_link(&self) -> &[&'a [u8]]
+        ensures { map (λ word. word.now) result.now ≡ drop 2 (column_words self.now) }
+    {
+        &self.words[2..]
+    }
 }
 
 /// What stands in the columns of a record, if it has as many as a row.

@@ -1,7 +1,7 @@
 //! The columns of a row that are no numbers.
-ghost use Rattle.std.specs.Prelude.{◌≡◌, ◌<◌, IfOk};
+ghost use Rattle.std.specs.Prelude.{◌≡◌, ◌<◌, IfOk, IfSome, map};
 ghost use Rattle.check_rows.specs.Buses.{IsLinkOf};
-ghost use Rattle.check_rows.specs.Columns.{channel_of, flag_of, flag_or, index_of, link_of, nothing_of};
+ghost use Rattle.check_rows.specs.Columns.{are_empty, channel_of, flag_of, flag_or, index_of, link_of, nothing_of, or_reset};
 
 use crate::buses::Buses;
 use crate::fault::RowFault;
@@ -37,6 +37,19 @@ pub fn read_link(buses: &Buses<'_>, word: &[u8]) -> Result<Link, RowFault>
         [b'm', digits @ ..] => Ok(Link::Master(read_index(digits, buses.masters.len())?)),
         [b'p', digits @ ..] => Ok(Link::Port(read_index(digits, buses.ports.len())?)),
         _ => Err(RowFault::Link),
+    }
+}
+
+/// The link that a word names; or none, if the word says that the whole system was reset, and a capture may have such rows.
+pub fn read_link_or_reset(buses: &Buses<'_>, word: &[u8]) -> Result<Option<Link>, RowFault>
+    ensures value { result ≡ or_reset buses.now.resets word.now
+        (link_of buses.now.masters.now buses.now.ports.now word.now) }
+    ensures inside { IfOk result (λ link. IfSome link (IsLinkOf buses.now.masters.now buses.now.ports.now)) }
+{
+    match read_link(buses, word) {
+        Ok(link) => Ok(Some(link)),
+        Err(_) if buses.resets && word == b"reset".as_slice() => Ok(None),
+        Err(fault) => Err(fault),
     }
 }
 
@@ -90,4 +103,16 @@ pub fn read_nothing(word: &[u8]) -> Result<(), RowFault>
     } else {
         Err(RowFault::Number)
     }
+}
+
+/// Whether nothing stands in any of these columns.
+pub fn are_empty(words: &[&[u8]]) -> bool
+    ensures { result ≡ are_empty (map (λ word. word.now) words.now) }
+{
+    for word in words {
+        if !word.is_empty() {
+            return false;
+        }
+    }
+    true
 }

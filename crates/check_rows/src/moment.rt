@@ -2,7 +2,7 @@
 ghost use Rattle.std.specs.Prelude.{◌≡◌, ◌≤◌, ◌<◌, ◌-◌, ◌↔◌, [], ◌∷◌, Some, length, get_or, slice_get, All, Contains, IsTrue, IfOk, IfErr, IfSome, OnErr, IfNone};
 ghost use Rattle.std.specs.List.{insert};
 ghost use Rattle.check_beats.specs.Bus.{bus_bytes};
-ghost use Rattle.check_rows.specs.Moment.{HasFault, IsGap, AreLanesKept, IsKeptGap, IsLink, IsMoment, Puts, kept_place, moment_of, place_at, place_of_row};
+ghost use Rattle.check_rows.specs.Moment.{HasFault, IsGap, AreLanesKept, IsKeptGap, IsLink, IsMoment, Puts, kept_place, moment_of, place_at, place_by, place_of_row};
 ghost use Rattle.check_rows.specs.Row.{seen_row};
 
 use crate::fault::RowFault;
@@ -14,9 +14,12 @@ use std::marker::Model;
 use tl_map::{MAX_JUDGED_MASTERS, MAX_JUDGED_PORTS};
 
 /// The most beats of one time: one for each channel of each link.
-const MAX_ROWS: usize = 2 * (MAX_JUDGED_MASTERS + MAX_JUDGED_PORTS);
+const MAX_BEATS: usize = 2 * (MAX_JUDGED_MASTERS + MAX_JUDGED_PORTS);
 
-/// The most lanes of the beats of one time.
+/// The most rows of one time: a reset, and beats.
+const MAX_ROWS: usize = 1 + MAX_BEATS;
+
+/// The most lanes of the rows of one time.
 const MAX_KEPT_LANES: usize = MAX_ROWS * MAX_LANES;
 
 /// A row that is kept, and where its lanes begin among those of its moment.
@@ -28,16 +31,29 @@ pub(crate) struct Kept {
 
 /// Where a beat stands among those of its time: channel A of the masters' links, A of the ports', D of the ports', D of
 /// the masters', each by rising number.
-fn place_of_row(row: &Row) -> usize
+fn place_of_beat(row: &Row) -> usize
     requires { IsLink row.now.link }
     ensures value { result ≡ place_at row.now.link row.now.beat }
-    ensures inside { result < MAX_ROWS }
+    ensures inside { result < MAX_BEATS }
 {
     match (row.link, row.beat) {
         (Link::Master(number), Beat::A(_)) => number,
         (Link::Port(number), Beat::A(_)) => MAX_JUDGED_MASTERS + number,
         (Link::Port(number), Beat::D(_)) => MAX_JUDGED_MASTERS + MAX_JUDGED_PORTS + number,
         (Link::Master(number), Beat::D(_)) => MAX_JUDGED_MASTERS + 2 * MAX_JUDGED_PORTS + number,
+    }
+}
+
+/// Where a row stands among those of its time: a reset before all beats.
+fn place_of_row(row: &Row) -> usize
+    requires { IsLink row.now.link }
+    ensures value { result ≡ place_by row.now.is_reset row.now.link row.now.beat }
+    ensures inside { result < MAX_ROWS }
+{
+    if row.is_reset {
+        0
+    } else {
+        1 + place_of_beat(row)
     }
 }
 
@@ -132,7 +148,7 @@ impl Moment {
         requires link { IsLink row.now.link }
         requires lanes { bus_bytes row.now.bus ≤ length lanes.now }
         requires now { row.now.time ≡ self.old.time }
-        requires gap { IsGap self.old.rows (place_at row.now.link row.now.beat) count }
+        requires gap { IsGap self.old.rows (place_by row.now.is_reset row.now.link row.now.beat) count }
         ensures { self.new ≡ record self.old {
           rows = insert self.old.rows count (seen_row row.now lanes.now);
         } }

@@ -4,7 +4,7 @@
 //! one.
 ghost use Rattle.std.specs.Prelude.{◌≡◌, ◌≤◌, Ok, IfSome};
 ghost use Rattle.check_beats.specs.Bus.{bus_bytes};
-ghost use Rattle.check_rows.specs.Buses.{HasBus, IsLinkOf};
+ghost use Rattle.check_rows.specs.Buses.{IsLinkOfRow};
 ghost use Rattle.check_rows.specs.Column.{column_parts};
 ghost use Rattle.check_rows.specs.Front.{LastSpell};
 ghost use Rattle.check_rows.specs.Row.{ask_of_words, beat_of, reply_of_words, row_of, seen_beat, seen_row};
@@ -131,9 +131,9 @@ pub(crate) fn quick_row(
     lanes: &mut [u8; MAX_LANES],
 ) -> Option<Row>
     ensures value { IfSome result (λ row.
-        row_of buses.now.masters.now buses.now.ports.now line (column_parts text.now) ≡ Ok (seen_row row lanes.new)) }
-    ensures link { IfSome result (λ row. IsLinkOf buses.now.masters.now buses.now.ports.now row.link) }
-    ensures bus { IfSome result (λ row. HasBus buses.now.masters.now buses.now.ports.now row.link row.bus) }
+        row_of buses.now.resets buses.now.masters.now buses.now.ports.now line (column_parts text.now) ≡ Ok (seen_row row lanes.new)) }
+    ensures link { IfSome result (λ row.
+        IsLinkOfRow row.is_reset buses.now.masters.now buses.now.ports.now row.link row.bus) }
 {
     let Some((time, rest)) = take_decimal(text, u64::MAX) else {
         return None;
@@ -151,6 +151,7 @@ pub(crate) fn quick_row(
     Some(Row {
         line,
         time,
+        is_reset: false,
         link,
         bus,
         beat,

@@ -1,15 +1,17 @@
 //! The rows of a capture.
-ghost use Rattle.std.specs.Prelude.{◌≡◌, IfOk, if◌then◌else◌};
+ghost use Rattle.std.specs.Prelude.{◌≡◌, IfOk, None, Some, if◌then◌else◌};
 ghost use Rattle.csv.specs.Records.{fields_of};
 ghost use Rattle.check_beats.specs.Bus.{bus_bytes};
-ghost use Rattle.check_rows.specs.Buses.{HasBus, IsLinkOf};
+ghost use Rattle.check_rows.specs.Buses.{IsLinkOf, IsLinkOfRow};
 ghost use Rattle.check_rows.specs.Column.{column_parts, column_words};
 ghost use Rattle.check_rows.specs.declared.fault.RowFault.TheVariants.{Cut, Columns as WrongCount};
-ghost use Rattle.check_rows.specs.Row.{ask_of_words, asks_for_mark, beat_in, beat_of, reply_of_words, row_in, row_of};
+ghost use Rattle.check_rows.specs.Row.{ask_of_words, asks_for_mark, beat_in, beat_of, reply_of_words, row_or_reset, row_in, row_of};
 
 use crate::buses::Buses;
 use crate::column::{Column, Columns, columns_of, cut_line, is_cut_line, is_cut_record};
-use crate::columns::{RowChannel, read_channel, read_flag, read_flag_or, read_link, read_nothing};
+use crate::columns::{
+    RowChannel, are_empty, read_channel, read_flag, read_flag_or, read_link_or_reset, read_nothing,
+};
 use crate::fault::RowFault;
 use crate::lanes::read_lanes;
 use crate::number::{read_address, read_decimal, read_decimal_or_zero, read_mask};
@@ -25,11 +27,12 @@ pub(crate) const MAX_FIELD: u64 = u8::MAX as u64;
 pub(crate) const MAX_SOURCE: u64 = u16::MAX as u64;
 
 /// A row of a capture, but for its lanes: the line on which it begins, and what was seen when, at a link with this bus.
-/// Bit k of `known` belongs to lane k.
+/// Bit k of `known` belongs to lane k. Or the whole system was reset then: the fields after `is_reset` mean nothing.
 #[derive(Debug, Clone, Copy, PartialEq, Eq)]
 pub struct Row {
     pub line: u64,
     pub time: u64,
+    pub is_reset: bool,
     pub link: Link,
     pub bus: Bus,
     pub beat: Beat,
@@ -41,6 +44,7 @@ impl Default for Row {
         Row {
             line: 0,
             time: 0,
+            is_reset: false,
             link: Link::Master(0),
             bus: Bus::One,
             beat: Beat::A(AskHead::default()),
@@ -133,6 +137,73 @@ fn read_beat(
     }
 }
 
+/// The row of a beat at a link, of a time, that columns spell.
+#[tactic(auto, unfolding(crate::specs::Row::row_or_reset))]
+fn read_beat_row(
+    buses: &Buses<'_>,
+    line: u64,
+    time: u64,
+    link: Link,
+    columns: &Columns<'_>,
+    lanes: &mut [u8; MAX_LANES],
+) -> Result<Row, RowFault>
+    requires { IsLinkOf buses.now.masters.now buses.now.ports.now link }
+    ensures value { row_in lanes.new result
+        ≡ row_or_reset buses.now.masters.now buses.now.ports.now line time (column_words columns.now) (Some link) }
+    ensures link { IfOk result (λ row.
+        IsLinkOfRow row.is_reset buses.now.masters.now buses.now.ports.now row.link row.bus) }
+{
+    let channel = read_channel(Column::Channel.of(columns))?;
+    let bus = buses.of(link);
+    let (beat, known) = read_beat(bus, channel, columns, lanes)?;
+    Ok(Row {
+        line,
+        time,
+        is_reset: false,
+        link,
+        bus,
+        beat,
+        known,
+    })
+}
+
+/// The row of a reset, of a time, that columns spell.
+#[tactic(auto, unfolding(crate::specs::Row::row_or_reset))]
+fn read_reset_row(
+    buses: &Buses<'_>,
+    line: u64,
+    time: u64,
+    columns: &Columns<'_>,
+    lanes: &mut [u8; MAX_LANES],
+) -> Result<Row, RowFault>
+    ensures value { row_in lanes.new result
+        ≡ row_or_reset buses.now.masters.now buses.now.ports.now line time (column_words columns.now) None }
+    ensures link { IfOk result (λ row.
+        IsLinkOfRow row.is_reset buses.now.masters.now buses.now.ports.now row.link row.bus) }
+{
+    if !are_empty(columns.after_link()) {
+        return Err(RowFault::Number);
+    }
+    lanes[0] = 0;
+    Ok(Row {
+        line,
+        time,
+        is_reset: true,
+        link: Link::Master(0),
+        bus: Bus::One,
+        beat: Beat::A(AskHead {
+            opcode: 0,
+            param: 0,
+            size: 0,
+            source: 0,
+            address: 0,
+            mask: 0,
+            corrupt: false,
+        }),
+        known: 0,
+    })
+}
+
 /// The row that columns spell, in a system whose links have these buses, or the first fault that they have, from the
 /// left.
 #[tactic(auto, unfolding(crate::specs::Row::row_of))]
@@ -143,25 +214,15 @@ fn read_columns(
     lanes: &mut [u8; MAX_LANES],
 ) -> Result<Row, RowFault>
     ensures value { row_in lanes.new result
-        ≡ row_of buses.now.masters.now buses.now.ports.now line (column_words columns.now) }
+        ≡ row_of buses.now.resets buses.now.masters.now buses.now.ports.now line (column_words columns.now) }
     ensures link { IfOk result (λ row.
-        IsLinkOf buses.now.masters.now buses.now.ports.now row.link) }
-    ensures bus { IfOk result (λ row.
-        HasBus buses.now.masters.now buses.now.ports.now row.link row.bus) }
+        IsLinkOfRow row.is_reset buses.now.masters.now buses.now.ports.now row.link row.bus) }
 {
     let time = read_decimal(Column::Time.of(columns), u64::MAX)?;
-    let link = read_link(buses, Column::Link.of(columns))?;
-    let channel = read_channel(Column::Channel.of(columns))?;
-    let bus = buses.of(link);
-    let (beat, known) = read_beat(bus, channel, columns, lanes)?;
-    Ok(Row {
-        line,
-        time,
-        link,
-        bus,
-        beat,
-        known,
-    })
+    match read_link_or_reset(buses, Column::Link.of(columns))? {
+        Some(link) => read_beat_row(buses, line, time, link, columns, lanes),
+        None => read_reset_row(buses, line, time, columns, lanes),
+    }
 }
 
 /// What is wrong with a record of another count of columns, which stands where a fault cut the capture short, or not.
@@ -186,11 +247,9 @@ pub fn read_row(
     lanes: &mut [u8; MAX_LANES],
 ) -> Result<Row, RowFault>
     ensures value { row_in lanes.new result
-        ≡ row_of buses.now.masters.now buses.now.ports.now line (fields_of columns.now) }
+        ≡ row_of buses.now.resets buses.now.masters.now buses.now.ports.now line (fields_of columns.now) }
     ensures link { IfOk result (λ row.
-        IsLinkOf buses.now.masters.now buses.now.ports.now row.link) }
-    ensures bus { IfOk result (λ row.
-        HasBus buses.now.masters.now buses.now.ports.now row.link row.bus) }
+        IsLinkOfRow row.is_reset buses.now.masters.now buses.now.ports.now row.link row.bus) }
 {
     match columns_of(columns) {
         Some(columns) => read_columns(buses, line, &columns, lanes),
@@ -207,11 +266,9 @@ pub fn read_bare_row(
     lanes: &mut [u8; MAX_LANES],
 ) -> Result<Row, RowFault>
     ensures value { row_in lanes.new result
-        ≡ row_of buses.now.masters.now buses.now.ports.now line (column_parts text.now) }
+        ≡ row_of buses.now.resets buses.now.masters.now buses.now.ports.now line (column_parts text.now) }
     ensures link { IfOk result (λ row.
-        IsLinkOf buses.now.masters.now buses.now.ports.now row.link) }
-    ensures bus { IfOk result (λ row.
-        HasBus buses.now.masters.now buses.now.ports.now row.link row.bus) }
+        IsLinkOfRow row.is_reset buses.now.masters.now buses.now.ports.now row.link row.bus) }
 {
     if let Some(row) = quick_row(buses, line, text, lanes) {
         return Ok(row);

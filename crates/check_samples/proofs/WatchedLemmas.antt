@@ -2,7 +2,7 @@
 use Rattle.std.proofs.Common.{◌≡◌, ◌∙◌, ℕ, zero, suc, ◌+◌, ◌<◌, false, List, [], ◌∷◌, ◌++◌, drop, get_or, length, map, set, take, Option, None, Some, is_some, ap, arith, refl, sym}
 use Rattle.std.specs.List.{list_any}
 use Rattle.check_samples.specs.Rows.{Dues, Rows, and_then, due_at, no_rows, rows_due, rows_of}
-use Rattle.check_samples.specs.Sampling.{Sampling, dues_of, rows_now, rows_when}
+use Rattle.check_samples.specs.Sampling.{Sampling, beat_rows, dues_of}
 use Rattle.check_samples.specs.declared.channel.Channel.{Channel}
 use Rattle.check_samples.specs.declared.edges.Needs.{Needs}
 
@@ -46,8 +46,6 @@ rows-none dues time values (channel ∷ channels) none =
     (no-due dues channel.domain none)
     ∙ ap (λ (rest : Rows). and_then no_rows rest) (rows-none dues time values channels none)
 
-pub rows-idle : (s : Sampling) (time : ℕ) → s.time ≡ Some time
-    → list_any (λ due. is_some due) (dues_of s.before s.now s.watched) ≡ false → rows_now s ≡ no_rows
-rows-idle s time is none =
-    ap (λ (at : Option ℕ). rows_when at s) is
-    ∙ rows-none (dues_of s.before s.now s.watched) time s.before s.channels none
+pub rows-idle : (s : Sampling) (time : ℕ) → list_any (λ due. is_some due) (dues_of s.before s.now s.watched) ≡ false
+    → beat_rows time s ≡ no_rows
+rows-idle s time none = rows-none (dues_of s.before s.now s.watched) time s.before s.channels none

@@ -7,6 +7,7 @@ pub mod Edges
 pub mod Domain
 pub mod EdgeFault
 pub mod Rows
+pub mod Resets
 pub mod Sampling
 pub mod Left
 pub mod Faults

@@ -16,6 +16,7 @@ use Rattle.check_samples.specs.declared.clock.Edge.TheVariants.{Rising, Falling}
 use Rattle.check_samples.specs.declared.sampler.Probes as code_probes
 use Rattle.check_samples.specs.declared.edges.Needs.{Needs}
 use Rattle.check_samples.specs.declared.reset.Reset.{Reset}
+use Rattle.check_samples.specs.declared.reset.SystemReset.{SystemReset}
 use Rattle.check_samples.specs.declared.sampler.SampleFault.{SampleFault}
 use Rattle.check_samples.specs.declared.sampler.SampleFault.TheVariants.{Unknown, Gap, Memory}
 use Rattle.check_samples.specs.declared.signal.Signal.{Signal}
@@ -122,10 +123,11 @@ rows_of dues time values (channel ∷ channels) =
 
 -- ---- the edges
 
--- what is looked at: the domains, the parts of values that are put together, and the channels in the order in which their
--- beats cross. Each channel has the domain at its place
+-- what is looked at: the domains, the system's clock and reset if resets of the whole system are told, the parts of values that
+-- are put together, and the channels in the order in which their beats cross. Each channel has the domain at its place
 pub record Probes : Type 0 where
   pub domains : List Domain
+  pub resets : Option SystemReset
   pub joins : List Tap
   pub channels : List Channel
 
@@ -171,6 +173,7 @@ Writes (Err Memory) old new rows = Unit {0}
 abbrev pub view_of : code_probes.Probes → Probes
 view_of probes = record {
   domains = map domain_view probes.domains.items;
+  resets = probes.resets;
   joins = probes.joins.items;
   channels = probes.channels.items;
 }

@@ -1,5 +1,5 @@
 -- The rows of what happens in a dump. This project's own.
-use Rattle.std.specs.Prelude.{◌≡◌, ℕ, ◌+◌, ◌==◌, Bool, true, false, nat_lt, List, [], ◌∷◌, ◌++◌, length, map, Option, None, Some, Result, Ok, Err, ⊤, if◌then◌else◌}
+use Rattle.std.specs.Prelude.{◌≡◌, ℕ, ◌+◌, ◌==◌, Bool, true, false, nat_lt, List, [], ◌∷◌, ◌++◌, length, map, Option, None, Some, option_map, Result, Ok, Err, ⊤, if◌then◌else◌}
 use Rattle.check_vcd.specs.Body.{Happens, At, Sets, Resumes, Wrong}
 use Rattle.check_vcd.specs.declared.body.Event.{Event}
 use Rattle.check_vcd.specs.declared.body.Event.TheVariants as event
@@ -12,12 +12,14 @@ use Rattle.check_samples.specs.declared.edges.Edges.{Edges}
 use Rattle.check_samples.specs.declared.edges.Needs.{Needs}
 use Rattle.check_samples.specs.declared.sampler.SampleFault.{SampleFault}
 use Rattle.check_samples.specs.declared.sampler.SampleFault.TheVariants.{Unknown, Gap, Memory}
+use Rattle.check_samples.specs.declared.reset.WatchedReset.{WatchedReset}
 use Rattle.check_samples.specs.declared.tap.Tap.{Tap}
+use Rattle.check_samples.specs.Resets.{is_reset_due, reset_rows, unwatched_reset, watched_reset}
 use Rattle.check_samples.specs.Rows.{Dues, Probes, Rows, and_then, has_edge, is_active, no_rows, rows_of, some_crosses, ticks}
 
 -- the parts of values that are put together, and the channels; the values before the present time, with what is put
--- together of them; those at it, and how many bits each has; the present time; and the domains, each with what there was at
--- the edges of the times that are over
+-- together of them; those at it, and how many bits each has; the present time; and of the times that are over: the domains,
+-- each with what there was at its edges; and the reset of the whole system, if its resets are told
 pub record Sampling : Type 0 where
   pub joins : List Tap
   pub channels : List Channel
@@ -26,6 +28,7 @@ pub record Sampling : Type 0 where
   pub widths : List ℕ
   pub time : Option ℕ
   pub watched : List Watched
+  pub resets : Option WatchedReset
 
 -- before anything has happened, if this is looked at: with these values, and with those that count before the first time
 abbrev pub sampling_by : Probes → List (List ℕ) → List (List ℕ) → List ℕ → Sampling
@@ -37,6 +40,7 @@ sampling_by probes before now widths = record {
   widths = widths;
   time = None;
   watched = map unwatched probes.domains;
+  resets = option_map unwatched_reset probes.resets;
 }
 
 -- ---- what happens, one after the other
@@ -75,11 +79,24 @@ watched_when (Some time) s = watched_from 0 s.before s.now s.channels s.watched
 abbrev pub watched_now : Sampling → List Watched
 watched_now s = watched_when s.time s
 
+-- whether the system's reset was active at the last edge, that of the present time among them
+abbrev pub resets_when : Option ℕ → Sampling → Option WatchedReset
+resets_when None s = s.resets
+resets_when (Some time) s = option_map (watched_reset s.before s.now) s.resets
+
+abbrev pub resets_now : Sampling → Option WatchedReset
+resets_now s = resets_when s.time s
+
 -- a time begins, and the present one is over: what the values are, they were before it, and so was what is put together
 abbrev pub at_time : Sampling → ℕ → Sampling
 at_time s time =
     if is_at s time then s
-    else record s { before = with_joined s.joins s.now; time = Some time; watched = watched_now s }
+    else record s {
+      before = with_joined s.joins s.now;
+      time = Some time;
+      watched = watched_now s;
+      resets = resets_now s;
+    }
 
 -- what is so after one thing that happens
 abbrev pub behind : Happens → Sampling → Sampling
@@ -96,10 +113,15 @@ needs_due before now one =
 abbrev pub dues_of : List (List ℕ) → List (List ℕ) → List Watched → Dues
 dues_of before now watched = map (needs_due before now) watched
 
--- the rows of the present time: of the channels whose clock ticks at it, with the values that were before it
+-- the rows of beats at the present time: of the channels whose clock ticks at it, with the values that were before it
+abbrev pub beat_rows : ℕ → Sampling → Rows
+beat_rows time s = rows_of (dues_of s.before s.now s.watched) time s.before s.channels
+
+-- the rows of the present time: first that of a reset of the whole system, if it has one
 abbrev pub rows_when : Option ℕ → Sampling → Rows
 rows_when None s = no_rows
-rows_when (Some time) s = rows_of (dues_of s.before s.now s.watched) time s.before s.channels
+rows_when (Some time) s =
+    and_then (reset_rows time (is_reset_due s.before s.now s.watched s.resets)) (beat_rows time s)
 
 abbrev pub rows_now : Sampling → Rows
 rows_now s = rows_when s.time s

@@ -4,6 +4,7 @@ ghost use Rattle.std.specs.Fmt.{decimal};
 ghost use Rattle.std.specs.Char.{is_digit};
 ghost use Rattle.tl_text.specs.Number.{number_of};
 ghost use Rattle.check_samples.specs.Values.{all_before};
+ghost use Rattle.check_samples.specs.Resets.{reset_row};
 ghost use Rattle.check_samples.specs.Row.{ask_flags, ask_lanes, ask_numbers, ask_text, cells_of_ask, cells_of_reply, digit_of, head_text, hex_text, hexes, known_number, link_text, mark_text, number_if_any, reply_lanes, reply_numbers, reply_text};
 
 use crate::channel::{AskTaps, ReplyTaps};
@@ -238,6 +239,14 @@ fn push_head(text: &mut Vec<u8>, time: u64, link: Link, channel: u8) -> Result<(
     text.push(b',')?;
     push_link(text, link)?;
     text.extend_from_slice(&[b',', channel])
+}
+
+/// Appends the row of a reset of the whole system.
+pub(crate) fn push_reset(text: &mut Vec<u8>, time: u64) -> Result<(), AllocError>
+    ensures { OnOk result (text.new.items ≡ text.old.items ++ reset_row time) }
+{
+    push_decimal(text, time)?;
+    text.extend_from_slice(b",reset,,,,,,,,,,\n")
 }
 
 /// Appends the columns of a beat of channel A that are decimal numbers.

@@ -9,11 +9,14 @@ use crate::domain::Domain;
 use crate::edge_fault::{EdgeFault, edge_fault, some_crossed};
 use crate::edges::Needs;
 use crate::hands::{crosses, unknown_hand};
-use crate::row::{ask_cells, push_ask, push_reply, reply_cells};
+use crate::reset::{SystemReset, WatchedReset};
+use crate::row::{ask_cells, push_ask, push_reply, push_reset, reply_cells};
 use crate::signal::Signal;
 use crate::tap::Tap;
 use crate::values::Values;
-use crate::watched::{Watched, due_at, note_dues, note_edges, watch_all};
+use crate::watched::{
+    Watched, due_at, is_reset_due, note_dues, note_edges, note_reset, watch_all, watch_reset,
+};
 use check_vcd::Event;
 use std::alloc::{AllocError, Global};
 use std::marker::Model;
@@ -119,20 +122,23 @@ fn push_rows(
     Ok(())
 }
 
-/// What is looked at in a dump: the domains, the parts of values that are put together, and the channels in the order in
-/// which their beats cross. Each channel has the domain at its place.
+/// What is looked at in a dump: the domains, the system's clock and reset if resets of the whole system are told, the parts
+/// of values that are put together, and the channels in the order in which their beats cross. Each channel has the domain
+/// at its place.
 #[derive(Drop)]
 pub struct Probes {
     pub domains: Vec<Domain>,
+    pub resets: Option<SystemReset>,
     pub joins: Vec<Tap>,
     pub channels: Vec<Channel>,
 }
 
-/// Makes rows of what happens in a dump: what is looked at, the values that are kept, the present time, and of each domain
-/// what there was at the edges of the times that are over.
+/// Makes rows of what happens in a dump: what is looked at, the values that are kept, the present time, and of the times
+/// that are over what there was at the edges of each domain and of the system's reset.
 #[derive(Drop)]
 pub struct Sampler {
     watched: Vec<Watched>,
+    resets: Option<WatchedReset>,
     joins: Vec<Tap>,
     channels: Vec<Channel>,
     values: Values,
@@ -156,13 +162,14 @@ impl Model for Sampler {
       widths = all_widths s.values;
       time = s.time;
       watched = map watched_view s.watched.items;
+      resets = s.resets;
     } };
 }
 
 impl Sampler {
     ghost use Rattle.check_vcd.specs.Body.{Happens, happens_of};
     ghost use Rattle.check_samples.specs.EdgeFault.{edge_fault, edge_fault_view};
-    ghost use Rattle.check_samples.specs.Sampling.{Joins, LeadsToRows, at_time, behind, is_at, rows_from, rows_now, sampling_by, watched_now, with_value};
+    ghost use Rattle.check_samples.specs.Sampling.{Joins, LeadsToRows, at_time, beat_rows, behind, is_at, resets_now, rows_from, rows_now, sampling_by, watched_now, with_value};
 
     /// Before anything has happened: each value is unknown, save those that are given.
     pub fn new(alloc: Global, probes: Probes, values: Values) -> Result<Sampler, AllocError>
@@ -171,6 +178,7 @@ impl Sampler {
     {
         Ok(Sampler {
             watched: watch_all(alloc, probes.domains)?,
+            resets: watch_reset(probes.resets),
             joins: probes.joins,
             channels: probes.channels,
             values,
@@ -188,7 +196,7 @@ impl Sampler {
         Ok(())
     }
 
-    /// Appends the rows of the present time, up to the first beat that is none.
+    /// Appends the rows of the present time, first that of a reset of the whole system, up to the first beat that is none.
     pub fn push_rows(&mut self, text: &mut Vec<u8>) -> Result<(), SampleFault>
         ensures writes { Writes result text.old.items text.new.items (rows_now self.old) }
         ensures same { self.new ≡ self.old }
@@ -196,6 +204,17 @@ impl Sampler {
         let Some(time) = self.time else {
             return Ok(());
         };
+        if is_reset_due(self.resets, &self.values, &self.watched) {
+            push_reset(text, time)?;
+        }
+        self.push_beats(text, time)
+    }
+
+    /// Appends the rows of the beats at the present time, up to the first that is none.
+    fn push_beats(&mut self, text: &mut Vec<u8>, time: u64) -> Result<(), SampleFault>
+        ensures writes { Writes result text.old.items text.new.items (beat_rows time self.old) }
+        ensures same { self.new ≡ self.old }
+    {
         if !note_dues(&mut self.watched, &self.values) {
             return Ok(());
         }
@@ -204,10 +223,11 @@ impl Sampler {
 
     /// Notes what there was at the edges of the present time.
     fn note_edges(&mut self)
-        ensures { self.new ≡ record self.old { watched = watched_now self.old } }
+        ensures { self.new ≡ record self.old { watched = watched_now self.old; resets = resets_now self.old } }
     {
         if self.time.is_some() {
             note_edges(&mut self.watched, &self.values, &self.channels);
+            self.resets = note_reset(self.resets, &self.values);
         }
     }
 

@@ -1,8 +1,9 @@
 //! Domains that are watched, time by time.
-ghost use Rattle.std.specs.Prelude.{◌≡◌, IfOk, is_some, map};
+ghost use Rattle.std.specs.Prelude.{◌≡◌, IfOk, is_some, map, option_map};
 ghost use Rattle.std.specs.List.{list_any};
 ghost use Rattle.check_samples.specs.Domain.{domain_view, unwatched, watched_view};
 ghost use Rattle.check_samples.specs.Edges.{with_edge};
+ghost use Rattle.check_samples.specs.Resets.{begins, is_reset_due, unwatched_reset, watched_reset};
 ghost use Rattle.check_samples.specs.Rows.{due_at, has_edge, is_active, is_early, is_late, some_crosses, ticks};
 ghost use Rattle.check_samples.specs.Sampling.{needs_due, dues_of, edges_at, watched_from};
 ghost use Rattle.check_samples.specs.Values.{all_before, all_now};
@@ -10,9 +11,10 @@ ghost use Rattle.check_samples.specs.Values.{all_before, all_now};
 use crate::channel::Channel;
 use crate::clock::{Clock, Edge};
 use crate::domain::Domain;
+use crate::edge_fault::some_crossed;
 use crate::edges::{Edges, Needs, needs_of};
 use crate::hands::{is_one, is_zero, some_crosses};
-use crate::reset::Reset;
+use crate::reset::{Reset, SystemReset, WatchedReset};
 use crate::values::Values;
 use std::alloc::{AllocError, Global};
 
@@ -23,6 +25,19 @@ pub(crate) struct Watched {
     pub(crate) domain: Domain,
     pub(crate) edges: Edges,
     due: Option<Needs>,
+}
+
+/// The system's reset, if its resets are told, of which nothing was seen.
+pub(crate) fn watch_reset(resets: Option<SystemReset>) -> Option<WatchedReset>
+    ensures { result ≡ option_map unwatched_reset resets }
+{
+    match resets {
+        None => None,
+        Some(system) => Some(WatchedReset {
+            system,
+            was_active: false,
+        }),
+    }
 }
 
 /// Domains, of which nothing was seen.
@@ -120,6 +135,52 @@ pub(crate) fn note_edges(watched: &mut [Watched], values: &Values, channels: &[C
 {
     for (place, one) in watched.iter_mut().enumerate() {
         one.edges = edges_at(place, one, values, channels);
+    }
+}
+
+/// The present time is over: if it was an edge of the system's clock, it is noted whether the reset was active.
+fn noted_reset(one: WatchedReset, values: &Values) -> WatchedReset
+    ensures { result ≡ watched_reset (all_before values.now) (all_now values.now) one }
+{
+    if ticks(values, one.system.clock) {
+        WatchedReset {
+            system: one.system,
+            was_active: is_active(values, Some(one.system.reset)),
+        }
+    } else {
+        one
+    }
+}
+
+/// The same of the system's reset, if its resets are told.
+pub(crate) fn note_reset(resets: Option<WatchedReset>, values: &Values) -> Option<WatchedReset>
+    ensures { result ≡ option_map (watched_reset (all_before values.now) (all_now values.now)) resets }
+{
+    match resets {
+        None => None,
+        Some(one) => Some(noted_reset(one, values)),
+    }
+}
+
+/// Whether the system's reset is active at an edge of its clock at the present time, and was not at the edge before.
+fn begins(one: WatchedReset, values: &Values) -> bool
+    ensures { result ≡ begins (all_before values.now) (all_now values.now) one }
+{
+    ticks(values, one.system.clock) && is_active(values, Some(one.system.reset)) && !one.was_active
+}
+
+/// Whether the present time has a reset's row.
+pub(crate) fn is_reset_due(
+    resets: Option<WatchedReset>,
+    values: &Values,
+    watched: &[Watched],
+) -> bool
+    ensures { result
+        ≡ is_reset_due (all_before values.now) (all_now values.now) (map watched_view watched.now) resets }
+{
+    match resets {
+        None => false,
+        Some(one) => begins(one, values) && some_crossed(watched),
     }
 }
 

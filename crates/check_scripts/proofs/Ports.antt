@@ -1,5 +1,5 @@
 -- The parts of a script, read as those of a system file.
-use Rattle.std.proofs.Common.{◌≡◌, ◌∙◌, ℕ, ◌*◌, ◌-◌, ◌≤◌, nat_le, nat_lt, Bool, true, false, ◌&&◌, ℤ, pos, negsuc, List, [], ◌∷◌, ◌++◌, drop, length, map, replicate, Option, Some, None, Result, Ok, Err, ok_or, zero, suc, length-append, refl, sym, ap, arith}
+use Rattle.std.proofs.Common.{◌≡◌, ◌∙◌, ℕ, ◌*◌, ◌-◌, ◌≤◌, nat_le, nat_lt, Bool, true, false, ◌&&◌, ℤ, pos, negsuc, List, [], ◌∷◌, ◌++◌, drop, length, replicate, Option, Some, None, Result, Ok, Err, ok_or, zero, suc, length-append, refl, sym, ap, arith}
 use Rattle.std.specs.Prelude.{codes, if◌then◌else◌, unwrap_or}
 use Rattle.std.specs.Str.{bytes_eq}
 use Rattle.std.specs.Cmp.Derive.{both_true}
@@ -26,13 +26,14 @@ use Rattle.check_scripts.specs.Instance.{ArePortsOf, IsPlainPort, IsPortOf}
 use Rattle.check_keys.specs.Name.{name_at}
 use Rattle.check_description.specs.Contents.{contents_at, image_name_at, reset_at, reset_of}
 use Rattle.check_description.specs.Kind.{kind_at, port_kind_of as new_kind_of}
+use Rattle.check_description.specs.OnReset.{on_reset_at, said_on_reset}
 use Rattle.check_description.specs.Order.{no_orders, orders_at}
 use Rattle.check_description.specs.Port.{Port, port_of}
 use Rattle.check_description.specs.Ranges.{plain_ranges, ranges_at}
 use Rattle.check_description.specs.Sizes.{sizes_at}
 use Rattle.check_description.specs.Mirror.{mirror_at}
 use Rattle.check_description.specs.Volatile.{volatile_at}
-use Rattle.check_description.specs.declared.kind.PortKind.{PortKind}
+use Rattle.check_description.specs.declared.on_reset.OnReset.TheVariants.{Never}
 use Rattle.check_description.specs.declared.kind.PortKind.TheVariants.{Memory, Device}
 use Rattle.check_beats.specs.declared.bus.Bus.TheVariants.{Eight}
 use Rattle.check_keys.specs.Bus.{bus_in_table}
@@ -268,12 +269,12 @@ read_keys (Ok k) (Ok b) (Ok c) reset store is =
 -- the port that a script's table is
 pub record ReadsPort (members : Members) (store : Store) : Type 0 where
   pub port : Port
-  pub reads : port_of Eight members ≡ Ok port
+  pub reads : port_of Eight false members ≡ Ok port
   pub is : IsPortOf store port
 
 pub port_same : (members : Members) (store : Store) → IsPlainPort members → (IsEmpty (range_of store) → ⊥)
     → old_port_of members ≡ Ok store → ReadsPort members store
-unfolding old_port_of port_of name_at ranges_at plain_ranges contents_at image_name_at flag_at sizes_at orders_at bus_in_table mirror_at volatile_at text_if_any number_if_any
+unfolding old_port_of port_of name_at ranges_at plain_ranges contents_at image_name_at flag_at sizes_at orders_at bus_in_table mirror_at volatile_at on_reset_at said_on_reset text_if_any number_if_any
 port_same members store plain some is =
     let read = read_keys (old_kind_at members) (old_number_at OldBase 0 last_base members)
     (old_number_at OldLength 0 MAX_LENGTH members) (λ count. old_reset_at count members) store is in
@@ -306,6 +307,7 @@ port_same members store plain some is =
         bus = Eight;
         mirror = false;
         volatile = [];
+        on_reset = Never;
       };
       reads = rw (
         plain.name,
@@ -321,6 +323,7 @@ port_same members store plain some is =
         plain.bus,
         plain.mirror,
         plain.volatile,
+        plain.on_reset,
       ) refl;
       is = record {
         plain = record {
@@ -335,6 +338,7 @@ port_same members store plain some is =
         image = refl;
         orders = refl;
         bus = refl;
+        on_reset = refl;
       };
     }
 
@@ -358,7 +362,7 @@ each_none (Ok y) (Ok ys) is = cc
 -- the ports that the tables of a script are
 pub record ReadsPorts (tables : List Members) (stores : List Store) : Type 0 where
   pub ports : List Port
-  pub read : steps.each (port_of Eight) tables ≡ Ok ports
+  pub read : steps.each (port_of Eight false) tables ≡ Ok ports
   pub are : ArePortsOf stores ports
   pub names : filter_map (λ (port : Port). port.name) ports ≡ []
 

@@ -14,13 +14,12 @@ use Rattle.tl_map.proofs.BlockFacts.{one_list}
 use Rattle.tl_map.proofs.Counted.{counts_are}
 use Rattle.tl_script.specs.Sources.{AreLawfulCounts}
 use Rattle.tl_ops.specs.Store.{Store}
-use Rattle.tl_script.specs.Master.{ScriptMaster as OldMaster, jobs_from, lines_at as old_lines_at, master_of as old_master_of, script_masters as old_masters_of}
+use Rattle.tl_script.specs.Master.{ScriptMaster as OldMaster, lines_at as old_lines_at, master_of as old_master_of, script_masters as old_masters_of}
 use Rattle.tl_script.specs.Port.{port_of as old_port_of, script_port_tables as old_port_tables, script_ports as old_ports_of}
 use Rattle.tl_script.specs.Map.{AreLawfulRanges}
 use Rattle.tl_script.specs.Key.{script_key_name as old_key_name}
-use Rattle.tl_script.specs.Script.{ScriptParts as OldParts, Spells as OldSpells, counts_of as old_counts_of, script_document as old_document_of, parts_in as old_parts_in, script_parts as old_parts_of, script_ranges as old_ranges_of}
+use Rattle.tl_script.specs.Script.{ScriptParts as OldParts, counts_of as old_counts_of, script_document as old_document_of, parts_in as old_parts_in, script_parts as old_parts_of, script_ranges as old_ranges_of}
 use Rattle.tl_script.specs.System.{System as OldSystem, range_of}
-use Rattle.tl_script.specs.declared.operation.Job.{Job}
 use Rattle.tl_types.specs.declared.limits.TheConstants.{MAX_SLOTS}
 use Rattle.tl_script.specs.Value.{list_of, list_at as old_list_at, script_number_at as old_number_at, some_of as old_some_of, script_table_of as old_table_of, script_tables_of as old_tables_of, script_value_at as old_value_at}
 use Rattle.tl_script.specs.declared.fault.ScriptKey as old_key
@@ -30,6 +29,7 @@ use Rattle.tl_script.specs.declared.fault.ScriptFault.TheVariants.{Missing as Ol
 use Rattle.check_description.specs.File.{Parts, document_of, parts_in, parts_of}
 use Rattle.check_description.specs.Reach.{reach_at}
 use Rattle.check_description.specs.Rules.{by_address_in, rules_in}
+use Rattle.check_description.specs.declared.rules.SystemRules.{SystemRules}
 use Rattle.check_scripts.specs.Instance.{ArePortsOf, DescribesTheSame, IsAbsent, IsPlainMaster, IsPlainPort, NamesTheSame, SaysNothingNew, plain_master, strict_rules}
 use Rattle.check_keys.specs.Key.{key_name}
 use Rattle.tl_map.specs.declared.owners.Owner.{Owner}
@@ -41,7 +41,7 @@ use Rattle.check_beats.specs.declared.bus.Bus.TheVariants.{Eight}
 use Rattle.check_keys.specs.Bus.{bus_in_table}
 use Rattle.check_keys.specs.Value.{array_of, flag_at, number_at, number_if_any, table_of, tables_of, text_if_any, up_to, value_at}
 use Rattle.check_keys.specs.declared.fault.Key.{Key}
-use Rattle.check_keys.specs.declared.fault.Key.TheVariants.{Bus, Unaligned, Decode, Period, Port as PortKey, Master as MasterKey, Sources}
+use Rattle.check_keys.specs.declared.fault.Key.TheVariants.{Bus, Unaligned, Decode, Resets, Period, Port as PortKey, Master as MasterKey, Sources}
 use Rattle.check_keys.specs.declared.fault.SystemFault.{SystemFault}
 use Rattle.check_keys.specs.declared.fault.SystemFault.TheVariants.{Missing, NotToml, TooLong, WrongType}
 use Rattle.tl_map.specs.declared.limits.TheConstants.{MAX_JUDGED_MASTERS, MAX_JUDGED_PORTS, MAX_JUDGED_SOURCES}
@@ -270,22 +270,26 @@ decode_read : (members : Members) → IsAbsent Decode members → by_address_in 
 unfolding by_address_in text_if_any
 decode_read members absent = rw absent refl
 
-rules_read : (members : Members) → IsAbsent Unaligned members → IsAbsent Decode members → IsAbsent Period members
-    → rules_in members ≡ Ok strict_rules
+-- the rules of a script: it has no resets
+abbrev script_rules : SystemRules
+script_rules = record { links = strict_rules; resets = false }
+
+rules_read : (members : Members) → IsAbsent Unaligned members → IsAbsent Decode members → IsAbsent Resets members
+    → IsAbsent Period members → rules_in members ≡ Ok script_rules
 unfolding rules_in flag_at number_if_any
-rules_read members aligned decode period = rw (aligned, decode_read members decode, period) refl
+rules_read members aligned decode resets period = rw (aligned, decode_read members decode, resets, period) refl
 
 parts_read : (members : Members) (ports : List Port) (masters : List Master) → bus_in_table Eight members ≡ Ok Eight
-    → rules_in members ≡ Ok strict_rules
-    → ports_of Eight members ≡ Ok ports → masters_of Eight (names_of_ports ports) members ≡ Ok masters
-    → parts_in members ≡ Ok (record { rules = strict_rules; ports = ports; masters = masters })
+    → rules_in members ≡ Ok script_rules
+    → ports_of Eight false members ≡ Ok ports → masters_of Eight (names_of_ports ports) members ≡ Ok masters
+    → parts_in members ≡ Ok (record { rules = strict_rules; resets = false; ports = ports; masters = masters })
 unfolding parts_in
 parts_read fields ports masters bus_is rules_are ports_are masters_are =
     rw (bus_is, rules_are, ports_are, masters_are) refl
 
 ports_read : (members : Members) (stores : List Store)
     (read : ReadsValue (get_member (key_name PortKey) members) stores)
-    → ports_of Eight members ≡ Ok read.same.ports
+    → ports_of Eight false members ≡ Ok read.same.ports
 unfolding ports_of port_tables
 ports_read fields stores read = rw (read.tables_are) read.same.read
 
@@ -328,7 +332,8 @@ no_names (count ∷ counts) = no_names counts
 -- the parts of a script as those of a system file
 record ReadsScript (bytes : List ℕ) (parts : OldParts) : Type 0 where
   pub ports : List Port
-  pub read : parts_of bytes ≡ Ok (record { rules = strict_rules; ports = ports; masters = map plain_master (old_counts_of parts) })
+  pub read : parts_of bytes
+      ≡ Ok (record { rules = strict_rules; resets = false; ports = ports; masters = map plain_master (old_counts_of parts) })
   pub slaves : ArePortsOf parts.stores ports
   pub names : filter_map (λ (port : Port). port.name) ports ≡ []
   pub some : 0 < length (old_counts_of parts)
@@ -355,7 +360,7 @@ parts_of_same bytes parts plain ranges counts is =
       ports = ports.same.ports;
       read = rw document_is (parts_read members ports.same.ports (map plain_master (old_counts_of parts))
           (bus_read members (plain.bus members document_is)) (rules_read members (plain.unaligned members document_is) (plain.decode members document_is)
-          (plain.period members document_is))
+          (plain.resets members document_is) (plain.period members document_is))
           (ports_read members parts.stores ports) masters);
       slaves = ports.same.are;
       names = ports.same.names;
@@ -377,9 +382,10 @@ names_same bytes script spelled plain =
     let some = read.some in
     let counted = spelled.makes.blocks.counted in
     record {
-      parts = record { rules = strict_rules; ports = read.ports; masters = map plain_master (old_counts_of parts) };
+      parts = record { rules = strict_rules; resets = false; ports = read.ports; masters = map plain_master (old_counts_of parts) };
       named = read.read;
       rules = refl;
+      resets = refl;
       slaves = rw stores read.slaves;
       masters = ap (λ counts. map plain_master counts) (sym counts);
       names = rw (read.names, no_names (old_counts_of parts)) refl;
@@ -420,6 +426,7 @@ system_same bytes script parts system spelled plain read makes =
     counts_are (old_counts_of spelled.parts) script.owners spelled.makes.blocks in
     record {
       rules = makes.rules ∙ ap (λ (p : Parts). p.rules) same ∙ named.rules;
+      resets = makes.resets ∙ ap (λ (p : Parts). p.resets) same ∙ named.resets;
       slaves = rw ports named.slaves;
       masters = makes.masters ∙ masters;
       owners = one_list (counts_in script.owners) system.owners script.owners blocks.blocks

@@ -10,9 +10,10 @@ use Rattle.check_beats.specs.declared.bus.Bus.TheVariants.{Eight}
 use Rattle.check_beats.specs.declared.rules.LinkRules.{LinkRules}
 use Rattle.check_keys.specs.Key.{key_name}
 use Rattle.check_keys.specs.declared.fault.Key.{Key}
-use Rattle.check_keys.specs.declared.fault.Key.TheVariants.{Bus, Unaligned, Decode, Period, Name, Ranges, Image, Unknown, Sizes, Order, Mirror, Volatile, First, Stride, Reach}
+use Rattle.check_keys.specs.declared.fault.Key.TheVariants.{Bus, Unaligned, Decode, Resets, Period, Name, Ranges, Image, Unknown, Sizes, Order, Mirror, Volatile, OnReset, First, Stride, Reach}
 use Rattle.check_description.specs.Laws.{IsPlainMemory, store_at_reset}
 use Rattle.check_description.specs.Order.{no_orders}
+use Rattle.check_description.specs.declared.on_reset.OnReset.TheVariants.{Never}
 use Rattle.check_description.specs.Port.{Port, port_tables}
 use Rattle.check_description.specs.Description.{Description, Makes}
 use Rattle.check_description.specs.File.{Parts, document_of, parts_of}
@@ -35,6 +36,7 @@ pub record IsPlainPort (members : Members) : Type 0 where
   pub bus : IsAbsent Bus members
   pub mirror : IsAbsent Mirror members
   pub volatile : IsAbsent Volatile members
+  pub on_reset : IsAbsent OnReset members
 
 -- a master's table has no such key
 pub record IsPlainMaster (members : Members) : Type 0 where
@@ -44,11 +46,12 @@ pub record IsPlainMaster (members : Members) : Type 0 where
   pub bus : IsAbsent Bus members
   pub reach : IsAbsent Reach members
 
--- the file says nothing of its links, and no table of a port or of a master has such a key
+-- the file says nothing of its links, nor of resets, and no table of a port or of a master has such a key
 pub record SaysNothingNew (bytes : List ℕ) : Type 0 where
   pub bus : (members : Members) → document_of bytes ≡ Ok members → IsAbsent Bus members
   pub unaligned : (members : Members) → document_of bytes ≡ Ok members → IsAbsent Unaligned members
   pub decode : (members : Members) → document_of bytes ≡ Ok members → IsAbsent Decode members
+  pub resets : (members : Members) → document_of bytes ≡ Ok members → IsAbsent Resets members
   pub period : (members : Members) → document_of bytes ≡ Ok members → IsAbsent Period members
   pub ports : (members : Members) (tables : List Members) → document_of bytes ≡ Ok members
       → port_tables members ≡ Ok tables → AllByRecursion IsPlainPort tables
@@ -66,6 +69,7 @@ pub record IsPortOf (store : Store) (port : Port) : Type 0 where
   pub image : port.contents.image ≡ None
   pub orders : port.orders ≡ no_orders
   pub bus : port.bus ≡ Eight
+  pub on_reset : port.on_reset ≡ Never
 
 -- a port for each store, in order
 abbrev pub ArePortsOf : List Store → List Port → Type 0
@@ -90,6 +94,7 @@ pub record NamesSame (script : System) (bytes : List ℕ) : Type 0 where
   pub parts : Parts
   pub named : parts_of bytes ≡ Ok parts
   pub rules : parts.rules ≡ strict_rules
+  pub resets : parts.resets ≡ false
   pub slaves : ArePortsOf script.stores parts.ports
   pub masters : parts.masters ≡ map plain_master (counts_in script.owners)
   pub names : names_of parts ≡ []
@@ -101,6 +106,7 @@ NamesTheSame = (bytes : List ℕ) (script : System) → Spells bytes script → 
 -- the system has the script's slaves, and its masters have the script's owners
 pub record IsSameSystem (script : System) (system : Description) : Type 0 where
   pub rules : system.rules ≡ strict_rules
+  pub resets : system.resets ≡ false
   pub slaves : ArePortsOf script.stores system.ports
   pub masters : system.masters ≡ map plain_master (counts_in script.owners)
   pub owners : system.owners ≡ script.owners

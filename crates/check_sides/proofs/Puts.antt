@@ -10,7 +10,7 @@ use Rattle.std.proofs.lemmas.Bool.Decides.{nat_tests}
 use Rattle.check_flight.specs.Flight.{Flight}
 use Rattle.check_sides.specs.Flights.{IsChanged, IsFlightKept, IsPut, flight_kept}
 
-same_key : (x y : ℕ) → is_eq (nat_cmp x y) ≡ (x == y)
+pub same_key : (x y : ℕ) → is_eq (nat_cmp x y) ≡ (x == y)
 same_key x y = go (nat_lt x y) refl (x == y) refl
   where
     go : (less : Bool) → nat_lt x y ≡ less → (same : Bool) → (x == y) ≡ same → is_eq (nat_cmp x y) ≡ (x == y)

@@ -1,8 +1,10 @@
 -- What is in flight of each source at one port's link. It is this project's own.
 use Rattle.std.specs.Prelude.{◌≡◌, ℕ, if◌then◌else◌, ◌==◌, List, Option, Some, unwrap_or, option_map}
+use Rattle.tl_types.specs.Request.{Request}
 use Rattle.std.specs.Map.{lookup}
 use Rattle.std.specs.Ordering.{is_eq, nat_cmp}
 use Rattle.check_flight.specs.Flight.{Flight, idle}
+use Rattle.check_flight.specs.Flight.Turn.{Asked}
 
 -- what is kept of a source, if something is
 abbrev pub flight_kept : List (ℕ × Flight) → ℕ → Option Flight
@@ -24,3 +26,13 @@ IsPut before after source flight = IsFlightKept before after source (Some flight
 -- this is made of what is in flight of a source, if something is kept of it
 abbrev pub IsChanged : List (ℕ × Flight) → List (ℕ × Flight) → ℕ → (Flight → Flight) → Type 0
 IsChanged before after source f = IsFlightKept before after source (option_map f (flight_kept before source))
+
+-- ---- requests that a reset cuts short
+
+-- the request of a source has ended at the link of a port, and the reply that is under way is not its own
+abbrev pub IsOpenFlight : ℕ → Option ℕ → ℕ → Flight → Request → Type 0
+IsOpenFlight port answering source flight ask = (flight.turn ≡ Asked port ask) × (answering ≡ Some source → ⊥)
+
+-- the same of one of the sources
+abbrev pub IsOpenOf : List (ℕ × Flight) → ℕ → Option ℕ → Request → Type 0
+IsOpenOf kept port answering ask = (source : ℕ) × IsOpenFlight port answering source (flight_of kept source) ask

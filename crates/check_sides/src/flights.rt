@@ -1,13 +1,15 @@
 //! What is in flight of each source at one port's link, which is made as it is needed.
-ghost use Rattle.std.specs.Prelude.{◌≡◌, ◌≤◌, ◌⊎◌, [], Some, None, OnOk, OnErr, IsTrue, IsSomeAnd, length};
+ghost use Rattle.std.specs.Prelude.{◌≡◌, ◌↔◌, ◌≤◌, ◌⊎◌, [], Some, None, OnOk, OnErr, IsTrue, IsSomeAnd, length};
 ghost use Rattle.check_beats.specs.Form.{FitsAsk};
 ghost use Rattle.check_beats.specs.State.{ask_of, ends_ask, first_ask};
 ghost use Rattle.check_flight.specs.Flight.Turn.{Asking, Asked};
-ghost use Rattle.check_flight.specs.Flight.{asked, flight_due, idle};
+ghost use Rattle.check_flight.specs.Flight.{IsAskedAt, asked, flight_due, idle};
 ghost use Rattle.check_flight.specs.PortSlave.{accepting, answering, due_accepting, due_answering, may_need_to_accept, may_need_to_answer};
-ghost use Rattle.check_sides.specs.Flights.{IsChanged, IsPut, flight_of, flight_kept};
+ghost use Rattle.check_watch.specs.Reset.{IsLeftPort};
+ghost use Rattle.check_sides.specs.Flights.{IsChanged, IsOpenFlight, IsOpenOf, IsPut, flight_of, flight_kept};
 
 use check_beats::{AskHead, UnderWay};
+use check_cells::AskSoFar;
 use check_flight::{Flight, FlightPlace, PortSlave};
 use std::alloc::{AllocError, Global};
 use std::collections::BTreeMap;
@@ -40,6 +42,47 @@ fn place_at(port: usize, source: u16) -> FlightPlace
         link: port,
         wide: usize::from(source),
         port,
+    }
+}
+
+/// Whether the reply that is under way is to a source.
+fn is_to(answering: Option<u16>, source: u16) -> bool
+    ensures { IsTrue result ↔ (answering ≡ Some source) }
+{
+    match answering {
+        Some(other) => other == source,
+        None => false,
+    }
+}
+
+/// Whether a request has ended at the link of a port.
+fn is_asked_at(flight: &Flight, port: usize) -> bool
+    ensures { IsTrue result ↔ IsAskedAt port flight.now.turn }
+{
+    match flight.asked_at() {
+        Some(at) => at == port,
+        None => false,
+    }
+}
+
+/// The request of a source that has ended at the link of a port is cut short at its slave, if the reply that is under way is
+/// not its own.
+fn cut_flight(
+    alloc: Global,
+    port: usize,
+    source: u16,
+    flight: &Flight,
+    answering: Option<u16>,
+    slave: &mut PortSlave,
+) -> Result<(), AllocError>
+    ensures { OnOk result (IsLeftPort (IsOpenFlight port answering source flight.now) slave.old slave.new) }
+{
+    if is_to(answering, source) || !is_asked_at(flight, port) {
+        return Ok(());
+    }
+    match flight.asked() {
+        Some(ask) => slave.cut_short(alloc, &AskSoFar::whole(ask)),
+        None => Ok(()),
     }
 }
 
@@ -175,6 +218,30 @@ impl Flights {
             return Ok(());
         };
         flight.answer(alloc, place_at(port, source), slave)
+    }
+
+    /// The requests that have ended at the link of a port, and whose replies have not begun there, are cut short at its slave.
+    /// The reply that is under way is to the source `answering`.
+    pub fn cut_short(
+        &self,
+        alloc: Global,
+        port: usize,
+        answering: Option<u16>,
+        slave: &mut PortSlave,
+    ) -> Result<(), AllocError>
+        ensures { OnOk result (IsLeftPort (IsOpenOf self.now port answering) slave.old slave.new) }
+    {
+        for (source, flight) in self.kept.iter() {
+            cut_flight(alloc, port, *source, flight, answering, slave)?;
+        }
+        Ok(())
+    }
+
+    /// Nothing is in flight any more.
+    pub fn clear_all(&mut self)
+        ensures { self.new ≡ [] }
+    {
+        self.kept.clear();
     }
 
     /// Nothing is in flight of a source any more.

@@ -19,6 +19,7 @@ mod flights;
 mod pending;
 mod port;
 mod port_steps;
+mod reset;
 mod steps;
 mod watch;
 

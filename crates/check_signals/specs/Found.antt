@@ -23,6 +23,7 @@ use Rattle.check_samples.specs.declared.channel.Channel.{Channel}
 use Rattle.check_samples.specs.declared.clock.Edge.{Edge}
 use Rattle.check_samples.specs.declared.clock.Edge.TheVariants.{Rising, Falling}
 use Rattle.check_samples.specs.declared.reset.Reset.{Reset}
+use Rattle.check_samples.specs.declared.reset.SystemReset.{SystemReset}
 use Rattle.check_samples.specs.declared.signal.Signal.{Signal}
 use Rattle.check_samples.specs.declared.tap.Tap.{Tap}
 use Rattle.check_signals.specs.Names.{ClockNames, LinkNames, SignalName, SignalNames, clock_view}
@@ -128,9 +129,11 @@ link_sources vars named = named_sources vars named.link (bus_bytes named.bus) na
 unfoldable pub links_from : List Var → Bool → NamesOf → ℕ → List Bus → Result (List LinkSources) SearchFault
 links_from vars is_port names number buses = each (link_sources vars) (numbered is_port names number buses)
 
--- what all names find: those of the system's clock and reset, and those of each link
+-- what all names find: those of the system's clock and reset, and those of each link; and whether resets of the whole system are
+-- told
 pub record FoundSources : Type 0 where
   pub system : ClockSources
+  pub resets : Bool
   pub ports : List LinkSources
   pub masters : List LinkSources
 
@@ -141,7 +144,7 @@ sources_in vars of_masters of_ports names = do
   system ← clock_sources vars owner.System names.system
   ports ← links_from vars true names.ports 0 of_ports
   masters ← links_from vars false names.masters 0 of_masters
-  Ok (record { system = system; ports = ports; masters = masters })
+  Ok (record { system = system; resets = names.resets; ports = ports; masters = masters })
 
 -- ---- what is kept
 
@@ -282,6 +285,20 @@ abbrev pub reset_by : List Kept → Bool → Option Source → Option Reset
 reset_by kept is_low None = None
 reset_by kept is_low (Some reset) = Some (record { tap = tap_by kept reset; is_low = is_low })
 
+-- the system's clock and reset, if it has both
+abbrev pub both_lines : List Kept → ClockNames → Option Source → Option Source → Option SystemReset
+both_lines kept names None reset = None
+both_lines kept names (Some clock) None = None
+both_lines kept names (Some clock) (Some reset) = Some (record {
+  clock = record { tap = tap_by kept clock; edge = names.edge };
+  reset = record { tap = tap_by kept reset; is_low = names.is_low };
+})
+
+-- if resets of the whole system are told
+abbrev pub system_reset : Bool → List Kept → ClockSources → Option SystemReset
+system_reset false kept system = None
+system_reset true kept system = both_lines kept system.names system.clock system.reset
+
 -- the first of two, if there is one
 abbrev pub first_source : Option Source → Option Source → Option Source
 first_source None other = other
@@ -374,6 +391,7 @@ abbrev pub found_by : List Kept → List ClockSources → FoundSources → Found
 found_by kept clocks sources = record {
   probes = record {
     domains = map (domain_of kept sources.system) clocks;
+    resets = system_reset sources.resets kept sources.system;
     joins = link_joins kept sources.ports ++ link_joins kept sources.masters;
     channels = in_order (channel_pairs kept clocks 0 sources.ports)
         (channel_pairs kept clocks (link_bits sources.ports) sources.masters);
@@ -442,6 +460,7 @@ links_view links = map link_sources_view links.items
 abbrev pub sources_view : code_sources.Sources → FoundSources
 sources_view sources = record {
   system = clocks_view sources.system;
+  resets = sources.resets;
   ports = map link_sources_view sources.ports.items;
   masters = map link_sources_view sources.masters.items;
 }

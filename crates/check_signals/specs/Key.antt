@@ -1,7 +1,7 @@
 -- The keys of a system file that say where signals are. This project's own.
 use Rattle.std.specs.Prelude.{ℕ, List, codes}
 use Rattle.check_signals.specs.declared.fault.SignalKey.{SignalKey}
-use Rattle.check_signals.specs.declared.fault.SignalKey.TheVariants.{Port, Master, Clock, Reset, LinkReset, ResetActive, Signals, Wires, Bits, Names, Edge}
+use Rattle.check_signals.specs.declared.fault.SignalKey.TheVariants.{Port, Master, Clock, Reset, LinkReset, ResetActive, Signals, Wires, Bits, Names, Resets, Edge}
 
 -- the key, as a file has it
 abbrev pub signal_key_name : SignalKey → List ℕ
@@ -15,4 +15,5 @@ signal_key_name Signals = codes "signals"
 signal_key_name Wires = codes "wires"
 signal_key_name Bits = codes "bits"
 signal_key_name Names = codes "names"
+signal_key_name Resets = codes "resets"
 signal_key_name Edge = codes "edge"

@@ -15,7 +15,7 @@ use Rattle.check_signals.specs.Key.{signal_key_name}
 use Rattle.check_signals.specs.Prefixes.{Manner, Naming, bare, behind_each, is_no_name, name_behind, prefixes_in, naming_view, said_in, table_of_names}
 use Rattle.check_signals.specs.Values.{may_be_left_out, name_unless, optional_flag, optional_table, optional_text, signal_text_of, value_in}
 use Rattle.check_signals.specs.declared.fault.SignalKey.{SignalKey}
-use Rattle.check_signals.specs.declared.fault.SignalKey.TheVariants.{Port, Master, Clock, Reset, LinkReset, ResetActive, Wires, Bits, Edge as EdgeKey}
+use Rattle.check_signals.specs.declared.fault.SignalKey.TheVariants.{Port, Master, Clock, Reset, LinkReset, ResetActive, Wires, Bits, Resets, Edge as EdgeKey}
 use Rattle.check_signals.specs.declared.fault.KeyFault.{KeyFault}
 use Rattle.check_signals.specs.declared.fault.KeyFault.TheVariants.{NotToml, Missing, WrongType, OutOfRange, NoSignals}
 use Rattle.check_signals.specs.declared.clocks.ClockNames as code_clock
@@ -172,9 +172,11 @@ links_in top key members = links_by top key (get_member (signal_key_name key) me
 
 -- ---- a file
 
--- the names of the system's clock and reset, and those of each link that has signals
+-- the names of the system's clock and reset, whether resets of the whole system are told, and the names of each link that has
+-- signals
 pub record SignalNames : Type 0 where
   pub system : ClockNames
+  pub resets : Bool
   pub ports : List (Option LinkNames)
   pub masters : List (Option LinkNames)
 
@@ -209,15 +211,20 @@ common_in members = do
   naming ← naming_in members
   Ok (record { system = system; naming = naming })
 
+-- whether resets of the whole system are told: they are not, if the file does not say so
+abbrev pub resets_in : Members → Result Bool KeyFault
+resets_in members = optional_flag Resets members >>= (λ resets. Ok (unwrap_or resets false))
+
 -- first table by table what is wrong in itself, and then what the whole file lacks
 unfoldable pub all_names : Members → Result SignalNames KeyFault
 all_names members = do
   top ← common_in members
+  resets ← resets_in members
   ports ← links_in top Port members
   masters ← links_in top Master members
   _ ← clock_checked (have_signals ports || have_signals masters) (need_clock ports || need_clock masters)
       top.system.clock
-  Ok (record { system = top.system; ports = ports; masters = masters })
+  Ok (record { system = top.system; resets = resets; ports = ports; masters = masters })
 
 unfoldable pub names_of_file : List ℕ → Result SignalNames KeyFault
 names_of_file bytes =
@@ -254,6 +261,7 @@ common_view top = record { system = clock_view top.system.now; naming = naming_v
 abbrev pub names_view : code_names.SignalNames → SignalNames
 names_view names = record {
   system = clock_view names.system;
+  resets = names.resets;
   ports = map link_view names.ports.items;
   masters = map link_view names.masters.items;
 }

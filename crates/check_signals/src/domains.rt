@@ -3,7 +3,7 @@ ghost use Rattle.std.specs.Prelude.{◌≡◌, ◌≢◌, IfOk, OnOk, filter, ma
 ghost use Rattle.tl_text.specs.Reading.{if_any};
 ghost use Rattle.check_vcd.specs.Header.{var_view};
 ghost use Rattle.check_samples.specs.Domain.{domain_view};
-ghost use Rattle.check_signals.specs.Found.{clock_sources, clocks_of_links, clocks_known, clocks_view, domain_of, domain_place, first_source, has_system, line_source, own_domain, reset_by, same_clock, same_edge, same_text, shared_domain, with_clocks};
+ghost use Rattle.check_signals.specs.Found.{both_lines, clock_sources, clocks_of_links, clocks_known, clocks_view, domain_of, domain_place, first_source, has_system, line_source, own_domain, reset_by, same_clock, same_edge, same_text, shared_domain, system_reset, with_clocks};
 ghost use Rattle.check_signals.specs.Names.{clock_view};
 ghost use Rattle.check_signals.specs.Source.{Finds, kept_view, source_view};
 
@@ -13,7 +13,7 @@ use crate::nets::{named_in, one_of};
 use crate::signal_fault::{SignalFault, SignalOwner};
 use crate::source::{Kept, Source, WantedSignal, left_out};
 use crate::wanted::Wanted;
-use check_samples::{Clock, Domain, Edge, Reset};
+use check_samples::{Clock, Domain, Edge, Reset, SystemReset};
 use check_vcd::Var;
 use std::alloc::{AllocError, Global};
 
@@ -207,6 +207,40 @@ fn reset_by(kept: &[Kept<'_>], is_low: bool, reset: Option<Source<'_>>) -> Optio
         }),
         None => None,
     }
+}
+
+/// The system's clock and reset, if it has both.
+fn both_lines(kept: &[Kept<'_>], system: ClockSources<'_>) -> Option<SystemReset>
+    ensures { result ≡ both_lines (map kept_view kept.now) (clock_view system.entry.names.now)
+        (option_map source_view system.entry.clock) (option_map source_view system.entry.reset) }
+{
+    let Some(clock) = system.clock else {
+        return None;
+    };
+    let Some(reset) = system.reset else {
+        return None;
+    };
+    Some(SystemReset {
+        clock: Clock {
+            tap: tap_by(kept, clock),
+            edge: system.names.edge,
+        },
+        reset: Reset {
+            tap: tap_by(kept, reset),
+            is_low: system.names.is_low,
+        },
+    })
+}
+
+/// The same, if resets of the whole system are told.
+pub(crate) fn system_reset(
+    told: bool,
+    kept: &[Kept<'_>],
+    system: ClockSources<'_>,
+) -> Option<SystemReset>
+    ensures { result ≡ system_reset told (map kept_view kept.now) (clocks_view system.entry) }
+{
+    if told { both_lines(kept, system) } else { None }
 }
 
 /// The first of two sources, if there is one.

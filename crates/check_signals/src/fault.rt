@@ -20,6 +20,7 @@ pub enum SignalKey {
     Wires,
     Bits,
     Names,
+    Resets,
     Edge,
 }
 
@@ -39,6 +40,7 @@ impl SignalKey {
             SignalKey::Wires => "wires",
             SignalKey::Bits => "bits",
             SignalKey::Names => "names",
+            SignalKey::Resets => "resets",
             SignalKey::Edge => "edge",
         }
     }

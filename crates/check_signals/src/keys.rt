@@ -5,7 +5,7 @@ ghost use Rattle.toml.specs.View.{table_view, view};
 ghost use Rattle.tl_text.specs.Reading.{each};
 ghost use Rattle.check_samples.specs.Signal.{signal_name as name_of_signal};
 ghost use Rattle.check_signals.specs.Key.{signal_key_name};
-ghost use Rattle.check_signals.specs.Names.{all_names as all_names_of, called as called_in, clock_checked, common_view, has_no_clock, have_signals, joined_names, link_by, link_in, link_of, link_view, links_in, lone_name, name_in, name_view, names_in, names_of_file, names_view, naming_in, need_clock, part_name, signals_view, some_names_in, wired as wired_in, wired_alone};
+ghost use Rattle.check_signals.specs.Names.{all_names as all_names_of, called as called_in, clock_checked, common_view, has_no_clock, have_signals, joined_names, link_by, link_in, link_of, link_view, links_in, lone_name, name_in, name_view, names_in, names_of_file, names_view, naming_in, need_clock, part_name, resets_in, signals_view, some_names_in, wired as wired_in, wired_alone};
 ghost use Rattle.check_signals.specs.Prefixes.{manner_view, naming_view};
 ghost use Rattle.check_signals.specs.Values.{GivesNames, may_be_left_out, name_unless, optional_flag, optional_table, optional_text, signal_text_of as text_in, value_in};
 
@@ -62,10 +62,12 @@ pub struct LinkNames {
     pub signals: Vec<SignalName>,
 }
 
-/// The names that a system file gives: of the system's clock and reset, and of each link that has signals.
+/// The names that a system file gives: of the system's clock and reset, and of each link that has signals. And whether resets
+/// of the whole system are told.
 #[derive(Debug, Drop)]
 pub struct SignalNames {
     pub system: ClockNames,
+    pub resets: bool,
     pub ports: Vec<Option<LinkNames>>,
     pub masters: Vec<Option<LinkNames>>,
 }
@@ -452,6 +454,14 @@ fn naming_of(table: &Table) -> Result<Naming<'_>, KeyFault>
     })
 }
 
+/// Whether resets of the whole system are told.
+fn resets_of(table: &Table) -> Result<bool, KeyFault>
+    ensures { GivesNames (λ resets. resets) result (resets_in (table_view table.now)) }
+{
+    let resets = flag_if_any(table, SignalKey::Resets)?;
+    Ok(resets.unwrap_or(false))
+}
+
 /// The names that a system's table gives.
 #[tactic(auto, unfolding(crate::specs::Names::all_names))]
 fn names_of_table(alloc: Global, table: &Table) -> Result<SignalNames, KeyFault>
@@ -462,6 +472,7 @@ fn names_of_table(alloc: Global, table: &Table) -> Result<SignalNames, KeyFault>
         system: &system,
         naming: naming_of(table)?,
     };
+    let resets = resets_of(table)?;
     let ports = links_at(alloc, top, table, SignalKey::Port)?;
     let masters = links_at(alloc, top, table, SignalKey::Master)?;
     check_clock(
@@ -471,6 +482,7 @@ fn names_of_table(alloc: Global, table: &Table) -> Result<SignalNames, KeyFault>
     )?;
     Ok(SignalNames {
         system,
+        resets,
         ports,
         masters,
     })

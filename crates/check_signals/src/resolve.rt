@@ -8,7 +8,7 @@ ghost use Rattle.check_signals.specs.Names.{names_view};
 ghost use Rattle.check_signals.specs.Source.{Finds, fault_view, kept_view, source_view};
 ghost use Rattle.check_signals.specs.declared.signal_fault.SignalFault.TheVariants.{Memory};
 
-use crate::domains::{ClockSources, clock_sources, clocks_of_links, domains_of};
+use crate::domains::{ClockSources, clock_sources, clocks_of_links, domains_of, system_reset};
 use crate::kept::values_kept;
 use crate::keys::SignalNames;
 use crate::links::{Joins, LinkSources, channel_pairs, in_order, links_of};
@@ -20,10 +20,12 @@ use check_samples::{Probes, Values};
 use check_vcd::Var;
 use std::alloc::{AllocError, Global};
 
-/// What the names of a system file find: those of the system's clock and reset, and those of each link.
+/// What the names of a system file find: those of the system's clock and reset, and those of each link. And whether resets of
+/// the whole system are told.
 #[derive(Drop)]
 struct Sources<'a> {
     system: ClockSources<'a>,
+    resets: bool,
     ports: Vec<LinkSources<'a>>,
     masters: Vec<LinkSources<'a>>,
 }
@@ -45,6 +47,7 @@ fn sources_in<'a>(
     let masters = links_of(alloc, vars, false, buses.masters, &names.masters)?;
     Ok(Sources {
         system,
+        resets: names.resets,
         ports,
         masters,
     })
@@ -179,6 +182,7 @@ fn resolved_of(alloc: Global, sources: &Sources<'_>) -> Result<Resolved, AllocEr
     Ok(Resolved {
         probes: Probes {
             domains: domains_of(alloc, &kept, sources.system, &clocks)?,
+            resets: system_reset(sources.resets, &kept, sources.system),
             joins: joins.taps,
             channels: in_order(alloc, &ports, &masters)?,
         },

@@ -2,7 +2,6 @@
 use Rattle.std.proofs.Common.{◌≡◌, ◌∙◌, ℕ, suc, ◌+◌, ◌<◌, List, [], ◌∷◌, ◌++◌, drop, get_or, length, map, Result, Ok, Err, refl, sym, ap}
 use Rattle.std.proofs.lemmas.List.{append_assoc, at_drop_more, length_push}
 use Rattle.check_flight.specs.PortSlave.{PortSlave}
-use Rattle.check_flight.specs.declared.order.Order.{Order}
 use Rattle.check_flight.specs.declared.order.SideOrders.{SideOrders}
 use Rattle.tl_text.specs.Reading.{◌>>=◌, with_front}
 use Rattle.check_keys.specs.declared.fault.SystemFault.{SystemFault}
@@ -13,7 +12,7 @@ use Rattle.check_start.specs.Slaves.{image_at, order_of, slaves_at_reset, slaves
 use Rattle.check_start.specs.declared.slaves.SlaveSide.{SlaveSide}
 
 -- what a step gave, and the rest
-step : {A B : Type 0} (r : Result A SystemFault) (f : A → Result B SystemFault) (y : B) → (r >>= f) ≡ Ok y
+pub step : {A B : Type 0} (r : Result A SystemFault) (f : A → Result B SystemFault) (y : B) → (r >>= f) ≡ Ok y
     → (x : A) × (r ≡ Ok x) × (f x ≡ Ok y)
 step (Ok x) f y is = (x, refl, is)
 step (Err e) f y is = absurd cc
@@ -29,7 +28,7 @@ same_length : (made slaves : List PortSlave) (count : ℕ) → length made ≡ c
     → length slaves ≡ count
 same_length made slaves count counted is = ap length (sym (same_slaves made slaves is)) ∙ counted
 
-abbrev rest_of : SlaveSide → SideOrders → List (List ℕ) → ℕ → List Port → PortSlave → Result (List PortSlave) SystemFault
+abbrev pub rest_of : SlaveSide → SideOrders → List (List ℕ) → ℕ → List Port → PortSlave → Result (List PortSlave) SystemFault
 rest_of side orders images number ports slave = slaves_from side orders images number ports >>= (λ rest. Ok (slave ∷ rest))
 
 -- a slave for each port

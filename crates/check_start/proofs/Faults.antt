@@ -1,5 +1,5 @@
 -- A fault of the slaves is that of either side: it is an image's, and none of an order.
-use Rattle.std.proofs.Common.{◌≡◌, ◌∙◌, ℕ, ◌+◌, Bool, true, false, nat_lt, List, [], ◌∷◌, ◌++◌, length, Result, Ok, Err, refl, ap}
+use Rattle.std.proofs.Common.{◌≡◌, ℕ, ◌+◌, Bool, true, false, nat_lt, List, [], ◌∷◌, ◌++◌, length, Result, Ok, Err, ap}
 use Rattle.check_flight.specs.PortSlave.{PortSlave}
 use Rattle.check_flight.specs.declared.order.SideOrders.{SideOrders}
 use Rattle.tl_text.specs.Reading.{◌>>=◌, unless}

@@ -1,2 +1,4 @@
 mod Counted
 mod Faults
+mod Loading
+mod Plans

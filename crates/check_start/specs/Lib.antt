@@ -1,2 +1,3 @@
 pub mod Slaves
 pub mod Start
+pub mod Loads

@@ -4,8 +4,9 @@ use Rattle.check_beats.specs.declared.bus.Bus.{Bus}
 use Rattle.check_description.specs.Port.{Port}
 use Rattle.check_description.specs.Description.{Description, ranges_of}
 use Rattle.check_description.specs.Master.{Master}
-use Rattle.check_sides.specs.Plan.{IsPlan, Layout, Plan}
+use Rattle.check_sides.specs.Plan.{IsPlan, Layout}
 use Rattle.check_lines.specs.Names.{NamesView}
+use Rattle.check_start.specs.Loads.{SystemPlan, loads_of}
 use Rattle.check_start.specs.Slaves.{own_slaves, shared_slaves}
 use Rattle.check_watch.specs.declared.links.Links.TheVariants.{Each}
 use Rattle.check_start.specs.declared.start.Terms.{Terms}
@@ -33,17 +34,18 @@ layout_of terms system = record {
 }
 
 -- the plan is one of the system, by these terms, with these bytes of its images
-pub record IsPlanOf (terms : Terms) (system : Description) (images : List (List ℕ)) (plan : Plan) : Type 0 where
-  pub is : IsPlan plan
-  pub layout : plan.layout ≡ layout_of terms system
-  pub resets : shared_slaves terms images system.ports ≡ Ok plan.resets
-  pub own : terms.links ≡ Each → own_slaves terms images system.ports ≡ Ok plan.own
+pub record IsPlanOf (terms : Terms) (system : Description) (images : List (List ℕ)) (plan : SystemPlan) : Type 0 where
+  pub is : IsPlan plan.begins
+  pub layout : plan.begins.layout ≡ layout_of terms system
+  pub resets : shared_slaves terms images system.ports ≡ Ok plan.begins.resets
+  pub own : terms.links ≡ Each → own_slaves terms images system.ports ≡ Ok plan.begins.own
+  pub loads : plan.loads ≡ loads_of system.ports
 
 -- something holds by each plan of the system; and there is one
-pub record ByThePlan (terms : Terms) (system : Description) (images : List (List ℕ)) (Holds : Plan → Type 0)
+pub record ByThePlan (terms : Terms) (system : Description) (images : List (List ℕ)) (Holds : SystemPlan → Type 0)
     : Type 0 where
-  pub some : (plan : Plan) × IsPlanOf terms system images plan
-  pub each : (plan : Plan) → IsPlanOf terms system images plan → Holds plan
+  pub some : (plan : SystemPlan) × IsPlanOf terms system images plan
+  pub each : (plan : SystemPlan) → IsPlanOf terms system images plan → Holds plan
 
 -- the names of a system's masters and ports
 abbrev pub system_names : Description → NamesView

@@ -3,14 +3,16 @@
 //! [`begin`] makes the judge ([`check_sides::Watch`]) of a description, by the bytes of its ports' images and by [`Terms`]:
 //! which links are watched, and in which order requests take effect at a port for which the file says none. The judge is one
 //! for each plan of that system (`specs/Start.antt`): each port's slave is the one that it is at reset, and each link has the
-//! bus that the file gives it. An image that is longer than its range is refused. The only other
-//! refusal is want of memory.
+//! bus that the file gives it. An image that is longer than its range is refused. The only other refusal is want of memory.
 //!
-//! A [`Beginning`] has the names and buses of the links beside the judge, and [`pending_of`] the requests in flight of
-//! such a judge: none yet. Read on in `docs/MODEL.md`, "How a judge begins".
+//! A [`Beginning`] has the names and buses of the links beside the judge, and whether there may be resets of the whole
+//! system. Its [`Loads`] make what a reset loads into the slaves, anew for each reset (`specs/Loads.antt`). [`pending_of`]
+//! makes the requests in flight of such a judge: none yet. Read on in `docs/MODEL.md`, "How a judge begins".
 #![tactic(auto)]
 
+mod loads;
 mod slaves;
 mod start;
 
+pub use loads::Loads;
 pub use start::{Beginning, Terms, begin, pending_of};

@@ -41,7 +41,7 @@ fn order_of(side: SlaveSide, orders: SideOrders, port: &Port) -> Order
 }
 
 /// The bytes of the image of the port of this number, none if none are given.
-fn image_at(images: &[Vec<u8>], port: usize) -> &[u8]
+pub fn image_at(images: &[Vec<u8>], port: usize) -> &[u8]
     ensures { result.now ≡ image_at (map (λ image. image.items) images.now) port }
 {
     match images.get(port) {

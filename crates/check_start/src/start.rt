@@ -8,9 +8,11 @@ ghost use Rattle.check_sides.specs.Plan.{Plan};
 ghost use Rattle.check_sides.specs.View.{Keeps};
 ghost use Rattle.check_unanswered.specs.View.{Holds};
 ghost use Rattle.check_lines.specs.Names.{texts_of};
+ghost use Rattle.check_start.specs.Loads.{AreLoadsOf};
 ghost use Rattle.check_start.specs.Slaves.{own_slaves as slaves_of_links, shared_slaves};
 ghost use Rattle.check_start.specs.Start.{ByThePlan, layout_of, master_buses as buses_of_masters, master_paths as paths_of_masters, system_names, port_buses as buses_of_ports};
 
+use crate::loads::Loads;
 use crate::slaves::{SlaveSide, shared_side, slaves_of};
 use check_beats::Bus;
 use check_description::{Described, Description, Master, Port};
@@ -30,13 +32,16 @@ pub struct Terms {
     pub orders: SideOrders,
 }
 
-/// The judge of a system's beats, and the names and buses of its links.
+/// The judge of a system's beats, the names and buses of its links, and what a reset loads.
 #[derive(Drop)]
 pub struct Beginning {
     pub watch: Watch,
     pub names: Names,
     pub master_buses: Vec<Bus>,
     pub port_buses: Vec<Bus>,
+    /// Whether there may be resets of the whole system, and what they load.
+    pub resets: bool,
+    pub loads: Loads,
 }
 
 /// A copy of a name, if there is one.
@@ -202,9 +207,9 @@ fn reset_slaves(
     Ok(Slaves { shared, own })
 }
 
-/// The judge of a crossbar that is this system, before any beat, and the names and buses of its links. Images has the
-/// bytes of the image of each port by its number, none of a port that names no image. An image that is longer than its
-/// range is refused; beside that only memory is.
+/// The judge of a crossbar that is this system, before any beat, the names and buses of its links, and what a reset loads.
+/// Images has the bytes of the image of each port by its number, none of a port that names no image. An image that is
+/// longer than its range is refused; beside that only memory is.
 pub fn begin(
     alloc: Global,
     system: Description,
@@ -213,7 +218,10 @@ pub fn begin(
 ) -> Result<Beginning, SystemFault>
     ensures layout { IfOk result (λ begun. begun.watch.layout ≡ layout_of terms system) }
     ensures keeps { IfOk result (λ begun.
-        ByThePlan terms system (map (λ image. image.items) images.now) (λ plan. Keeps plan [] begun.watch)) }
+        ByThePlan terms system (map (λ image. image.items) images.now) (λ plan. Keeps plan.begins [] begun.watch)) }
+    ensures resets { IfOk result (λ begun. begun.resets ≡ system.resets) }
+    ensures loads { IfOk result (λ begun.
+        ByThePlan terms system (map (λ image. image.items) images.now) (λ plan. AreLoadsOf plan begun.loads)) }
     ensures names { IfOk result (λ begun. begun.names ≡ system_names system) }
     ensures masters { IfOk result (λ begun. begun.master_buses.items ≡ buses_of_masters system.masters) }
     ensures ports { IfOk result (λ begun. begun.port_buses.items ≡ buses_of_ports system.ports) }
@@ -229,6 +237,7 @@ pub fn begin(
     let buses = buses_of(alloc, &parts)?;
     let told = buses_of(alloc, &parts)?;
     let paths = master_paths(alloc, &parts.masters)?;
+    let loads = Loads::of(alloc, parts.ports, images)?;
     let watch = Watch::new(
         alloc,
         terms.links,
@@ -246,6 +255,8 @@ pub fn begin(
         names,
         master_buses: told.masters,
         port_buses: told.ports,
+        resets: parts.resets,
+        loads,
     })
 }
 

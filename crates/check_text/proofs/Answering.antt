@@ -16,7 +16,7 @@ use Rattle.check_review.proofs.Judging.{part_before, part_of_file, told_earlier}
 use Rattle.check_records.specs.Source.{Between, TextLeft}
 use Rattle.check_records.specs.Text.{Ends, TextPlace, text_start}
 use Rattle.tl_streams.specs.Streams.{AppendsPart}
-use Rattle.check_sides.specs.Plan.{Plan}
+use Rattle.check_start.specs.Loads.{SystemPlan}
 use Rattle.check_unanswered.specs.declared.request.Left.{Left as LeftOver}
 use Rattle.check_text.specs.Capture.{HasHeader, IsCovered, IsFault, IsVerdict, IsWritten, IsWrittenOf}
 use Rattle.check_text.specs.Out.{Finishes, WritesPart, is_cut}
@@ -32,24 +32,24 @@ use Rattle.check_text.proofs.Taking.{at_start, behind_start, between_map}
 -- ---- the last rows
 
 -- a text grew by what is told of a lawful file, and by what is told before an unlawful row
-abbrev TellsFile : Bool → Plan → List SeenRow → List ℕ → List ℕ → List ℕ → Type 0
+abbrev TellsFile : Bool → SystemPlan → List SeenRow → List ℕ → List ℕ → List ℕ → Type 0
 TellsFile trace plan rows so_far text grown =
     (more : List ℕ) × (grown ≡ text ++ more) × IsToldFile trace plan rows (so_far ++ more)
 
 -- what is said of lawful rows, and what is told of them, whether requests are left or not
-answers_end : (asked : Bool) (plan : Plan) (buses : LinkBuses) (rows : List SeenRow) (at end : TextPlace) (counts : VerdictCounts)
+answers_end : (asked : Bool) (plan : SystemPlan) (buses : LinkBuses) (rows : List SeenRow) (at end : TextPlace) (counts : VerdictCounts)
     (left : Option LeftOver) → Ends at end → IsLawfulFile plan rows → HasCounts plan rows counts
     → HasLeft asked plan rows left → IsAnswer asked plan buses (Ok (ended_with counts left)) rows at
 answers_end asked plan buses rows at end counts None ends lawful has left = ((end, ends), lawful, has, left)
 answers_end asked plan buses rows at end counts (Some over) ends lawful has left = ((end, ends), lawful, left)
 
-told_end : (trace : Bool) (plan : Plan) (rows : List SeenRow) (text : List ℕ) (counts : VerdictCounts) (left : Option LeftOver)
+told_end : (trace : Bool) (plan : SystemPlan) (rows : List SeenRow) (text : List ℕ) (counts : VerdictCounts) (left : Option LeftOver)
     → IsToldFile trace plan rows text → IsToldBy trace plan (ended_with counts left) rows text
 told_end trace plan rows text counts None told = told
 told_end trace plan rows text counts (Some over) told = told
 
 -- and what was counted of them
-covered_end : (plan : Plan) (rows : List SeenRow) (tally : Tally) (counts : VerdictCounts) (left : Option LeftOver)
+covered_end : (plan : SystemPlan) (rows : List SeenRow) (tally : Tally) (counts : VerdictCounts) (left : Option LeftOver)
     → IsCoveredFile plan rows tally → IsCountedBy plan (Ok (ended_with counts left)) rows tally
 covered_end plan rows tally counts None covered = covered
 covered_end plan rows tally counts (Some over) covered = covered
@@ -57,10 +57,10 @@ covered_end plan rows tally counts (Some over) covered = covered
 module _ (buses : LinkBuses) (first now : JudgeView) (tally : Tally) (old mid : Option (List ℕ)) (text grown : List ℕ) (a b : TextLeft)
     (all : Between a b (AllTaken buses first now old mid text)) where
   pub ends_lawful : (counts : VerdictCounts) (left : Option LeftOver)
-      → ((plan : Plan) (rows : List SeenRow) → Judges plan rows now
+      → ((plan : SystemPlan) (rows : List SeenRow) → Judges plan rows now
       → IsLawfulFile plan rows × HasCounts plan rows counts × HasLeft (is_asked now) plan rows left)
-      → ((plan : Plan) (rows : List SeenRow) → Judges plan rows now → IsCoveredFile plan rows tally)
-      → ((plan : Plan) (rows : List SeenRow) (so_far : List ℕ) → HasTold plan rows now so_far
+      → ((plan : SystemPlan) (rows : List SeenRow) → Judges plan rows now → IsCoveredFile plan rows tally)
+      → ((plan : SystemPlan) (rows : List SeenRow) (so_far : List ℕ) → HasTold plan rows now so_far
       → TellsFile (is_traced now) plan rows so_far text grown)
       → IsJudged buses first tally old mid grown a (Ok (ended_with counts left))
   ends_lawful counts left lawful covers tells =
@@ -88,9 +88,9 @@ module _ (buses : LinkBuses) (first now : JudgeView) (tally : Tally) (old mid : 
       }) all)
 
   pub ends_refused : (why : Refusal)
-      → ((plan : Plan) (rows : List SeenRow) → Judges plan rows now → OfUnlawful (IsFirstUnlawful plan rows) why)
-      → ((plan : Plan) (rows : List SeenRow) → Judges plan rows now → OfUnlawful (IsCoveredBefore plan rows tally) why)
-      → ((plan : Plan) (rows : List SeenRow) (so_far : List ℕ) → HasTold plan rows now so_far
+      → ((plan : SystemPlan) (rows : List SeenRow) → Judges plan rows now → OfUnlawful (IsFirstUnlawful plan rows) why)
+      → ((plan : SystemPlan) (rows : List SeenRow) → Judges plan rows now → OfUnlawful (IsCoveredBefore plan rows tally) why)
+      → ((plan : SystemPlan) (rows : List SeenRow) (so_far : List ℕ) → HasTold plan rows now so_far
       → OfUnlawful (λ found. (more : List ℕ) × (grown ≡ text ++ more)
       × IsToldBefore (is_traced now) plan rows (so_far ++ more) found) why)
       → IsJudged buses first tally old mid grown a (verdict_refused why)
@@ -132,14 +132,14 @@ module _ (buses : LinkBuses) (first now : JudgeView) (tally : Tally) (old mid : 
 -- ---- what is left is written
 
 -- whatever is told by an answer is told of a part of the rows
-part_told : (trace : Bool) (plan : Plan) (rows : List SeenRow) (text : List ℕ) (v : Verdict)
+part_told : (trace : Bool) (plan : SystemPlan) (rows : List SeenRow) (text : List ℕ) (v : Verdict)
     → IsToldBy trace plan v rows text → IsToldPart trace plan rows text
 part_told trace plan rows text (verdict.Lawful counts) told = part_of_file trace plan rows text told
 part_told trace plan rows text (verdict.Incomplete left) told = part_of_file trace plan rows text told
 part_told trace plan rows text (verdict.Unlawful found) told = part_before trace plan rows text found told
 
 -- where an answer was cut, what was written is written
-cut_out : (trace : Bool) (plan : Plan) (answer : Result Verdict CaptureFault) (rows : List SeenRow)
+cut_out : (trace : Bool) (plan : SystemPlan) (answer : Result Verdict CaptureFault) (rows : List SeenRow)
     (old mid : Option (List ℕ)) (text : List ℕ) → is_cut answer ≡ true
     → WroteBy trace plan answer rows old mid text → IsOut trace plan answer rows old mid
 cut_out trace plan (Ok v) rows old mid text cut wrote = absurd (cc)
@@ -150,7 +150,7 @@ cut_out trace plan (Err fault.Read) rows old mid text cut wrote = absurd (cc)
 cut_out trace plan (Err fault.Memory) rows old mid text cut wrote = wrote
 cut_out trace plan (Err fault.Write) rows old mid text cut wrote = wrote
 
-whole_out : (trace : Bool) (plan : Plan) (answer : Result Verdict CaptureFault) (rows : List SeenRow)
+whole_out : (trace : Bool) (plan : SystemPlan) (answer : Result Verdict CaptureFault) (rows : List SeenRow)
     (old mid new : Option (List ℕ)) (text : List ℕ) → is_cut answer ≡ false
     → WroteBy trace plan answer rows old mid text → Appends mid new text → IsOut trace plan answer rows old new
 whole_out trace plan (Ok v) rows old mid new text cut wrote written =
@@ -165,7 +165,7 @@ whole_out trace plan (Err fault.Read) rows old mid new text cut wrote written =
 whole_out trace plan (Err fault.Memory) rows old mid new text cut wrote written = absurd (cc)
 whole_out trace plan (Err fault.Write) rows old mid new text cut wrote written = absurd (cc)
 
-part_out : (trace : Bool) (plan : Plan) (answer : Result Verdict CaptureFault) (rows : List SeenRow)
+part_out : (trace : Bool) (plan : SystemPlan) (answer : Result Verdict CaptureFault) (rows : List SeenRow)
     (old mid new : Option (List ℕ)) (text : List ℕ) → is_cut answer ≡ false
     → WroteBy trace plan answer rows old mid text → AppendsPart mid new text
     → WritesPart (IsToldPart trace plan rows) old new
@@ -188,14 +188,14 @@ part_out trace plan (Err fault.Write) rows old mid new text cut wrote front = ab
 -- ---- the whole
 
 -- what the contract says of an answer, at the place where the text begins
-pub record Says (asked trace : Bool) (plan : Plan) (buses : LinkBuses) (old new : Option (List ℕ))
+pub record Says (asked trace : Bool) (plan : SystemPlan) (buses : LinkBuses) (old new : Option (List ℕ))
     (answer : Result Verdict CaptureFault) (from : TextPlace) : Type 0 where
   pub verdict : IfOk answer (IsVerdict asked plan buses from)
   pub fault : IfErr answer (IsFault plan buses from)
   pub written : IsWritten asked trace plan buses from old new answer
 
 -- an answer after the header and some rows
-says_behind : (asked trace : Bool) (plan : Plan) (buses : LinkBuses) (old new : Option (List ℕ))
+says_behind : (asked trace : Bool) (plan : SystemPlan) (buses : LinkBuses) (old new : Option (List ℕ))
     (answer : Result Verdict CaptureFault) (from : TextPlace)
     → IsWrittenOf asked trace plan buses from old new answer → Says asked trace plan buses old new answer from
 says_behind asked trace plan buses old new (Ok (verdict.Lawful counts)) from is = record {
@@ -233,7 +233,7 @@ says_behind asked trace plan buses old new (Err fault.Read) from is = record { v
 says_behind asked trace plan buses old new (Err fault.Memory) from is = record { verdict = tt; fault = tt; written = inr is }
 says_behind asked trace plan buses old new (Err fault.Write) from is = record { verdict = tt; fault = tt; written = is }
 
-finished : (trace : Bool) (plan : Plan) (buses : LinkBuses) (from behind : TextPlace) (old mid new : Option (List ℕ))
+finished : (trace : Bool) (plan : SystemPlan) (buses : LinkBuses) (from behind : TextPlace) (old mid new : Option (List ℕ))
     (text : List ℕ) (answer result : Result Verdict CaptureFault) (first : JudgeView) (tally : Tally)
     → is_traced first ≡ trace → Judges plan [] first → HasHeader from behind
     → IsJudgedAt buses first tally old mid text answer behind → Finishes mid new text answer result
@@ -276,7 +276,7 @@ finished trace plan buses from behind old mid new text answer result first tally
           out = part_out trace plan answer judged.rows old mid new text whole.0 wrote front.1;
         })
 
-pub says_judged : (plan : Plan) (buses : LinkBuses) (a b : TextLeft) (old mid new : Option (List ℕ)) (text : List ℕ)
+pub says_judged : (plan : SystemPlan) (buses : LinkBuses) (a b : TextLeft) (old mid new : Option (List ℕ)) (text : List ℕ)
     (answer result : Result Verdict CaptureFault) (first : JudgeView) (tally : Tally)
     → Judges plan [] first → Between a b HasHeader → IsJudged buses first tally old mid text b answer
     → Finishes mid new text answer result
@@ -291,13 +291,13 @@ says_judged plan buses a b old mid new text answer result first tally start head
 -- ---- what was counted
 
 -- the rows of an answer are those that it is of
-are_judged : (asked : Bool) (plan : Plan) (buses : LinkBuses) (v : Verdict) (rows : List SeenRow) (at : TextPlace)
+are_judged : (asked : Bool) (plan : SystemPlan) (buses : LinkBuses) (v : Verdict) (rows : List SeenRow) (at : TextPlace)
     → IsAnswer asked plan buses (Ok v) rows at → AreJudged buses v rows at
 are_judged asked plan buses (verdict.Lawful counts) rows at is = is.0
 are_judged asked plan buses (verdict.Incomplete left) rows at is = is.0
 are_judged asked plan buses (verdict.Unlawful found) rows at is = is.0
 
-covered_behind : (plan : Plan) (buses : LinkBuses) (from behind : TextPlace) (old mid : Option (List ℕ)) (text : List ℕ)
+covered_behind : (plan : SystemPlan) (buses : LinkBuses) (from behind : TextPlace) (old mid : Option (List ℕ)) (text : List ℕ)
     (answer : Result Verdict CaptureFault) (first : JudgeView) (tally : Tally) → Judges plan [] first
     → HasHeader from behind → IsJudgedAt buses first tally old mid text answer behind
     → IfOk answer (IsCovered plan buses from tally)
@@ -321,7 +321,7 @@ covered_finished P mid new text answer result (inr whole) is = go whole.1
     go (inl all) = subst (λ r. IfOk r P) (sym all.0) is
     go (inr front) = subst (λ r. IfOk r P) (sym front.0) tt
 
-pub covered_judged : (plan : Plan) (buses : LinkBuses) (a b : TextLeft) (old mid new : Option (List ℕ)) (text : List ℕ)
+pub covered_judged : (plan : SystemPlan) (buses : LinkBuses) (a b : TextLeft) (old mid new : Option (List ℕ)) (text : List ℕ)
     (answer result : Result Verdict CaptureFault) (first : JudgeView) (tally : Tally)
     → Judges plan [] first → Between a b HasHeader → IsJudged buses first tally old mid text b answer
     → Finishes mid new text answer result
@@ -346,7 +346,7 @@ told known a Q keeps line_is holds = go known a.text keeps holds
     go (Some text) (Some from) keeps holds = rw (← line_is, ← keeps) holds
 
 -- and so each clause
-module _ (asked trace : Bool) (plan : Plan) (buses : LinkBuses) (old new : Option (List ℕ)) (known : Option (List ℕ)) where
+module _ (asked trace : Bool) (plan : SystemPlan) (buses : LinkBuses) (old new : Option (List ℕ)) (known : Option (List ℕ)) where
   pub says_verdict : (answer : Result Verdict CaptureFault)
       → IfSome known (λ text. Says asked trace plan buses old new answer (text_start text))
       → IfOk answer (λ v. IfSome known (λ text. IsVerdict asked plan buses (text_start text) v))
@@ -379,7 +379,7 @@ module _ (asked trace : Bool) (plan : Plan) (buses : LinkBuses) (old new : Optio
       go None says = tt
       go (Some text) says = says.written
 
-pub says_covered : (plan : Plan) (buses : LinkBuses) (tally : Tally) (known : Option (List ℕ))
+pub says_covered : (plan : SystemPlan) (buses : LinkBuses) (tally : Tally) (known : Option (List ℕ))
     (answer : Result Verdict CaptureFault) → IfSome known (λ text. IfOk answer (IsCovered plan buses (text_start text) tally))
     → IfOk answer (λ v. IfSome known (λ text. IsCovered plan buses (text_start text) tally v))
 says_covered plan buses tally known (Err why) says = tt

@@ -6,7 +6,7 @@ use Rattle.check_records.specs.Source.{TextLeft}
 use Rattle.check_records.specs.Text.{IsTooLong, TextPlace, text_start}
 use Rattle.check_records.specs.declared.fault.RecordFault.{RecordFault}
 use Rattle.check_records.specs.declared.fault.RecordFault.TheVariants as record_fault
-use Rattle.check_sides.specs.Plan.{Plan}
+use Rattle.check_start.specs.Loads.{SystemPlan}
 use Rattle.check_text.specs.Buses.{LinkBuses}
 use Rattle.check_text.specs.Capture.{HasHeaderFault, HasNoHeader}
 use Rattle.check_text.specs.Fault.{of_record}
@@ -27,7 +27,7 @@ pub not_ok : {X : Type 0} (P : X → Type 0) (result : Result X CaptureFault) (w
 not_ok P (Ok x) why is = absurd is
 not_ok P (Err e) why is = tt
 
-module _ (asked trace : Bool) (plan : Plan) (buses : LinkBuses) (old : Option (List ℕ)) where
+module _ (asked trace : Bool) (plan : SystemPlan) (buses : LinkBuses) (old : Option (List ℕ)) where
   abbrev SaysOf : CaptureFault → TextPlace → Type 0
   SaysOf why from = Says asked trace plan buses old old (Err why) from
 

@@ -23,7 +23,7 @@ use Rattle.check_records.specs.declared.fault.RecordFault.TheVariants as record_
 use Rattle.check_records.proofs.Chain.{reads-more}
 use Rattle.check_records.proofs.KnownLemmas.{between-trans}
 use Rattle.tl_streams.specs.Streams.{AppendsPart}
-use Rattle.check_sides.specs.Plan.{Plan}
+use Rattle.check_start.specs.Loads.{SystemPlan}
 use Rattle.check_text.specs.Fault.{of_record}
 use Rattle.check_text.specs.Out.{Moves, WritesFront}
 use Rattle.check_text.specs.Rows.{AllTaken, GivesRow, HasNoRow, HasRows, IsJudged, IsJudgedAt, IsUnlawfulBefore, SpellAll, SpellsCapture, StopsAt, TakesNext, TellsBefore, Took, TookRows, answer_of, halt_of}
@@ -115,24 +115,24 @@ module _ (buses : LinkBuses) (r : Record) (row : SeenRow) (spells : SpellsCaptur
       (λ x y g. (row, record { next = r; gives = g; spells = spells }, took)) gives
 
   pub row_refused : (judge : JudgeView) (tally : Tally) (text grown : List ℕ) (why : RowFault)
-      → ((plan : Plan) (rows : List SeenRow) (so_far : List ℕ) → HasTold plan rows judge so_far → HasRowFault rows row why
+      → ((plan : SystemPlan) (rows : List SeenRow) (so_far : List ℕ) → HasTold plan rows judge so_far → HasRowFault rows row why
       × (grown ≡ text))
       → StopsAt buses judge tally text grown a b (halt.Fault (fault.Row r.line why))
   row_refused judge tally text grown why refused =
       between_map a b (λ from to. GivesRecord from r to)
-      (λ from to. (plan : Plan) (rows : List SeenRow) (so_far : List ℕ) → HasTold plan rows judge so_far
+      (λ from to. (plan : SystemPlan) (rows : List SeenRow) (so_far : List ℕ) → HasTold plan rows judge so_far
       → HasNoRow buses rows r.line why from to × (grown ≡ text))
       (λ x y g plan rows so_far has. let is = refused plan rows so_far has in
       (record { next = r; gives = g; on_line = refl; no_row = inr (row, spells, is.0) }, is.1)) gives
 
   pub row_unlawful : (judge : JudgeView) (tally : Tally) (text grown : List ℕ) (found : Unlawful)
-      → ((plan : Plan) (rows : List SeenRow) (so_far : List ℕ) → HasTold plan rows judge so_far
+      → ((plan : SystemPlan) (rows : List SeenRow) (so_far : List ℕ) → HasTold plan rows judge so_far
       → (IsLater rows row × IsFirstUnlawful plan rows found) × IsCoveredBefore plan rows tally found
       × TellsBefore (is_traced judge) plan rows so_far text grown found)
       → StopsAt buses judge tally text grown a b (halt.Unlawful found)
   row_unlawful judge tally text grown found unlawful =
       between_map a b (λ from to. GivesRecord from r to)
-      (λ from to. (plan : Plan) (rows : List SeenRow) (so_far : List ℕ) → HasTold plan rows judge so_far
+      (λ from to. (plan : SystemPlan) (rows : List SeenRow) (so_far : List ℕ) → HasTold plan rows judge so_far
       → IsUnlawfulBefore plan buses rows found from to × IsCoveredBefore plan rows tally found
       × TellsBefore (is_traced judge) plan rows so_far text grown found)
       (λ x y g plan rows so_far has. let is = unlawful plan rows so_far has in (
@@ -148,7 +148,7 @@ module _ (buses : LinkBuses) (r : Record) (row : SeenRow) (spells : SpellsCaptur
 
   -- the judge refuses it
   pub row_stops : (judge : JudgeView) (tally : Tally) (text grown : List ℕ) (why : Stop)
-      → ((plan : Plan) (rows : List SeenRow) (so_far : List ℕ) → HasTold plan rows judge so_far
+      → ((plan : SystemPlan) (rows : List SeenRow) (so_far : List ℕ) → HasTold plan rows judge so_far
       → IsStop plan rows row why × CoversStop plan rows tally why
       × TellsStop (is_traced judge) plan rows so_far text grown why)
       → StopsAt buses judge tally text grown a b (halt_of r.line why)
@@ -161,11 +161,11 @@ module _ (buses : LinkBuses) (r : Record) (row : SeenRow) (spells : SpellsCaptur
 -- a record that spells no row
 pub no_row : (buses : LinkBuses) (r : Record) (why : RowFault) (a b : TextLeft) (judge : JudgeView) (tally : Tally) (text : List ℕ)
     → Between a b (λ from to. GivesRecord from r to)
-    → row_of buses.masters buses.ports r.line r.fields ≡ Err why
+    → row_of buses.resets buses.masters buses.ports r.line r.fields ≡ Err why
     → StopsAt buses judge tally text text a b (halt.Fault (fault.Row r.line why))
 no_row buses r why a b judge tally text gives is =
     between_map a b (λ from to. GivesRecord from r to)
-    (λ from to. (plan : Plan) (rows : List SeenRow) (so_far : List ℕ) → HasTold plan rows judge so_far
+    (λ from to. (plan : SystemPlan) (rows : List SeenRow) (so_far : List ℕ) → HasTold plan rows judge so_far
     → HasNoRow buses rows r.line why from to × (text ≡ text))
     (λ x y g plan rows so_far has. (record { next = r; gives = g; on_line = refl; no_row = inl is }, refl)) gives
 
@@ -229,7 +229,7 @@ module _ (buses : LinkBuses) (first : JudgeView) (old : Option (List ℕ)) where
       (y, subst (λ (t : List ℕ). TookRows buses first next old mid t x y) (sym ends.2) by_judge, ends.0)) so_far none
 
   -- what is told of earlier times, and a part of a file
-  earlier : (plan : Plan) (rows : List SeenRow) (now : JudgeView) (text : List ℕ) → is_traced now ≡ is_traced first
+  earlier : (plan : SystemPlan) (rows : List SeenRow) (now : JudgeView) (text : List ℕ) → is_traced now ≡ is_traced first
       → HasTold plan rows now text → IsToldEarlier (is_traced first) plan rows text
   earlier plan rows now text traced has =
       subst (λ t. IsToldEarlier t plan rows text) traced (told_earlier plan rows now text has)
@@ -284,7 +284,7 @@ module _ (buses : LinkBuses) (first : JudgeView) (old : Option (List ℕ)) where
       })
 
   so_far_part : (now : JudgeView) (mid : Option (List ℕ)) (text : List ℕ) (x y : TextPlace)
-      (took : TookRows buses first now old mid text x y) (plan : Plan) → Judges plan [] first
+      (took : TookRows buses first now old mid text x y) (plan : SystemPlan) → Judges plan [] first
       → WritesFront (IsToldPart (is_traced first) plan took.rows) old mid
   so_far_part now mid text x y took plan start =
       let wrote = took.told plan start in
@@ -297,7 +297,7 @@ module _ (buses : LinkBuses) (first : JudgeView) (old : Option (List ℕ)) where
   halts tally now mid text grown a b c (halt.Unlawful found) so_far stop =
       at_start a c (IsJudgedAt buses first tally old mid grown (answer_of (halt.Unlawful found)))
       (between-trans a b c (TookRows buses first now old mid text)
-      (λ from to. (plan : Plan) (rows : List SeenRow) (told : List ℕ) → HasTold plan rows now told
+      (λ from to. (plan : SystemPlan) (rows : List SeenRow) (told : List ℕ) → HasTold plan rows now told
       → IsUnlawfulBefore plan buses rows found from to × IsCoveredBefore plan rows tally found
       × TellsBefore (is_traced now) plan rows told text grown found)
       (λ from to. IsJudgedAt buses first tally old mid grown (answer_of (halt.Unlawful found)) from)
@@ -320,7 +320,7 @@ module _ (buses : LinkBuses) (first : JudgeView) (old : Option (List ℕ)) where
   halts tally now mid text grown a b c (halt.Fault (fault.Row line kind)) so_far stop =
       at_start a c (IsJudgedAt buses first tally old mid grown (Err (fault.Row line kind)))
       (between-trans a b c (TookRows buses first now old mid text)
-      (λ from to. (plan : Plan) (rows : List SeenRow) (told : List ℕ) → HasTold plan rows now told
+      (λ from to. (plan : SystemPlan) (rows : List SeenRow) (told : List ℕ) → HasTold plan rows now told
       → HasNoRow buses rows line kind from to × (grown ≡ text))
       (λ from to. IsJudgedAt buses first tally old mid grown (Err (fault.Row line kind)) from) (λ x y z took stopped. record {
         rows = took.rows;

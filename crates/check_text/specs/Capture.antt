@@ -3,13 +3,14 @@
 use Rattle.std.specs.Prelude.{◌≡◌, ◌≢◌, ◌⊎◌, ℕ, Bool, List, [], Option, Some, None, Result, Ok, Err, ⊤}
 use Rattle.std.specs.Io.KnownBytes.{Appends}
 use Rattle.check_rows.specs.Row.{SeenRow}
+use Rattle.check_review.specs.Stretches.{Stretches}
 use Rattle.check_review.specs.Covered.{AppendsCoverage, HasCovered}
 use Rattle.check_review.specs.Verdict.{HasCounts, HasLeft, IsFirstUnlawful, IsLawfulFile}
 use Rattle.check_records.specs.Reading.{StopsLong}
 use Rattle.check_records.specs.Source.{Between, TextLeft}
 use Rattle.check_records.specs.Text.{Ends, GivesRecord, IsTooLong, TextPlace}
 use Rattle.check_records.specs.Text.{RecordRow as Record}
-use Rattle.check_sides.specs.Plan.{Plan}
+use Rattle.check_start.specs.Loads.{SystemPlan}
 use Rattle.check_rows.specs.Column.{header}
 use Rattle.check_review.specs.declared.tally.Tally.{Tally}
 use Rattle.check_text.specs.Rows.{AreJudged, HasNoRow, HasRows, IsAnswer, IsOut, IsTimeOver, OfJudged}
@@ -40,7 +41,7 @@ pub record IsCapture (buses : LinkBuses) (from : TextPlace) (rows : List SeenRow
 
 -- the rows of a capture are lawful, and so many; or those to the end of some time are not, the first by this one. If it
 -- is asked which requests are left at the end of a lawful capture, these are left, or none is
-abbrev pub IsVerdict : Bool → Plan → LinkBuses → TextPlace → Verdict → Type 0
+abbrev pub IsVerdict : Bool → SystemPlan → LinkBuses → TextPlace → Verdict → Type 0
 IsVerdict asked plan buses from (Lawful counts) =
     (rows : List SeenRow) × IsCapture buses from rows × IsLawfulFile plan rows × HasCounts plan rows counts
     × HasLeft asked plan rows None
@@ -57,7 +58,7 @@ HasNoHeader from to line =
     × (first.fields ≢ header))
 
 -- why a text is no capture: of the first record that is no row, or none that may stand there, its line
-abbrev pub IsFault : Plan → LinkBuses → TextPlace → CaptureFault → Type 0
+abbrev pub IsFault : SystemPlan → LinkBuses → TextPlace → CaptureFault → Type 0
 IsFault plan buses from (fault.Header line) = (to : TextPlace) × HasNoHeader from to line
 IsFault plan buses from (fault.TooLong line) =
     IsTooLong from line ⊎ ((rows : List SeenRow) × (at : TextPlace) × Begins buses from rows at × IsTooLong at line)
@@ -68,7 +69,7 @@ IsFault plan buses from fault.Memory = ⊤
 IsFault plan buses from fault.Write = ⊤
 
 -- what is written before an answer that is given after the header and some rows
-pub record IsWrittenOf (asked trace : Bool) (plan : Plan) (buses : LinkBuses) (from : TextPlace) (old new : Option (List ℕ))
+pub record IsWrittenOf (asked trace : Bool) (plan : SystemPlan) (buses : LinkBuses) (from : TextPlace) (old new : Option (List ℕ))
     (answer : Result Verdict CaptureFault) : Type 0 where
   pub rows : List SeenRow
   pub at : TextPlace
@@ -77,7 +78,7 @@ pub record IsWrittenOf (asked trace : Bool) (plan : Plan) (buses : LinkBuses) (f
   pub out : IsOut trace plan answer rows old new
 
 -- what is written before an answer: nothing before a fault of the header
-abbrev pub IsWritten : Bool → Bool → Plan → LinkBuses → TextPlace → Option (List ℕ) → Option (List ℕ)
+abbrev pub IsWritten : Bool → Bool → SystemPlan → LinkBuses → TextPlace → Option (List ℕ) → Option (List ℕ)
     → Result Verdict CaptureFault → Type 0
 IsWritten asked trace plan buses from old new (Ok verdict) = IsWrittenOf asked trace plan buses from old new (Ok verdict)
 IsWritten asked trace plan buses from old new (Err (fault.Header line)) = Appends old new []
@@ -92,8 +93,8 @@ IsWritten asked trace plan buses from old new (Err fault.Memory) =
 IsWritten asked trace plan buses from old new (Err fault.Write) = IsWrittenOf asked trace plan buses from old new (Err fault.Write)
 
 -- something holds of the rows of a text that a verdict is of, as far as they are lawful
-pub record OfCapture (plan : Plan) (buses : LinkBuses) (from : TextPlace) (verdict : Verdict) (Holds : List SeenRow → Type 0)
-    : Type 0 where
+pub record OfCapture (plan : SystemPlan) (buses : LinkBuses) (from : TextPlace) (verdict : Verdict)
+    (Holds : (crossed : List SeenRow) → Stretches plan crossed → Type 0) : Type 0 where
   pub rows : List SeenRow
   pub at : TextPlace
   pub begins : Begins buses from rows at
@@ -101,14 +102,14 @@ pub record OfCapture (plan : Plan) (buses : LinkBuses) (from : TextPlace) (verdi
   pub holds : OfJudged plan verdict rows Holds
 
 -- this was counted of them
-abbrev pub IsCovered : Plan → LinkBuses → TextPlace → Tally → Verdict → Type 0
+abbrev pub IsCovered : SystemPlan → LinkBuses → TextPlace → Tally → Verdict → Type 0
 IsCovered plan buses from tally verdict =
-    OfCapture plan buses from verdict (λ crossed. HasCovered plan crossed tally)
+    OfCapture plan buses from verdict (λ crossed course. HasCovered plan crossed course tally)
 
 -- a text grew by what they cover, if that is asked for
-abbrev pub TellsCovered : Bool → Plan → LinkBuses → TextPlace → List ℕ → List ℕ → Verdict → Type 0
+abbrev pub TellsCovered : Bool → SystemPlan → LinkBuses → TextPlace → List ℕ → List ℕ → Verdict → Type 0
 TellsCovered asked plan buses from old new verdict =
-    OfCapture plan buses from verdict (λ crossed. AppendsCoverage asked plan crossed old new)
+    OfCapture plan buses from verdict (λ crossed course. AppendsCoverage asked plan crossed course old new)
 
 -- ---- for the proofs
 

@@ -8,6 +8,7 @@ use Rattle.check_rows.specs.Row.{SeenRow, seen_row}
 use Rattle.check_rows.specs.declared.row.Row.{Row}
 use Rattle.check_review.specs.Order.{HasRowFault, IsLater}
 use Rattle.check_review.specs.Verdict.{HasCounts, HasLeft, IsFirstUnlawful, IsLawfulFile, IsToldBefore, IsToldEarlier, IsToldFile, IsToldPart}
+use Rattle.check_review.specs.Stretches.{Stretches}
 use Rattle.check_review.specs.Covered.{HasCovered, IsCoveredBefore, OfBefore, OfLawful}
 use Rattle.check_review.specs.View.{HasTold, Judges, TellsOn, is_asked, is_traced}
 use Rattle.check_review.specs.View.{JudgeView}
@@ -23,7 +24,7 @@ use Rattle.check_records.specs.Source.{Between, TextLeft}
 use Rattle.check_records.specs.Text.{Ends, GivesRecord, IsTooLong, TextPlace, Reads}
 use Rattle.check_records.specs.Text.{RecordRow as Record}
 use Rattle.check_records.specs.Reading.{Reading, StopsLong}
-use Rattle.check_sides.specs.Plan.{Plan}
+use Rattle.check_start.specs.Loads.{SystemPlan}
 use Rattle.check_unanswered.specs.declared.request.Left.{Left as LeftOver}
 use Rattle.check_text.specs.declared.fault.CaptureFault.{CaptureFault}
 use Rattle.check_text.specs.declared.fault.CaptureFault.TheVariants as fault
@@ -38,7 +39,7 @@ use Rattle.check_text.specs.Buses.{LinkBuses}
 
 -- a record spells a row
 abbrev pub SpellsCapture : LinkBuses → Record → SeenRow → Type 0
-SpellsCapture buses r row = row_of buses.masters buses.ports r.line r.fields ≡ Ok row
+SpellsCapture buses r row = row_of buses.resets buses.masters buses.ports r.line r.fields ≡ Ok row
 
 -- records spell rows, one for one
 abbrev pub SpellAll : LinkBuses → List Record → List SeenRow → Type 0
@@ -62,7 +63,7 @@ pub record HasRows (buses : LinkBuses) (rows : List SeenRow) (from to : TextPlac
 -- why the next record is no row after these
 abbrev pub IsNoRow : LinkBuses → List SeenRow → Record → RowFault → Type 0
 IsNoRow buses rows r fault =
-    (row_of buses.masters buses.ports r.line r.fields ≡ Err fault)
+    (row_of buses.resets buses.masters buses.ports r.line r.fields ≡ Err fault)
     ⊎ ((row : SeenRow) × SpellsCapture buses r row × HasRowFault rows row fault)
 
 -- the record on this line, the next one after these rows, is no row there
@@ -80,7 +81,7 @@ IsTimeOver buses rows at =
 -- ---- what becomes of rows, and of the text after them
 
 -- what is said of the rows that were taken, and of the place after them, if this is answered
-abbrev pub IsAnswer : Bool → Plan → LinkBuses → Result Verdict CaptureFault → List SeenRow → TextPlace → Type 0
+abbrev pub IsAnswer : Bool → SystemPlan → LinkBuses → Result Verdict CaptureFault → List SeenRow → TextPlace → Type 0
 IsAnswer asked plan buses (Ok (Lawful counts)) rows at =
     ((end : TextPlace) × Ends at end) × IsLawfulFile plan rows × HasCounts plan rows counts × HasLeft asked plan rows None
 IsAnswer asked plan buses (Ok (Incomplete left)) rows at =
@@ -94,7 +95,7 @@ IsAnswer asked plan buses (Err fault.Memory) rows at = ⊤
 IsAnswer asked plan buses (Err fault.Write) rows at = ⊤
 
 -- what is told with a verdict: of lawful rows all, also if requests are left; of unlawful ones what crosses before the first that is
-abbrev pub IsToldBy : Bool → Plan → Verdict → List SeenRow → List ℕ → Type 0
+abbrev pub IsToldBy : Bool → SystemPlan → Verdict → List SeenRow → List ℕ → Type 0
 IsToldBy trace plan (Lawful counts) rows text = IsToldFile trace plan rows text
 IsToldBy trace plan (Incomplete left) rows text = IsToldFile trace plan rows text
 IsToldBy trace plan (NotLawful found) rows text = IsToldBefore trace plan rows text found
@@ -102,7 +103,7 @@ IsToldBy trace plan (NotLawful found) rows text = IsToldBefore trace plan rows t
 -- what is written of the rows that were taken, if this is answered: all that is told with a verdict; before a fault
 -- of the text, or a read that failed, all that is told of those of an earlier time than the last; where memory was
 -- refused a front of what is told of those that cross first; if a write failed such a front, and not all of it
-abbrev pub IsOut : Bool → Plan → Result Verdict CaptureFault → List SeenRow → Option (List ℕ) → Option (List ℕ) → Type 0
+abbrev pub IsOut : Bool → SystemPlan → Result Verdict CaptureFault → List SeenRow → Option (List ℕ) → Option (List ℕ) → Type 0
 IsOut trace plan (Ok verdict) rows old new = WritesAll (IsToldBy trace plan verdict rows) old new
 IsOut trace plan (Err (fault.Header line)) rows old new = ⊥
 IsOut trace plan (Err (fault.TooLong line)) rows old new = WritesAll (IsToldEarlier trace plan rows) old new
@@ -113,7 +114,8 @@ IsOut trace plan (Err fault.Write) rows old new = WritesPart (IsToldPart trace p
 
 -- something holds of the rows of a verdict that are lawful, in the order in which they cross: of lawful rows of all, also
 -- if requests are left; of unlawful ones of what crosses before the first that is
-abbrev pub OfJudged : Plan → Verdict → List SeenRow → (List SeenRow → Type 0) → Type 0
+abbrev pub OfJudged : (plan : SystemPlan) → Verdict → List SeenRow → ((crossed : List SeenRow) → Stretches plan crossed → Type 0)
+    → Type 0
 OfJudged plan (Lawful counts) rows Holds = OfLawful plan rows Holds
 OfJudged plan (Incomplete left) rows Holds = OfLawful plan rows Holds
 OfJudged plan (NotLawful found) rows Holds = OfBefore plan rows found Holds
@@ -127,7 +129,7 @@ AreJudged buses (NotLawful found) rows at = IsTimeOver buses rows at
 -- ---- for the proofs: a judge that takes rows
 
 -- rows are unlawful, the first by this one, and the next row is of a later time
-pub record IsUnlawfulBefore (plan : Plan) (buses : LinkBuses) (rows : List SeenRow) (found : Unlawful)
+pub record IsUnlawfulBefore (plan : SystemPlan) (buses : LinkBuses) (rows : List SeenRow) (found : Unlawful)
     (from to : TextPlace) : Type 0 where
   pub row : SeenRow
   pub next : GivesRow buses row from to
@@ -138,7 +140,7 @@ pub record IsUnlawfulBefore (plan : Plan) (buses : LinkBuses) (rows : List SeenR
 pub record Took (old : JudgeView) (row : SeenRow) (new : JudgeView) (text grown : List ℕ) : Type 0 where
   pub traced : is_traced new ≡ is_traced old
   pub asked : is_asked new ≡ is_asked old
-  pub tells : (plan : Plan) (rows : List SeenRow) (so_far : List ℕ) → HasTold plan rows old so_far
+  pub tells : (plan : SystemPlan) (rows : List SeenRow) (so_far : List ℕ) → HasTold plan rows old so_far
       → TellsOn plan (rows ++ row ∷ []) new so_far text grown
 
 -- the judge took the next row, or there is none
@@ -147,18 +149,18 @@ TakesNext buses old new text grown true from to = (row : SeenRow) × GivesRow bu
 TakesNext buses old new text grown false from to = Ends from to × (new ≡ old) × (grown ≡ text)
 
 -- a text grew by what is told before the first unlawful row
-abbrev pub TellsBefore : Bool → Plan → List SeenRow → List ℕ → List ℕ → List ℕ → Unlawful → Type 0
+abbrev pub TellsBefore : Bool → SystemPlan → List SeenRow → List ℕ → List ℕ → List ℕ → Unlawful → Type 0
 TellsBefore trace plan rows so_far text grown found =
     (more : List ℕ) × (grown ≡ text ++ more) × IsToldBefore trace plan rows (so_far ++ more) found
 
 -- why it did not, whatever rows it had taken, and what was counted of them
 abbrev pub StopsAt : LinkBuses → JudgeView → Tally → List ℕ → List ℕ → TextLeft → TextLeft → Halt → Type 0
 StopsAt buses judge tally text grown old new (halt.Unlawful found) =
-    Between old new (λ from to. (plan : Plan) (rows : List SeenRow) (so_far : List ℕ) → HasTold plan rows judge so_far
+    Between old new (λ from to. (plan : SystemPlan) (rows : List SeenRow) (so_far : List ℕ) → HasTold plan rows judge so_far
     → IsUnlawfulBefore plan buses rows found from to × IsCoveredBefore plan rows tally found
     × TellsBefore (is_traced judge) plan rows so_far text grown found)
 StopsAt buses judge tally text grown old new (halt.Fault (fault.Row line why)) =
-    Between old new (λ from to. (plan : Plan) (rows : List SeenRow) (so_far : List ℕ) → HasTold plan rows judge so_far
+    Between old new (λ from to. (plan : SystemPlan) (rows : List SeenRow) (so_far : List ℕ) → HasTold plan rows judge so_far
     → HasNoRow buses rows line why from to × (grown ≡ text))
 StopsAt buses judge tally text grown old new (halt.Fault (fault.TooLong line)) = StopsLong old line × (grown ≡ text)
 StopsAt buses judge tally text grown old new (halt.Fault (fault.Header line)) = ⊥
@@ -178,10 +180,10 @@ IsNext buses old new from to r lanes next.End = Between from to Ends × (new ≡
 IsNext buses old new from to r lanes (next.Fault why) =
     (text : List ℕ) → StopsAt buses old new.tally text text from to (halt.Fault why)
 
--- a row that is left is one that a judge can take: of a link that a system can have, with that link's bus
+-- a row that is left is one that a judge can take: of a link that a system can have; and a beat has the bus of its link
 pub record IsTakable (buses : LinkBuses) (row : Row) : Type 0 where
   pub link : IsLink row.link
-  pub bus : HasBus buses.masters buses.ports row.link row.bus
+  pub bus : row.is_reset ≡ false → HasBus buses.masters buses.ports row.link row.bus
 
 -- the reader goes on after a row that is no fault
 abbrev pub GoesOn : LinkBuses → Reading → Next → Type 0
@@ -203,7 +205,7 @@ pub record TookRows (buses : LinkBuses) (first now : JudgeView) (old new : Optio
   pub has : HasRows buses rows from to
   pub traced : is_traced now ≡ is_traced first
   pub asked : is_asked now ≡ is_asked first
-  pub told : (plan : Plan) → Judges plan [] first → Wrote (HasTold plan rows now) old new text
+  pub told : (plan : SystemPlan) → Judges plan [] first → Wrote (HasTold plan rows now) old new text
 
 -- and then there were no more
 abbrev pub AllTaken : LinkBuses → JudgeView → JudgeView → Option (List ℕ) → Option (List ℕ) → List ℕ → TextPlace → TextPlace → Type 0
@@ -211,7 +213,7 @@ AllTaken buses first now old new text from to =
     (last : TextPlace) × TookRows buses first now old new text from last × Ends last to
 
 -- what is told by an answer was written, but for this text; or a front of it
-abbrev pub WroteBy : Bool → Plan → Result Verdict CaptureFault → List SeenRow → Option (List ℕ) → Option (List ℕ) → List ℕ
+abbrev pub WroteBy : Bool → SystemPlan → Result Verdict CaptureFault → List SeenRow → Option (List ℕ) → Option (List ℕ) → List ℕ
     → Type 0
 WroteBy trace plan (Ok verdict) rows old new text = Wrote (IsToldBy trace plan verdict rows) old new text
 WroteBy trace plan (Err (fault.Header line)) rows old new text = ⊥
@@ -222,8 +224,8 @@ WroteBy trace plan (Err fault.Memory) rows old new text = WritesFront (IsToldPar
 WroteBy trace plan (Err fault.Write) rows old new text = WritesPart (IsToldPart trace plan rows) old new
 
 -- what was counted, if this is answered
-abbrev pub IsCountedBy : Plan → Result Verdict CaptureFault → List SeenRow → Tally → Type 0
-IsCountedBy plan (Ok verdict) rows tally = OfJudged plan verdict rows (λ crossed. HasCovered plan crossed tally)
+abbrev pub IsCountedBy : SystemPlan → Result Verdict CaptureFault → List SeenRow → Tally → Type 0
+IsCountedBy plan (Ok verdict) rows tally = OfJudged plan verdict rows (λ crossed course. HasCovered plan crossed course tally)
 IsCountedBy plan (Err why) rows tally = ⊤
 
 -- a judge of no rows took some and answers this
@@ -232,9 +234,9 @@ pub record IsJudgedAt (buses : LinkBuses) (first : JudgeView) (tally : Tally) (o
   pub rows : List SeenRow
   pub last : TextPlace
   pub has : HasRows buses rows from last
-  pub answers : (plan : Plan) → Judges plan [] first → IsAnswer (is_asked first) plan buses answer rows last
-  pub covered : (plan : Plan) → Judges plan [] first → IsCountedBy plan answer rows tally
-  pub told : (plan : Plan) → Judges plan [] first → WroteBy (is_traced first) plan answer rows old new text
+  pub answers : (plan : SystemPlan) → Judges plan [] first → IsAnswer (is_asked first) plan buses answer rows last
+  pub covered : (plan : SystemPlan) → Judges plan [] first → IsCountedBy plan answer rows tally
+  pub told : (plan : SystemPlan) → Judges plan [] first → WroteBy (is_traced first) plan answer rows old new text
 
 abbrev pub IsJudged : LinkBuses → JudgeView → Tally → Option (List ℕ) → Option (List ℕ) → List ℕ → TextLeft → Result Verdict CaptureFault
     → Type 0

@@ -2,7 +2,7 @@
 ghost use Rattle.std.specs.Prelude.{◌≡◌, ◌≤◌, [], None, length, OnOk, IfOk, IfErr, IfSome};
 ghost use Rattle.check_records.specs.Source.{Between};
 ghost use Rattle.check_records.specs.Text.{text_start};
-ghost use Rattle.check_sides.specs.Plan.{Plan};
+ghost use Rattle.check_start.specs.Loads.{SystemPlan};
 ghost use Rattle.check_review.specs.View.{Judges, is_asked, is_covered, is_traced};
 ghost use Rattle.check_text.specs.Buses.{HasBuses, link_buses};
 ghost use Rattle.check_text.specs.Capture.{HasHeader, HasHeaderFault, IsCovered, IsFault, IsVerdict, IsWritten};
@@ -49,18 +49,18 @@ pub fn judge_capture<R: Read + Drop, W: Write>(
     requires masters { length buses.now.masters.now ≤ MAX_JUDGED_MASTERS }
     requires ports { length buses.now.ports.now ≤ MAX_JUDGED_PORTS }
     requires buses { HasBuses judge.old.tally.watch.layout (link_buses buses.now) }
-    ensures verdict { (plan : Plan) → Judges plan [] judge.old
+    ensures verdict { (plan : SystemPlan) → Judges plan [] judge.old
         → IfOk result (λ verdict. IfSome (R.remaining reader) (λ text.
         IsVerdict (is_asked judge.old) plan (link_buses buses.now) (text_start text) verdict)) }
-    ensures fault { (plan : Plan) → Judges plan [] judge.old
+    ensures fault { (plan : SystemPlan) → Judges plan [] judge.old
         → IfErr result (λ fault. IfSome (R.remaining reader) (λ text.
         IsFault plan (link_buses buses.now) (text_start text) fault)) }
     ensures covered { is_covered judge.new ≡ is_covered judge.old }
-    ensures covers { (plan : Plan) → Judges plan [] judge.old
+    ensures covers { (plan : SystemPlan) → Judges plan [] judge.old
         → IfOk result (λ verdict. IfSome (R.remaining reader) (λ text.
         IsCovered plan (link_buses buses.now) (text_start text) judge.new.tally verdict)) }
     ensures same { writer.new.writer.ghost_name ≡ writer.old.writer.ghost_name }
-    ensures told { (plan : Plan) → Judges plan [] judge.old → IfSome (R.remaining reader) (λ text.
+    ensures told { (plan : SystemPlan) → Judges plan [] judge.old → IfSome (R.remaining reader) (λ text.
         IsWritten (is_asked judge.old) (is_traced judge.old) plan (link_buses buses.now) (text_start text)
         (W.contents writer.old.writer.now) (W.contents writer.new.writer.now) result) }
 {

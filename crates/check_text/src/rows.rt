@@ -1,12 +1,10 @@
 //! The rows of a capture, one after the other.
 ghost use Rattle.std.specs.Prelude.{◌≡◌, ◌≤◌, [], None, length, OnOk, IfOk, IfErr};
 ghost use Rattle.check_records.specs.Source.{Between};
-ghost use Rattle.check_rows.specs.Buses.{HasBus};
-ghost use Rattle.check_rows.specs.Moment.{IsLink};
 ghost use Rattle.check_rows.specs.Row.{row_in, row_of};
 ghost use Rattle.check_review.specs.View.{is_covered};
 ghost use Rattle.check_text.specs.Buses.{HasBuses, link_buses};
-ghost use Rattle.check_text.specs.Rows.{AllTaken, GoesOn, IsJudged, IsNext, answer_of, verdict_at_end, halt_of, verdict_refused};
+ghost use Rattle.check_text.specs.Rows.{AllTaken, GoesOn, IsJudged, IsNext, IsTakable, answer_of, verdict_at_end, halt_of, verdict_refused};
 
 use crate::fault::{CaptureFault, Verdict};
 use crate::out::write_long;
@@ -46,10 +44,9 @@ fn row_at_hand<R: Read + Drop>(
 ) -> Result<Row, RowFault>
     requires masters { length buses.now.masters.now ≤ MAX_JUDGED_MASTERS }
     requires ports { length buses.now.ports.now ≤ MAX_JUDGED_PORTS }
-    ensures value { row_in lanes.new result ≡ row_of buses.now.masters.now buses.now.ports.now
+    ensures value { row_in lanes.new result ≡ row_of buses.now.resets buses.now.masters.now buses.now.ports.now
         records.now.row.line records.now.row.fields }
-    ensures link { IfOk result (λ row. IsLink row.link) }
-    ensures bus { IfOk result (λ row. HasBus buses.now.masters.now buses.now.ports.now row.link row.bus) }
+    ensures takable { IfOk result (IsTakable (link_buses buses.now)) }
 {
     let line = records.line();
     match records.bare() {

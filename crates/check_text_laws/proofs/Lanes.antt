@@ -1,5 +1,5 @@
 -- A row that columns spell has as many lanes as its link's bus has bytes.
-use Rattle.std.proofs.Common.{◌≡◌, ◌∙◌, ℕ, suc, ◌-◌, ◌^◌, Bool, true, false, if◌then◌else◌, List, [], ◌∷◌, length, map, Option, None, Some, Result, Ok, Err, IfSome, option_map, refl, ap, subst}
+use Rattle.std.proofs.Common.{◌≡◌, ◌∙◌, ℕ, suc, ◌-◌, ◌^◌, Bool, true, false, if◌then◌else◌, List, [], ◌∷◌, drop, length, map, Option, None, Some, Result, Ok, Err, IfSome, option_map, refl, ap, subst}
 use Rattle.std.specs.Prelude.{◌==◌, ok_or}
 use Rattle.std.specs.List.{range_with_len}
 use Rattle.std.proofs.lemmas.List.{length-map, length-replicate}
@@ -8,14 +8,16 @@ use Rattle.check_beats.specs.declared.bus.Bus.{Bus}
 use Rattle.check_rows.specs.Buses.{bus_of_link}
 use Rattle.check_rows.specs.Lanes.{SeenLanes, all_of, byte_or_zero, lane_at, lanes_of, seen_of, shown_by, zeros}
 use Rattle.check_rows.specs.Column.{column, is_cut}
-use Rattle.check_rows.specs.Columns.{channel_of, flag_of, flag_or, link_of, nothing_of}
+use Rattle.check_rows.specs.Columns.{are_empty, channel_of, flag_of, flag_or, link_of, nothing_of, or_reset}
 use Rattle.check_rows.specs.Number.{address_of, decimal_of, decimal_or_zero, mask_of}
 use Rattle.tl_text.specs.Reading.{◌>>=◌}
-use Rattle.check_rows.specs.Row.{SeenBeat, SeenRow, ask_of_words, asks_for_mark, beat_of, reply_of_words, row_of}
+use Rattle.check_rows.specs.Row.{SeenBeat, SeenRow, ask_of_words, asks_for_mark, beat_of, nothing_seen, reply_of_words, row_of, row_or_reset}
 use Rattle.check_rows.specs.declared.columns.RowChannel.{RowChannel}
 use Rattle.check_rows.specs.declared.columns.RowChannel.TheVariants as channel
 use Rattle.check_rows.specs.declared.column.Column.TheVariants as named
 use Rattle.check_rows.specs.declared.fault.RowFault.{RowFault}
+use Rattle.check_rows.specs.declared.fault.RowFault.TheVariants.{Number}
+use Rattle.check_watch.specs.declared.beat.Link.{Link}
 
 -- an answer that is no fault
 abbrev ok : {A : Type 0} → A → Result A RowFault
@@ -131,13 +133,29 @@ row_counted : (masters ports : List Bus) (made row : SeenRow) → HasItsLanes ma
 row_counted masters ports made row counted is = let same : made ≡ row = cc in
     subst (HasItsLanes masters ports) same counted
 
-pub lanes_of_row_are : (masters ports : List Bus) (line : ℕ) (columns : List (List ℕ)) (row : SeenRow)
-    → row_of masters ports line columns ≡ Ok row → HasItsLanes masters ports row
+-- a reset is no beat
+no_reset : (empty : Bool) (line time : ℕ) (row : SeenRow)
+    → (if empty then ok (record { line = line; time = time; is_reset = true; sighting = nothing_seen }) else Err Number)
+    ≡ Ok row → row.is_reset ≡ false → ⊥
+no_reset true line time row is beat = cc
+no_reset false line time row is beat = cc
+
+at_link : (masters ports : List Bus) (line time : ℕ) (columns : List (List ℕ)) (link : Option Link) (row : SeenRow)
+    → row_or_reset masters ports line time columns link ≡ Ok row → row.is_reset ≡ false → HasItsLanes masters ports row
+unfolding row_or_reset
+at_link masters ports line time columns (Some link) row is beat =
+    let channel = step (channel_of (column columns named.Channel)) _ row is in
+    let seen = step (beat_of (bus_of_link masters ports link) channel.0 columns) _ row channel.2 in
+    row_counted masters ports _ row (beat_counted (bus_of_link masters ports link) channel.0 columns seen.0 seen.1) seen.2
+at_link masters ports line time columns None row is beat =
+    absurd (no_reset (are_empty (drop 2 columns)) line time row is beat)
+
+pub lanes_of_row_are : (resets : Bool) (masters ports : List Bus) (line : ℕ) (columns : List (List ℕ)) (row : SeenRow)
+    → row_of resets masters ports line columns ≡ Ok row → row.is_reset ≡ false → HasItsLanes masters ports row
 unfolding row_of
-lanes_of_row_are masters ports line columns row is =
+lanes_of_row_are resets masters ports line columns row is beat =
     let read = tested_beside (length columns == 12) (is_cut columns) _ _ _ row is in
     let time = step (decimal_of (2 ^ 64 - 1) (column columns named.Time)) _ row read in
-    let link = step (link_of masters ports (column columns named.Link)) _ row time.2 in
-    let channel = step (channel_of (column columns named.Channel)) _ row link.2 in
-    let seen = step (beat_of (bus_of_link masters ports link.0) channel.0 columns) _ row channel.2 in
-    row_counted masters ports _ row (beat_counted (bus_of_link masters ports link.0) channel.0 columns seen.0 seen.1) seen.2
+    let link = step (or_reset resets (column columns named.Link) (link_of masters ports (column columns named.Link))) _ row
+    time.2 in
+    at_link masters ports line time.0 columns link.0 row link.2 beat

@@ -2,6 +2,7 @@ mod Lanes
 pub mod Parts
 pub mod Watched
 pub mod GroupRules
+pub mod Across
 pub mod Rules
 pub mod Finding
 pub mod Kept

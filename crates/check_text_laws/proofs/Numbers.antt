@@ -289,15 +289,15 @@ module _ (plan : Plan) (before : List SeenRow) (row : SeenRow) where
 
 -- ---- all rows
 
-pub asked_is : (plan : Plan) (rows : List SeenRow)
-    → how_many is_asked (bins plan rows) % 2 ^ 64 ≡ asked_in_past plan (beats_of rows)
-asked_is plan [] = refl
-asked_is plan (row ∷ before) =
-    more_of (is_counted plan.layout.links row.sighting.link && ends_an_ask (end_of plan before row))
-    (how_many is_asked (bins plan before)) (how_many is_asked (bins_of plan before row))
-    (how_many is_asked (bins plan (row ∷ before))) (asked_in_past plan (beats_of before))
-    (asked_is plan before) (asked_here plan before row)
-    (how_many-append is_asked (bins_of plan before row) (bins plan before))
+pub asked_is : (before : ℕ) (plan : Plan) (rows : List SeenRow)
+    → (before + how_many is_asked (bins plan rows)) % 2 ^ 64 ≡ asked_in_past (before % 2 ^ 64) plan (beats_of rows)
+asked_is before plan [] = omega arith
+asked_is before plan (row ∷ rows) =
+    let sum = how_many-append is_asked (bins_of plan rows row) (bins plan rows) in
+    more_of (is_counted plan.layout.links row.sighting.link && ends_an_ask (end_of plan rows row))
+    (before + how_many is_asked (bins plan rows)) (how_many is_asked (bins_of plan rows row))
+    (before + how_many is_asked (bins plan (row ∷ rows))) (asked_in_past (before % 2 ^ 64) plan (beats_of rows))
+    (asked_is before plan rows) (asked_here plan rows row) (omega (arith, sum))
 
 pub asked_at_most : (plan : Plan) (rows : List SeenRow) → how_many is_asked (bins plan rows) ≤ length rows
 asked_at_most plan [] = omega arith
@@ -309,15 +309,15 @@ asked_at_most plan (row ∷ before) =
     (how_many-append is_asked (bins_of plan before row) (bins plan before)) in
     omega (arith, more)
 
-pub answered_is : (plan : Plan) (rows : List SeenRow) → IsLawful plan (beats_of rows)
-    → how_many is_answered (bins plan rows) % 2 ^ 64 ≡ answered_in_past plan (beats_of rows)
-answered_is plan [] lawful = refl
-answered_is plan (row ∷ before) lawful =
-    more_of (is_counted plan.layout.links row.sighting.link && ends_a_reply (end_of plan before row))
-    (how_many is_answered (bins plan before)) (how_many is_answered (bins_of plan before row))
-    (how_many is_answered (bins plan (row ∷ before))) (answered_in_past plan (beats_of before))
-    (answered_is plan before lawful.0) (answered_here plan before row lawful)
-    (how_many-append is_answered (bins_of plan before row) (bins plan before))
+pub answered_is : (before : ℕ) (plan : Plan) (rows : List SeenRow) → IsLawful plan (beats_of rows)
+    → (before + how_many is_answered (bins plan rows)) % 2 ^ 64 ≡ answered_in_past (before % 2 ^ 64) plan (beats_of rows)
+answered_is before plan [] lawful = omega arith
+answered_is before plan (row ∷ rows) lawful =
+    let sum = how_many-append is_answered (bins_of plan rows row) (bins plan rows) in
+    more_of (is_counted plan.layout.links row.sighting.link && ends_a_reply (end_of plan rows row))
+    (before + how_many is_answered (bins plan rows)) (how_many is_answered (bins_of plan rows row))
+    (before + how_many is_answered (bins plan (row ∷ rows))) (answered_in_past (before % 2 ^ 64) plan (beats_of rows))
+    (answered_is before plan rows lawful.0) (answered_here plan rows row lawful) (omega (arith, sum))
 
 pub answered_at_most : (plan : Plan) (rows : List SeenRow) → IsLawful plan (beats_of rows)
     → how_many is_answered (bins plan rows) ≤ length rows

@@ -1,5 +1,5 @@
 -- The order `any` let nothing pass where no line tells of a contested request.
-use Rattle.std.proofs.Common.{◌≡◌, ◌∙◌, ⊎_elim, ℕ, List, ap, sym, subst}
+use Rattle.std.proofs.Common.{◌≡◌, ◌∙◌, ◌++◌, ⊎_elim, ℕ, List, ap, sym, subst}
 use Rattle.tl_map.specs.Map.{IsLawfulAddressMap}
 use Rattle.check_memory.specs.declared.slave.Slave.{Slave}
 use Rattle.check_flight.specs.PortSlave.{PortSlave}
@@ -17,7 +17,9 @@ use Rattle.check_sides.specs.Groups.{shared_past}
 use Rattle.check_sides.specs.Lawful.{IsLawful}
 use Rattle.check_rows.specs.Row.{SeenRow}
 use Rattle.check_unanswered.specs.Began.{beats_of}
+use Rattle.check_coverage.specs.Bins.{bins}
 use Rattle.check_coverage.specs.Text.{TellsCoverage}
+use Rattle.check_coverage.specs.declared.bin.Bin.{Bin}
 use Rattle.check_text_laws.specs.Sums.{DifferUntold}
 use Rattle.check_text_laws.proofs.Rows.{shared_part}
 use Rattle.check_text_laws.proofs.Uncontested.{nothing_is_contested}
@@ -49,14 +51,15 @@ module _ (loose strict : Plan) (looser : IsLooser loose strict) where
   strict_watched past watched =
       subst (λ (layout : Layout). AreGroupWatched layout past) (ap (λ (p : Plan). p.layout) looser.same) watched
 
-pub nothing_passed : (loose : Plan) (strict : Plan) (rows : List SeenRow) (old new : List ℕ) → IsPlan loose
+pub nothing_passed : (loose : Plan) (strict : Plan) (rows : List SeenRow) (later earlier : List Bin) (ports : ℕ)
+    (old new : List ℕ) → IsPlan loose
     → IsLawfulAddressMap loose.layout.ports
     → AreGroupWatched loose.layout (shared_past loose.layout.links (beats_of rows))
     → IsLawful loose (beats_of rows)
-    → (tells : TellsCoverage loose rows old new) → IsLooser loose strict → AreFresh strict
+    → (tells : TellsCoverage ports (later ++ (bins loose rows ++ earlier)) old new) → IsLooser loose strict → AreFresh strict
     → DifferUntold loose strict tells.entries
     → IsGroupLawful strict (shared_past loose.layout.links (beats_of rows))
-nothing_passed loose strict rows old new is_plan map watched lawful tells looser fresh differ =
+nothing_passed loose strict rows later earlier ports old new is_plan map watched lawful tells looser fresh differ =
     let past = shared_past loose.layout.links (beats_of rows) in
     uncontested_is_tight loose strict past looser
     (strict_plan loose strict looser is_plan) fresh
@@ -64,6 +67,6 @@ nothing_passed loose strict rows old new is_plan map watched lawful tells looser
     (λ port other. let differs = differ port other in (
       differs.0,
       strict_uncontested loose strict looser port past
-          (nothing_is_contested loose rows old new port is_plan map watched lawful tells differs.1),
+          (nothing_is_contested loose rows later earlier ports old new port is_plan map watched lawful tells differs.1),
     ))
     (shared_part loose (beats_of rows) lawful)

@@ -1,6 +1,7 @@
 -- What lawful verdicts say of rows.
 use Rattle.std.proofs.Common.{◌≡◌, ℕ, ◌<◌, ◌≤◌, Bool, if◌then◌else◌, true, false, List, [], ◌∷◌, ◌++◌, map, filter, refl, sym, ap, ltb→lt, T, subst, arith}
 use Rattle.std.specs.Prelude.{◌&&◌, nat_lt, length}
+use Rattle.std.specs.List.{AllByRecursion}
 use Rattle.std.specs.List.Sorted.{IsPermutation}
 use Rattle.std.proofs.lemmas.List.Elements.{All-from_recursion, recursion_from_All}
 use Rattle.std.proofs.lemmas.List.Sorted.{All-permutation}
@@ -9,9 +10,11 @@ use Rattle.check_watch.specs.declared.beat.Link.{Link}
 use Rattle.check_watch.specs.declared.beat.Link.TheVariants.{Master, Port}
 use Rattle.check_watch.specs.declared.links.Links.{Links}
 use Rattle.check_watch.specs.declared.links.Links.TheVariants.{Both, Masters, Ports, Each}
-use Rattle.check_sides.specs.Plan.{Plan, Layout, IsPlan, HasLink, IsWatched, bus_of}
+use Rattle.check_sides.specs.Plan.{Layout, IsPlan, HasLink, IsWatched, bus_of}
 use Rattle.check_rows.specs.Buses.{bus_of_link as row_bus}
 use Rattle.check_rows.specs.Row.{SeenRow}
+use Rattle.check_start.specs.Loads.{SystemPlan}
+use Rattle.check_review.specs.Stretches.{IsLawfulStretch, Stretch, sightings_in, stretches}
 use Rattle.check_review.specs.Order.{are_masters_watched, are_ports_watched, is_watched, sightings_of}
 use Rattle.check_review.specs.Verdict.{IsLawfulFile, IsFirstUnlawful}
 use Rattle.check_unanswered.specs.declared.request.Left.{Left}
@@ -23,9 +26,10 @@ use Rattle.check_text.specs.Capture.{IsVerdict}
 use Rattle.check_text.specs.Rows.{HasRows, SpellAll}
 use Rattle.check_text.specs.declared.fault.Verdict.TheVariants.{Incomplete, Lawful, Unlawful as Not}
 use Rattle.check_text_laws.specs.Groups.{AreAllWatched}
+use Rattle.check_text_laws.proofs.Across.{Fits, each_fits, ended_lawful}
 use Rattle.check_text_laws.proofs.GroupRules.{always_keeps, rules_make_lawful, all_compliant}
 use Rattle.check_text_laws.proofs.Lanes.{lanes_of_row_are}
-use Rattle.check_text_laws.specs.Rules.{FileKeepsRules, BreaksRules, CaptureKeepsRules, CaptureBreaksRules, CaptureLeaves, HaveLanes}
+use Rattle.check_text_laws.specs.Rules.{FileKeepsRules, BreaksRules, CaptureKeepsRules, CaptureBreaksRules, CaptureLeaves, HaveLanes, StretchKeepsRules}
 
 less : (m n : ℕ) → nat_lt m n ≡ true → m < n
 less m n is = ltb→lt m n (subst (λ b. T b) (sym is) tt)
@@ -56,7 +60,9 @@ watched_link layout (Port p) is =
     (less p (length layout.ports) both.1, ports_watched layout.links p both.0)
 
 -- what is seen of rows with their lanes is at links that are watched
-seen_watched : (layout : Layout) (crossed : List SeenRow) → HaveLanes layout crossed → AreAllWatched layout (sightings_of layout crossed)
+seen_watched : (layout : Layout) (crossed : List SeenRow)
+    → AllByRecursion (λ (r : SeenRow). bus_of layout r.sighting.link ≤ length r.sighting.lanes) crossed
+    → AreAllWatched layout (sightings_of layout crossed)
 seen_watched layout [] have = tt
 seen_watched layout (row ∷ crossed) have =
     go (seen_watched layout crossed have.1) (is_watched layout row.sighting.link) refl
@@ -70,34 +76,59 @@ seen_watched layout (row ∷ crossed) have =
         (record { link = link.0; watched = link.1; lanes = have.0 }, before)
     go before false is = before
 
+-- the same of a stretch
+stretch_watched : (layout : Layout) (stretch : Stretch) → Fits layout stretch
+    → AreAllWatched stretch.plan.layout (sightings_in stretch)
+stretch_watched layout stretch fits =
+    subst (λ l. AreAllWatched l (sightings_of l stretch.rows)) (sym fits.layout_is)
+    (seen_watched layout stretch.rows fits.lanes)
+
 -- the rows of a file have their lanes in whatever order they cross
 have_crossed : (layout : Layout) (file crossed : List SeenRow) → HaveLanes layout file → IsPermutation file crossed
     → HaveLanes layout crossed
 have_crossed layout file crossed have same =
-    let P : SeenRow → Type 0 = λ row. bus_of layout row.sighting.link ≤ length row.sighting.lanes in
+    let P : SeenRow → Type 0 =
+    λ row. row.is_reset ≡ false → bus_of layout row.sighting.link ≤ length row.sighting.lanes in
     recursion_from_All P crossed (All-permutation P file crossed same (All-from_recursion P file have))
 
-pub file_keeps : (plan : Plan) (file : List SeenRow) → IsPlan plan → HaveLanes plan.layout file → IsLawfulFile plan file
-    → FileKeepsRules plan file
+-- lawful stretches keep the rules
+each_keeps : (layout : Layout) (all : List Stretch) → AllByRecursion (Fits layout) all → AllByRecursion IsLawfulStretch all
+    → AllByRecursion StretchKeepsRules all
+each_keeps layout [] fit lawful = tt
+each_keeps layout (stretch ∷ ended) fit lawful = (
+  record {
+    keeps = always_keeps stretch.plan (sightings_in stretch) fit.0.plan_is (stretch_watched layout stretch fit.0) lawful.0;
+    whole = all_compliant stretch.plan (sightings_in stretch) lawful.0;
+  },
+  each_keeps layout ended fit.1 lawful.1,
+)
+
+pub file_keeps : (plan : SystemPlan) (file : List SeenRow) → IsPlan plan.begins → HaveLanes plan.begins.layout file
+    → IsLawfulFile plan file → FileKeepsRules plan file
 file_keeps plan file is have lawful =
-    let crossed = have_crossed plan.layout file lawful.crossed have lawful.crossing.same in
+    let course = lawful.course in
+    let lanes = have_crossed plan.begins.layout file lawful.crossed have lawful.crossing.same in
     record {
       crossed = lawful.crossed;
       crossing = lawful.crossing;
-      keeps = always_keeps plan (sightings_of plan.layout lawful.crossed) is
-          (seen_watched plan.layout lawful.crossed crossed) lawful.lawful;
-      whole = all_compliant plan (sightings_of plan.layout lawful.crossed) lawful.lawful;
+      course = course;
+      each = each_keeps plan.begins.layout (stretches course)
+          (each_fits plan lawful.crossed course.now course.ended is lanes course.are)
+          (lawful.lawful, ended_lawful plan lawful.crossed course.now course.ended course.are);
     }
 
-pub rules_make_lawful_file : (plan : Plan) (file : List SeenRow) → IsPlan plan → HaveLanes plan.layout file
-    → FileKeepsRules plan file → IsLawfulFile plan file
+pub rules_make_lawful_file : (plan : SystemPlan) (file : List SeenRow) → IsPlan plan.begins
+    → HaveLanes plan.begins.layout file → FileKeepsRules plan file → IsLawfulFile plan file
 rules_make_lawful_file plan file is have rules =
-    let crossed = have_crossed plan.layout file rules.crossed have rules.crossing.same in
+    let course = rules.course in
+    let lanes = have_crossed plan.begins.layout file rules.crossed have rules.crossing.same in
+    let fit = each_fits plan rules.crossed course.now course.ended is lanes course.are in
     record {
       crossed = rules.crossed;
       crossing = rules.crossing;
-      lawful = rules_make_lawful plan (sightings_of plan.layout rules.crossed) is
-          (seen_watched plan.layout rules.crossed crossed) rules.whole rules.keeps;
+      course = course;
+      lawful = rules_make_lawful course.now.plan (sightings_in course.now) fit.0.plan_is
+          (stretch_watched plan.begins.layout course.now fit.0) rules.each.0.whole rules.each.0.keeps;
     }
 
 -- what stands after some of a list
@@ -106,26 +137,36 @@ rest_have layout [] before have = have
 rest_have layout (row ∷ after) before have = rest_have layout after before have.1
 
 -- the first row that makes a file unlawful is the first after which the rules are not kept
-pub unlawful_breaks : (plan : Plan) (file : List SeenRow) (found : Unlawful) → IsPlan plan → HaveLanes plan.layout file
-    → IsFirstUnlawful plan file found → BreaksRules plan file found.row
+pub unlawful_breaks : (plan : SystemPlan) (file : List SeenRow) (found : Unlawful) → IsPlan plan.begins
+    → HaveLanes plan.begins.layout file → IsFirstUnlawful plan file found → BreaksRules plan file found.row
 unlawful_breaks plan file found is have first =
     let row = first.row in
-    let before = sightings_of plan.layout first.before in
-    let here : HaveLanes plan.layout (row ∷ first.before) = rest_have plan.layout first.after (row ∷ first.before)
-    (have_crossed plan.layout file (first.after ++ row ∷ first.before) have first.crossing.same) in
-    let watched = seen_watched plan.layout first.before here.1 in
-    let link = watched_link plan.layout row.sighting.link first.is.watched in
+    let course = first.course in
+    let now = course.now in
+    let here : HaveLanes plan.begins.layout (row ∷ first.before) = rest_have plan.begins.layout first.after
+    (row ∷ first.before)
+    (have_crossed plan.begins.layout file (first.after ++ row ∷ first.before) have first.crossing.same) in
+    let fit = each_fits plan first.before now course.ended is here.1 course.are in
+    let link = watched_link now.plan.layout row.sighting.link first.is.watched in
     record {
       row = row;
       is = first.is.named;
       after = first.after;
       before = first.before;
       crossing = first.crossing;
-      kept = always_keeps plan before is watched first.is.lawful;
-      whole = all_compliant plan before first.is.lawful;
+      course = course;
+      each = each_keeps plan.begins.layout (stretches course) fit
+          (first.is.lawful, ended_lawful plan first.before now course.ended course.are);
       broken = λ whole keeps. first.is.unlawful
-          (rules_make_lawful plan (row.sighting ∷ before) is
-          (record { link = link.0; watched = link.1; lanes = here.0 }, watched) whole keeps);
+          (rules_make_lawful now.plan (row.sighting ∷ sightings_in now) fit.0.plan_is (
+            record {
+              link = link.0;
+              watched = link.1;
+              lanes = subst (λ l. bus_of l row.sighting.link ≤ length row.sighting.lanes) (sym fit.0.layout_is)
+                  (here.0 first.beat);
+            },
+            stretch_watched plan.begins.layout now fit.0,
+          ) whole keeps);
     }
 
 -- ---- the rows of a text have the lanes that its system's buses give them
@@ -141,41 +182,44 @@ all_have layout buses [] [] same spell = tt
 all_have layout buses [] (row ∷ rows) same spell = absurd spell
 all_have layout buses (r ∷ records) [] same spell = absurd spell
 all_have layout buses (r ∷ records) (row ∷ rows) same spell =
-    let lanes = lanes_of_row_are buses.masters buses.ports r.line r.fields row spell.0 in
-    let bus = bus_same layout buses row.sighting.link same in
-    (omega (arith, lanes, bus), all_have layout buses records rows same spell.1)
+    let bus = bus_same layout buses row.sighting.link same in (
+      λ beat.
+          let lanes = lanes_of_row_are buses.resets buses.masters buses.ports r.line r.fields row spell.0 beat in
+          omega (arith, lanes, bus),
+      all_have layout buses records rows same spell.1,
+    )
 
 pub rows_have : (layout : Layout) (buses : LinkBuses) (rows : List SeenRow) (from at : TextPlace) → HasBuses layout buses
     → HasRows buses rows from at → HaveLanes layout rows
 rows_have layout buses rows from at same has = all_have layout buses has.records rows same has.spell
 
-pub capture_keeps : (asked : Bool) (plan : Plan) (buses : LinkBuses) (from : TextPlace) (counts : VerdictCounts) → IsPlan plan
-    → HasBuses plan.layout buses → IsVerdict asked plan buses from (Lawful counts)
+pub capture_keeps : (asked : Bool) (plan : SystemPlan) (buses : LinkBuses) (from : TextPlace) (counts : VerdictCounts) → IsPlan plan.begins
+    → HasBuses plan.begins.layout buses → IsVerdict asked plan buses from (Lawful counts)
     → CaptureKeepsRules asked plan buses from counts
 capture_keeps asked plan buses from counts is same verdict =
     let begins = verdict.1.begins in
     record {
       rows = verdict.0;
       is = verdict.1;
-      keeps = file_keeps plan verdict.0 is (rows_have plan.layout buses verdict.0 _ _ same begins.has) verdict.2;
+      keeps = file_keeps plan verdict.0 is (rows_have plan.begins.layout buses verdict.0 _ _ same begins.has) verdict.2;
       counted = verdict.3;
       complete = verdict.4;
     }
 
-pub capture_leaves : (asked : Bool) (plan : Plan) (buses : LinkBuses) (from : TextPlace) (over : Left) → IsPlan plan
-    → HasBuses plan.layout buses → IsVerdict asked plan buses from (Incomplete over)
+pub capture_leaves : (asked : Bool) (plan : SystemPlan) (buses : LinkBuses) (from : TextPlace) (over : Left) → IsPlan plan.begins
+    → HasBuses plan.begins.layout buses → IsVerdict asked plan buses from (Incomplete over)
     → CaptureLeaves asked plan buses from over
 capture_leaves asked plan buses from over is same verdict =
     let begins = verdict.1.begins in
     record {
       rows = verdict.0;
       is = verdict.1;
-      keeps = file_keeps plan verdict.0 is (rows_have plan.layout buses verdict.0 _ _ same begins.has) verdict.2;
+      keeps = file_keeps plan verdict.0 is (rows_have plan.begins.layout buses verdict.0 _ _ same begins.has) verdict.2;
       left = verdict.3;
     }
 
-pub capture_breaks : (asked : Bool) (plan : Plan) (buses : LinkBuses) (from : TextPlace) (found : Unlawful) → IsPlan plan
-    → HasBuses plan.layout buses → IsVerdict asked plan buses from (Not found)
+pub capture_breaks : (asked : Bool) (plan : SystemPlan) (buses : LinkBuses) (from : TextPlace) (found : Unlawful) → IsPlan plan.begins
+    → HasBuses plan.begins.layout buses → IsVerdict asked plan buses from (Not found)
     → CaptureBreaksRules plan buses from found
 capture_breaks asked plan buses from found is same verdict = record {
   rows = verdict.0;
@@ -183,5 +227,5 @@ capture_breaks asked plan buses from found is same verdict = record {
   begins = verdict.2;
   over = verdict.3;
   breaks = unlawful_breaks plan verdict.0 found is
-      (rows_have plan.layout buses verdict.0 _ _ same verdict.2.has) verdict.4;
+      (rows_have plan.begins.layout buses verdict.0 _ _ same verdict.2.has) verdict.4;
 }

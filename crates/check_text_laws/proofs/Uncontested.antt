@@ -1,5 +1,5 @@
 -- If no line tells of a contested request at a port, nothing is contested there.
-use Rattle.std.proofs.Common.{◌≡◌, ◌≢◌, ◌∙◌, ℕ, ◌+◌, ◌^◌, ◌<◌, Bool, true, false, ◌&&◌, ◌||◌, cond, if◌then◌else◌, List, [], ◌∷◌, Option, Some, refl, ap, sym, subst, arith}
+use Rattle.std.proofs.Common.{◌≡◌, ◌≢◌, ◌∙◌, ℕ, ◌+◌, ◌^◌, ◌<◌, Bool, true, false, ◌&&◌, ◌||◌, cond, if◌then◌else◌, List, [], ◌∷◌, ◌++◌, Option, Some, refl, ap, sym, subst, arith}
 use Rattle.std.specs.Prelude.{◌==◌, nat_le, nat_lt, unwrap_or}
 use Rattle.std.specs.BTreeMap.{is_at}
 use Rattle.std.specs.Map.{lookup}
@@ -229,11 +229,22 @@ none_found bin (e ∷ es) none = go (is_eq (bin_cmp bin e.0)) refl (none_found b
     go true is rest = absurd (none.0 (sym (exact_eq bin e.0 is)))
     go false is rest = rest
 
-pub nothing_is_contested : (plan : Plan) (rows : List SeenRow) (old new : List ℕ) (port : ℕ) → IsPlan plan
+-- what is not among several lists together is not in one of them
+none_among : (bin : Bin) (later here earlier : List Bin) → how_often bin (later ++ (here ++ earlier)) ≡ 0
+    → how_often bin here ≡ 0
+none_among bin later here earlier none =
+    let all = how_often-append bin later (here ++ earlier) in
+    let rest = how_often-append bin here earlier in
+    omega (arith, all, rest, none)
+
+pub nothing_is_contested : (plan : Plan) (rows : List SeenRow) (later earlier : List Bin) (ports : ℕ) (old new : List ℕ)
+    (port : ℕ) → IsPlan plan
     → IsLawfulAddressMap plan.layout.ports → AreWatched plan.layout (shared_past plan.layout.links (beats_of rows))
-    → IsLawful plan (beats_of rows) → (tells : TellsCoverage plan rows old new) → TellsNoContest port tells.entries
+    → IsLawful plan (beats_of rows) → (tells : TellsCoverage ports (later ++ (bins plan rows ++ earlier)) old new)
+    → TellsNoContest port tells.entries
     → NothingIsContested plan port (shared_past plan.layout.links (beats_of rows))
-nothing_is_contested plan rows old new port is_plan map watched lawful tells none =
+nothing_is_contested plan rows later earlier ports old new port is_plan map watched lawful tells none =
     let counts = tells.counts (bin.Contested port) in
     let zero_there = none_found (bin.Contested port) tells.entries none in
-    all_fronts plan is_plan map port rows watched lawful (omega (arith, counts, zero_there))
+    all_fronts plan is_plan map port rows watched lawful
+    (none_among (bin.Contested port) later (bins plan rows) earlier (omega (arith, counts, zero_there)))

@@ -1,10 +1,12 @@
 -- What `lawful` means of a file of rows, and of the text of a capture. It is this project's own.
-use Rattle.std.specs.Prelude.{◌≤◌, Bool, List, ◌∷◌, ◌++◌, Some, None, length}
+use Rattle.std.specs.Prelude.{◌≡◌, ◌≤◌, Bool, false, List, ◌∷◌, ◌++◌, Some, None, length}
 use Rattle.std.specs.List.{AllByRecursion}
-use Rattle.check_sides.specs.Plan.{Layout, Plan, bus_of}
+use Rattle.check_sides.specs.Plan.{Layout, bus_of}
 use Rattle.check_rows.specs.Row.{SeenRow}
 use Rattle.check_rows.specs.declared.row.Row.{Row}
-use Rattle.check_review.specs.Order.{IsCrossing, sightings_of}
+use Rattle.check_start.specs.Loads.{SystemPlan}
+use Rattle.check_review.specs.Order.{IsCrossing}
+use Rattle.check_review.specs.Stretches.{Stretch, Stretches, sightings_in, stretches}
 use Rattle.check_review.specs.Verdict.{HasCounts, HasLeft, IsNamedBy}
 use Rattle.check_unanswered.specs.declared.request.Left.{Left}
 use Rattle.check_lines.specs.declared.verdict.VerdictCounts.{VerdictCounts}
@@ -15,33 +17,40 @@ use Rattle.check_text.specs.Rows.{IsTimeOver}
 use Rattle.check_text.specs.Buses.{LinkBuses}
 use Rattle.check_text_laws.specs.Groups.{EachGroupKeepsRules, AreAllCompliant}
 
--- each row has a lane for each byte of its link's bus
+-- each row of a beat has a lane for each byte of its link's bus
 abbrev pub HaveLanes : Layout → List SeenRow → Type 0
-HaveLanes layout rows = AllByRecursion (λ row. bus_of layout row.sighting.link ≤ length row.sighting.lanes) rows
+HaveLanes layout rows =
+    AllByRecursion (λ row. row.is_reset ≡ false → bus_of layout row.sighting.link ≤ length row.sighting.lanes) rows
 
--- in the order in which the rows of a file cross, what they show of the links that are watched keeps the rules at each
--- moment, and each lane that carries a byte, and has to be known, was known
-pub record FileKeepsRules (plan : Plan) (file : List SeenRow) : Type 0 where
+-- what the rows of a stretch show of the links that are watched keeps the rules at each moment, and each lane that carries a
+-- byte, and has to be known, was known
+pub record StretchKeepsRules (stretch : Stretch) : Type 0 where
+  pub keeps : EachGroupKeepsRules stretch.plan (sightings_in stretch)
+  pub whole : AreAllCompliant stretch.plan (sightings_in stretch)
+
+-- in the order in which the rows of a file cross, each stretch between resets keeps the rules, by the plan by which the system
+-- goes on since the reset before it
+pub record FileKeepsRules (plan : SystemPlan) (file : List SeenRow) : Type 0 where
   pub crossed : List SeenRow
   pub crossing : IsCrossing file crossed
-  pub keeps : EachGroupKeepsRules plan (sightings_of plan.layout crossed)
-  pub whole : AreAllCompliant plan (sightings_of plan.layout crossed)
+  pub course : Stretches plan crossed
+  pub each : AllByRecursion StretchKeepsRules (stretches course)
 
 -- up to the row that is named the rules are kept at each moment, and with it they are not, or a lane of it that carries a
 -- byte, and has to be known, was not
-pub record BreaksRules (plan : Plan) (file : List SeenRow) (named : Row) : Type 0 where
+pub record BreaksRules (plan : SystemPlan) (file : List SeenRow) (named : Row) : Type 0 where
   pub row : SeenRow
   pub is : IsNamedBy row named
   pub after : List SeenRow
   pub before : List SeenRow
   pub crossing : IsCrossing file (after ++ row ∷ before)
-  pub kept : EachGroupKeepsRules plan (sightings_of plan.layout before)
-  pub whole : AreAllCompliant plan (sightings_of plan.layout before)
-  pub broken : AreAllCompliant plan (row.sighting ∷ sightings_of plan.layout before)
-      → EachGroupKeepsRules plan (row.sighting ∷ sightings_of plan.layout before) → ⊥
+  pub course : Stretches plan before
+  pub each : AllByRecursion StretchKeepsRules (stretches course)
+  pub broken : AreAllCompliant course.now.plan (row.sighting ∷ sightings_in course.now)
+      → EachGroupKeepsRules course.now.plan (row.sighting ∷ sightings_in course.now) → ⊥
 
 -- from a place on a text is a capture, its rows keep the rules, and so many they are; if it is asked, no request is left
-pub record CaptureKeepsRules (asked : Bool) (plan : Plan) (buses : LinkBuses) (from : TextPlace) (counts : VerdictCounts) : Type 0 where
+pub record CaptureKeepsRules (asked : Bool) (plan : SystemPlan) (buses : LinkBuses) (from : TextPlace) (counts : VerdictCounts) : Type 0 where
   pub rows : List SeenRow
   pub is : IsCapture buses from rows
   pub keeps : FileKeepsRules plan rows
@@ -49,14 +58,14 @@ pub record CaptureKeepsRules (asked : Bool) (plan : Plan) (buses : LinkBuses) (f
   pub complete : HasLeft asked plan rows None
 
 -- from a place on a text is a capture, its rows keep the rules, and these requests are left at its end
-pub record CaptureLeaves (asked : Bool) (plan : Plan) (buses : LinkBuses) (from : TextPlace) (over : Left) : Type 0 where
+pub record CaptureLeaves (asked : Bool) (plan : SystemPlan) (buses : LinkBuses) (from : TextPlace) (over : Left) : Type 0 where
   pub rows : List SeenRow
   pub is : IsCapture buses from rows
   pub keeps : FileKeepsRules plan rows
   pub left : HasLeft asked plan rows (Some over)
 
 -- from a place on a text has the header and rows up to the end of some time, and with this row they break the rules
-pub record CaptureBreaksRules (plan : Plan) (buses : LinkBuses) (from : TextPlace) (found : Unlawful) : Type 0 where
+pub record CaptureBreaksRules (plan : SystemPlan) (buses : LinkBuses) (from : TextPlace) (found : Unlawful) : Type 0 where
   pub rows : List SeenRow
   pub place : TextPlace
   pub begins : Begins buses from rows place

@@ -1,7 +1,8 @@
 //! What the rows of lawful files and captures are.
 ghost use Rattle.std.specs.Prelude.{Bool, List};
-ghost use Rattle.check_sides.specs.Plan.{Plan, IsPlan};
+ghost use Rattle.check_sides.specs.Plan.{IsPlan};
 ghost use Rattle.check_rows.specs.Row.{SeenRow};
+ghost use Rattle.check_start.specs.Loads.{SystemPlan};
 ghost use Rattle.check_review.specs.Verdict.{IsLawfulFile};
 ghost use Rattle.check_unanswered.specs.declared.request.Left.{Left};
 ghost use Rattle.check_lines.specs.declared.verdict.VerdictCounts.{VerdictCounts};
@@ -14,9 +15,9 @@ ghost use Rattle.check_text_laws.specs.Rules.{FileKeepsRules, CaptureKeepsRules,
 
 /// A file whose rows have the lanes of their links' buses is lawful exactly if they keep the rules at each moment.
 pub fn lawful_files_keep_the_rules()
-    ensures rules { (plan : Plan) (file : List SeenRow) → IsPlan plan → HaveLanes plan.layout file
+    ensures rules { (plan : SystemPlan) (file : List SeenRow) → IsPlan plan.begins → HaveLanes plan.begins.layout file
         → IsLawfulFile plan file → FileKeepsRules plan file }
-    ensures lawful { (plan : Plan) (file : List SeenRow) → IsPlan plan → HaveLanes plan.layout file
+    ensures lawful { (plan : SystemPlan) (file : List SeenRow) → IsPlan plan.begins → HaveLanes plan.begins.layout file
         → FileKeepsRules plan file → IsLawfulFile plan file }
 {}
 
@@ -24,13 +25,13 @@ pub fn lawful_files_keep_the_rules()
 /// moment, and so is one whose verdict is `incomplete`, at whose end requests are left; one whose verdict is `unlawful`
 /// names the first row with which they do not.
 pub fn lawful_captures_keep_the_rules()
-    ensures lawful { (asked : Bool) (plan : Plan) (buses : LinkBuses) (from : TextPlace) (counts : VerdictCounts) → IsPlan plan
-        → HasBuses plan.layout buses → IsVerdict asked plan buses from (Lawful counts)
+    ensures lawful { (asked : Bool) (plan : SystemPlan) (buses : LinkBuses) (from : TextPlace) (counts : VerdictCounts) → IsPlan plan.begins
+        → HasBuses plan.begins.layout buses → IsVerdict asked plan buses from (Lawful counts)
         → CaptureKeepsRules asked plan buses from counts }
-    ensures incomplete { (asked : Bool) (plan : Plan) (buses : LinkBuses) (from : TextPlace) (over : Left) → IsPlan plan
-        → HasBuses plan.layout buses → IsVerdict asked plan buses from (Incomplete over)
+    ensures incomplete { (asked : Bool) (plan : SystemPlan) (buses : LinkBuses) (from : TextPlace) (over : Left) → IsPlan plan.begins
+        → HasBuses plan.begins.layout buses → IsVerdict asked plan buses from (Incomplete over)
         → CaptureLeaves asked plan buses from over }
-    ensures unlawful { (asked : Bool) (plan : Plan) (buses : LinkBuses) (from : TextPlace) (found : Found) → IsPlan plan
-        → HasBuses plan.layout buses → IsVerdict asked plan buses from (Unlawful found)
+    ensures unlawful { (asked : Bool) (plan : SystemPlan) (buses : LinkBuses) (from : TextPlace) (found : Found) → IsPlan plan.begins
+        → HasBuses plan.begins.layout buses → IsVerdict asked plan buses from (Unlawful found)
         → CaptureBreaksRules plan buses from found }
 {}

@@ -2,7 +2,7 @@
 use Rattle.std.proofs.Common.{◌≡◌, ◌∙◌, ℕ, suc, ◌+◌, ◌<◌, ◌≤◌, ◌%◌, ◌^◌, Bool, true, false, ◌⊎◌, inl, inr, List, [], ◌∷◌, length, Contains, Option, Some, None, refl, sym, ap, subst, arith, eqb-true}
 use Rattle.std.specs.Prelude.{◌==◌, ◌↔◌, option_map, slice_set}
 use Rattle.std.proofs.lemmas.Bool.{eqb-false}
-use Rattle.std.proofs.lemmas.List.{length-set}
+use Rattle.std.proofs.lemmas.List.{length-map, length-set}
 use Rattle.tl_map.specs.Owner.{IsOwned, IsWideSource}
 use Rattle.check_watch.specs.Plan.{LinkSide, side_of}
 use Rattle.check_watch.specs.Plan.LinkSide.{AtMasters, AtPorts}
@@ -10,7 +10,7 @@ use Rattle.check_watch.specs.declared.pending.Change.TheVariants.{Nothing}
 use Rattle.check_watch.specs.declared.pending.Origin.{Origin}
 use Rattle.check_watch.specs.Pending.{IsBegin, IsEnd, OthersStay}
 use Rattle.check_sides.specs.Pending.{IsChange, IsInFlightAt}
-use Rattle.check_sides.specs.Plan.{Plan}
+use Rattle.check_sides.specs.Plan.{Layout, Plan}
 use Rattle.check_rows.specs.Row.{SeenRow}
 use Rattle.check_unanswered.specs.declared.request.Began.{Began}
 use Rattle.check_unanswered.specs.declared.request.Left.{Left}
@@ -19,7 +19,7 @@ use Rattle.check_unanswered.specs.Began.{IsCompleteOn, IsLeftOn, beats_of, began
 use Rattle.check_unanswered.specs.Table.{IsEarliestOf, open_at, opens}
 use Rattle.check_unanswered.specs.View.{Holds, IsOf, PendingView, open_table, with_open}
 use Rattle.check_unanswered.proofs.Flights.{began_busy, began_none, began_now, began_some, began_stays}
-use Rattle.check_unanswered.proofs.Tables.{at_opens, at_wides, length-wides, none_at, opens_at, rising_wides, set_here, set_none, set_other, wides_at, wides_from}
+use Rattle.check_unanswered.proofs.Tables.{at_opens, at_wides, cleared, cleared_at, length-wides, none_at, opens_at, rising_wides, set_here, set_none, set_other, wides_at, wides_from}
 
 -- ---- sides
 
@@ -224,7 +224,7 @@ module _ (plan : Plan) (rows : List SeenRow) (row : SeenRow) (old : PendingView)
         own = λ other is. absurd (none_or_some other (sym at ∙ is));
       }) ends.others
 
--- ---- before any row, and what is left
+-- ---- before any row, after a reset, and what is left
 
 pub holds_fresh : (plan : Plan) (pending : PendingView) → pending.taken ≡ 0
     → ((side : LinkSide) (wide : ℕ) → IsOwned plan.layout.owners wide → wide < length (open_table pending side))
@@ -235,6 +235,26 @@ holds_fresh plan pending none room fresh = record {
   own = λ side wide ask is. absurd (none_or_some ask (sym (fresh side wide) ∙ is));
   taken = none;
 }
+
+-- nothing is in flight any more, and no row was judged
+abbrev pub emptied : PendingView → PendingView
+emptied pending = record { masters = cleared pending.masters; ports = cleared pending.ports; taken = 0 }
+
+table_emptied : (pending : PendingView) (side : LinkSide)
+    → open_table (emptied pending) side ≡ cleared (open_table pending side)
+table_emptied pending AtMasters = refl
+table_emptied pending AtPorts = refl
+
+-- and there is room for as many wide sources as before
+pub holds_reset : (plan later : Plan) (rows : List SeenRow) (old new : PendingView) → later.layout ≡ plan.layout
+    → Holds plan rows old → new ≡ emptied old → Holds later [] new
+holds_reset plan later rows old new layout holds made =
+    subst (λ p. Holds later [] p) (sym made) (holds_fresh later (emptied old) refl
+    (λ side wide owned.
+    let within = holds.room side wide (subst (λ (l : Layout). IsOwned l.owners wide) layout owned) in
+    let long = ap length (table_emptied old side) ∙ length-map (open_table old side) (λ (_ : Option Open). None) in
+    omega (arith, within, long))
+    (λ side wide. ap (λ t. open_at t wide) (table_emptied old side) ∙ cleared_at (open_table old side) wide))
 
 some_open : (table : List (Option Open)) (wide : ℕ) (b : Began)
     → option_map (λ (k : Open). k.began) (open_at table wide) ≡ Some b

@@ -1,5 +1,5 @@
 -- Tables of requests in flight: how many there are, of which wide sources, and the oldest.
-use Rattle.std.proofs.Common.{◌≡◌, ◌≢◌, ◌∙◌, ℕ, zero, suc, ◌+◌, ◌<◌, ◌≤◌, ◌⊎◌, inl, inr, List, [], ◌∷◌, ◌++◌, length, length-append, Contains, Option, Some, None, slice_get, refl, ap, sym, subst, arith}
+use Rattle.std.proofs.Common.{◌≡◌, ◌∙◌, ℕ, zero, suc, ◌+◌, ◌<◌, ◌≤◌, ◌⊎◌, inl, inr, List, [], ◌∷◌, ◌++◌, length, length-append, Contains, Option, Some, None, map, refl, ap, sym, subst, arith}
 use Rattle.std.specs.Prelude.{slice_index, slice_set, unwrap_or}
 use Rattle.std.specs.List.Sorted.{IsStrictlyIncreasing}
 use Rattle.std.proofs.lemmas.List.Elements.{All-contains_itself, Contains-append_left, Contains-append_right, Contains-append_cases}
@@ -191,3 +191,12 @@ none_more [] none zero = refl
 none_more [] none (suc wide) = refl
 none_more (first ∷ rest) none zero = none 0
 none_more (first ∷ rest) none (suc wide) = none_more rest (λ w. none (suc w)) wide
+
+-- nothing is in flight of any
+abbrev pub cleared : List (Option Open) → List (Option Open)
+cleared table = map (λ (_ : Option Open). None) table
+
+pub cleared_at : (table : List (Option Open)) (wide : ℕ) → open_at (cleared table) wide ≡ None
+cleared_at [] wide = refl
+cleared_at (first ∷ rest) zero = refl
+cleared_at (first ∷ rest) (suc wide) = cleared_at rest wide

@@ -21,6 +21,7 @@ abbrev pub row_with : Row → List ℕ → SeenRow
 row_with row lanes = record {
   line = row.line;
   time = row.time;
+  is_reset = row.is_reset;
   sighting = seen_at row.link row.beat row.known lanes;
 }
 

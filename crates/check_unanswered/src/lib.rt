@@ -5,6 +5,8 @@
 //! at the links that are judged together; else how many there are, and the oldest. Requests are counted at the masters'
 //! links; if none is in flight there, at the ports' (`specs/Began.antt`).
 //!
+//! After a reset of the whole system nothing is in flight: [`Pending::reset`] begins anew, and rows are counted from there.
+//!
 //! A message that is under way is one of a request in flight, so it is left too. Read on in `docs/MODEL.md`, "Requests that
 //! are left".
 #![tactic(auto)]

@@ -1,5 +1,5 @@
 //! The requests in flight.
-ghost use Rattle.std.specs.Prelude.{◌≡◌, [], ◌∷◌, ℕ, List, None, length, slice_set, IfNone, IfOk, IfSome};
+ghost use Rattle.std.specs.Prelude.{◌≡◌, [], ◌∷◌, ℕ, List, None, length, map, slice_set, IfNone, IfOk, IfSome};
 ghost use Rattle.check_rows.specs.Row.{SeenRow};
 ghost use Rattle.check_sides.specs.Pending.{IsChange};
 ghost use Rattle.check_sides.specs.Plan.{Plan};
@@ -47,6 +47,15 @@ fn fresh_table(alloc: Global, count: usize) -> Result<Vec<Option<Open>>, AllocEr
     Ok(table)
 }
 
+/// Nothing is in flight any more of the wide sources of a table.
+fn clear_table(table: &mut [Option<Open>])
+    ensures { table.new ≡ map (λ _. None) table.old }
+{
+    for ask in table.iter_mut() {
+        *ask = None;
+    }
+}
+
 /// Sets what is in flight of a wide source that has a place.
 fn put(table: &mut Vec<Option<Open>>, wide: u16, ask: Option<Open>)
     ensures { table.new.items ≡ slice_set table.old.items wide ask }
@@ -68,6 +77,17 @@ impl Pending {
             ports: fresh_table(alloc, wides)?,
             taken: 0,
         })
+    }
+
+    /// A reset of the whole system: nothing is in flight. Rows are counted from there, and the judge may go on by another plan
+    /// of the same layout.
+    pub fn reset(&mut self)
+        ensures { (plan later : Plan) (rows : List SeenRow) → later.layout ≡ plan.layout → Holds plan rows self.old
+            → Holds later [] self.new }
+    {
+        clear_table(&mut self.masters);
+        clear_table(&mut self.ports);
+        self.taken = 0;
     }
 
     /// Sets what is in flight of a wide source, on the side that a link is on.

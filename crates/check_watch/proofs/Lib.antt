@@ -7,6 +7,7 @@ pub mod Judging
 pub mod Replying
 pub mod Keeping
 pub mod Beginning
+pub mod Resetting
 pub mod InFlight
 pub mod Changes
 pub mod Ending

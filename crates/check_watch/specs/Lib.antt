@@ -6,5 +6,6 @@ pub mod Allowed
 pub mod Faults
 pub mod Lawful
 pub mod View
+pub mod Reset
 pub mod Pending
 pub mod Steps

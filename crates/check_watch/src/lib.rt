@@ -26,6 +26,7 @@ mod links;
 mod paths;
 mod pending;
 mod replies;
+mod reset;
 mod seen;
 mod steps;
 mod watch;

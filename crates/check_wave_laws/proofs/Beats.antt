@@ -28,13 +28,14 @@ use Rattle.check_samples.specs.declared.row.TheConstants.{MAX_BITS}
 use Rattle.check_samples.specs.declared.signal.Signal.{Signal}
 use Rattle.check_samples.specs.declared.signal.Signal.TheVariants as signal
 use Rattle.check_wave_laws.specs.Rows.{IsRow}
-use Rattle.check_wave_laws.specs.Seen.{AskFits, BeatFits, ReplyFits, ask_in, beat_in, flag_by, lanes_in, number_in, reply_in, row_of_channel}
-use Rattle.check_wave_laws.specs.Seen.{row_on_line as row_shown}
+use Rattle.check_wave_laws.specs.Seen.{AskFits, BeatFits, ReplyFits, ask_in, beat_in, flag_by, lanes_in, number_in, reply_in, reset_on_line, row_of_channel, row_on_line as row_shown}
 use Rattle.check_wave_laws.proofs.Buses.{IsBus, bus-of}
-use Rattle.check_wave_laws.proofs.Columns.{ask-line, ask-spelled, ask_words, channel-a, channel-d, link-read, reply-line, reply-spelled, reply_words, row-spelled, word-link}
+use Rattle.check_wave_laws.proofs.Columns.{ask-line, ask-spelled, ask_words, channel-a, channel-d, link-read, reply-line, reply-spelled, reply_words, reset-line, reset-spelled, reset_words, row-spelled, word-link}
 use Rattle.check_wave_laws.proofs.Lanes.{lanes-read, mask-read}
 use Rattle.check_wave_laws.proofs.Numbers.{HasNumber, address-read, decimal-read, flag-read, given-read, has-number, number-below, zero-read}
 use Rattle.check_wave_laws.proofs.Words.{AreWords, IsWord, joined, parts-joined, plain-joined, word-bits, word-decimal, word-hex}
+use Rattle.check_rows.specs.Column.{column_parts}
+use Rattle.check_samples.specs.Resets.{reset_row}
 
 -- ---- the numbers of a beat
 
@@ -341,9 +342,9 @@ ask-row masters ports line time link values taps cells at has fits =
       line = joined (decimal time) words;
       ends = ask-line time link cells mask lanes;
       plain = plain-joined (decimal time) words are;
-      reads =
-          ap (row_of masters ports line) (parts-joined (decimal time) words are)
-          ∙ row-spelled masters ports line time link channel.A (ask_in bus values taps) (decimal time) (link_text link)
+      reads = λ resets told.
+          ap (row_of resets masters ports line) (parts-joined (decimal time) words are)
+          ∙ row-spelled resets masters ports line time link channel.A (ask_in bus values taps) (decimal time) (link_text link)
           (65 ∷ []) (decimal cells.opcode) (decimal cells.param) (decimal cells.size) (decimal cells.source)
           (digits 16 false cells.address) (hex_text mask) (hex_text lanes) [] (mark_text cells.corrupt)
           (decimal-read (2 ^ 64 - 1) time at.in_time (omega (arith, at.in_time)))
@@ -365,9 +366,9 @@ reply-row masters ports line time link values taps cells at has fits =
       line = joined (decimal time) words;
       ends = reply-line time link cells lanes;
       plain = plain-joined (decimal time) words are;
-      reads =
-          ap (row_of masters ports line) (parts-joined (decimal time) words are)
-          ∙ row-spelled masters ports line time link channel.D (reply_in bus values taps) (decimal time)
+      reads = λ resets told.
+          ap (row_of resets masters ports line) (parts-joined (decimal time) words are)
+          ∙ row-spelled resets masters ports line time link channel.D (reply_in bus values taps) (decimal time)
           (link_text link) (68 ∷ []) (decimal cells.opcode) (mark_text cells.param) (decimal cells.size) (decimal cells.source) [] []
           (hex_text lanes) (decimal cells.denied) (mark_text cells.corrupt)
           (decimal-read (2 ^ 64 - 1) time at.in_time (omega (arith, at.in_time)))
@@ -416,3 +417,26 @@ pub beat-row : (masters ports : List Bus) (line time : ℕ) (values : List (List
 beat-row masters ports line time values which text m p t inside fits is =
     row-by masters ports line time values which text which.beat
     (record { few_masters = m; few_ports = p; in_time = t; has_link = inside }) fits is
+
+-- ---- the row of a reset
+
+pub reset-is-row : (masters ports : List Bus) (line time : ℕ) → time < 2 ^ 64
+    → IsRow masters ports (reset_on_line line time) (reset_row time)
+reset-is-row masters ports line time small =
+    let words : AreWords (decimal time ∷ reset_words) = (
+      word-decimal time small,
+      (
+        (omega arith, (omega arith, (omega arith, (omega arith, (omega arith, tt))))),
+        (tt, (tt, (tt, (tt, (tt, (tt, (tt, (tt, (tt, (tt, tt)))))))))),
+      ),
+    ) in
+    record {
+      line = joined (decimal time) reset_words;
+      ends = reset-line time;
+      plain = plain-joined (decimal time) reset_words words;
+      reads = λ resets told.
+          ap (λ (r : Bool). row_of r masters ports line (column_parts (joined (decimal time) reset_words))) (told refl)
+          ∙ ap (row_of true masters ports line) (parts-joined (decimal time) reset_words words)
+          ∙ reset-spelled masters ports line time (decimal time)
+          (decimal-read (2 ^ 64 - 1) time small (omega (arith, small)));
+    }

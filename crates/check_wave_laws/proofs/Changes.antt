@@ -272,13 +272,30 @@ pub record IsKept (after before : Sampling) : Type 0 where
   pub widths : after.widths ≡ before.widths
   pub earlier : after.before ≡ before.before
   pub watched : after.watched ≡ before.watched
+  pub resets : after.resets ≡ before.resets
 
 pub value-kept : (s : Sampling) (slot : ℕ) (digits : List ℕ) → IsKept (with_value s slot digits) s
 value-kept s slot digits = go (nat_lt slot (length s.now))
   where
     go : (t : Bool) → IsKept (cond t (record s { now = set_extended s.widths s.now slot digits }) s) s
-    go true = record { time = refl; joins = refl; channels = refl; widths = refl; earlier = refl; watched = refl }
-    go false = record { time = refl; joins = refl; channels = refl; widths = refl; earlier = refl; watched = refl }
+    go true = record {
+      time = refl;
+      joins = refl;
+      channels = refl;
+      widths = refl;
+      earlier = refl;
+      watched = refl;
+      resets = refl;
+    }
+    go false = record {
+      time = refl;
+      joins = refl;
+      channels = refl;
+      widths = refl;
+      earlier = refl;
+      watched = refl;
+      resets = refl;
+    }
 
 -- and what it changes
 pub now-push : (wave : Wave) (past : List ValueChange) (s : Sampling) (change : ValueChange) → s.now ≡ values_after wave past

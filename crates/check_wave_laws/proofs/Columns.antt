@@ -1,5 +1,5 @@
 -- The columns of a row, and the row that they spell.
-use Rattle.std.proofs.Common.{◌≡◌, ◌∙◌, ℕ, ◌-◌, ◌^◌, ◌<◌, ◌==◌, Bool, false, List, [], ◌∷◌, ◌++◌, length, Result, Ok, arith, refl, sym, ap, append_assoc}
+use Rattle.std.proofs.Common.{◌≡◌, ◌∙◌, ℕ, ◌-◌, ◌^◌, ◌<◌, ◌==◌, Bool, false, true, List, [], ◌∷◌, ◌++◌, length, codes, Result, Ok, arith, refl, sym, ap, append_assoc}
 use Rattle.std.specs.Fmt.{decimal, digits}
 use Rattle.csv.specs.Records.{field_at}
 use Rattle.check_beats.specs.declared.bus.Bus.{Bus}
@@ -11,14 +11,15 @@ use Rattle.check_rows.specs.Columns.{channel_of, flag_of, flag_or, link_of, noth
 use Rattle.check_rows.specs.Lanes.{SeenLanes, lanes_of}
 use Rattle.check_rows.specs.Number.{address_of, decimal_of, decimal_or_zero, mask_of}
 use Rattle.tl_text.specs.Reading.{◌>>=◌}
-use Rattle.check_rows.specs.Row.{SeenBeat, ask_of_words, asks_for_mark, beat_of, reply_of_words, row_of}
+use Rattle.check_rows.specs.Row.{SeenBeat, ask_of_words, asks_for_mark, beat_of, reply_of_words, row_of, row_or_reset}
 use Rattle.check_rows.specs.declared.columns.RowChannel.{RowChannel}
 use Rattle.check_rows.specs.declared.columns.RowChannel.TheVariants as channel
 use Rattle.check_rows.specs.declared.fault.RowFault.{RowFault}
 use Rattle.check_samples.specs.Row.{ask_text, hex_text, link_text, mark_text, reply_text}
 use Rattle.check_samples.specs.declared.row.AskCells.{AskCells}
 use Rattle.check_samples.specs.declared.row.ReplyCells.{ReplyCells}
-use Rattle.check_wave_laws.specs.Seen.{row_on_line}
+use Rattle.check_samples.specs.Resets.{reset_row}
+use Rattle.check_wave_laws.specs.Seen.{reset_on_line, row_on_line}
 use Rattle.check_wave_laws.proofs.Numbers.{index-read}
 use Rattle.check_wave_laws.proofs.Words.{IsWord, joined, word-decimal}
 
@@ -90,6 +91,13 @@ reply-line time link cells lanes =
     reply-joined (decimal time) (link_text link) (decimal cells.opcode) (mark_text cells.param) (decimal cells.size)
     (decimal cells.source) (hex_text lanes) (decimal cells.denied) (mark_text cells.corrupt)
 
+-- those of the row of a reset, after its time
+abbrev pub reset_words : List (List ℕ)
+reset_words = codes "reset" ∷ [] ∷ [] ∷ [] ∷ [] ∷ [] ∷ [] ∷ [] ∷ [] ∷ [] ∷ [] ∷ []
+
+pub reset-line : (time : ℕ) → reset_row time ≡ joined (decimal time) reset_words ++ (10 ∷ [])
+reset-line time = sym (append_assoc (decimal time) (codes ",reset,,,,,,,,,,") (10 ∷ []))
+
 -- ---- links and channels
 
 pub link-read : (masters ports : List Bus) (link : Link) → length masters < 2 ^ 64 → length ports < 2 ^ 64
@@ -143,13 +151,19 @@ unfolding reply_of_words field_at nothing_of
 reply-spelled bus t l c wo wp wz ws wd wn wc o p z s n k lanes eo ep ez es ed en ec =
     rw (eo, ep, ez, es, ed, en, ec) refl
 
-pub row-spelled : (masters ports : List Bus) (line time : ℕ) (link : Link) (which : RowChannel) (seen : SeenBeat)
+pub row-spelled : (resets : Bool) (masters ports : List Bus) (line time : ℕ) (link : Link) (which : RowChannel) (seen : SeenBeat)
     (t l c w3 w4 w5 w6 w7 w8 w9 w10 w11 : List ℕ)
     → decimal_of (2 ^ 64 - 1) t ≡ Ok time → link_of masters ports l ≡ Ok link → channel_of c ≡ Ok which
     → beat_of (bus_of_link masters ports link) which (t ∷ l ∷ c ∷ w3 ∷ w4 ∷ w5 ∷ w6 ∷ w7 ∷ w8 ∷ w9 ∷ w10 ∷ w11 ∷ [])
     ≡ Ok seen
-    → row_of masters ports line (t ∷ l ∷ c ∷ w3 ∷ w4 ∷ w5 ∷ w6 ∷ w7 ∷ w8 ∷ w9 ∷ w10 ∷ w11 ∷ [])
+    → row_of resets masters ports line (t ∷ l ∷ c ∷ w3 ∷ w4 ∷ w5 ∷ w6 ∷ w7 ∷ w8 ∷ w9 ∷ w10 ∷ w11 ∷ [])
     ≡ Ok (row_on_line line time link seen)
-unfolding row_of field_at
-row-spelled masters ports line time link which seen t l c w3 w4 w5 w6 w7 w8 w9 w10 w11 et el ec eb =
+unfolding row_of row_or_reset field_at
+row-spelled resets masters ports line time link which seen t l c w3 w4 w5 w6 w7 w8 w9 w10 w11 et el ec eb =
     rw (et, el, ec, eb) refl
+
+-- a reset is read where there are resets
+pub reset-spelled : (masters ports : List Bus) (line time : ℕ) (t : List ℕ) → decimal_of (2 ^ 64 - 1) t ≡ Ok time
+    → row_of true masters ports line (t ∷ reset_words) ≡ Ok (reset_on_line line time)
+unfolding row_of row_at field_at link_of
+reset-spelled masters ports line time t is = rw is refl

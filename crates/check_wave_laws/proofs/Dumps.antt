@@ -1,5 +1,5 @@
 -- What happens in a dump fits, if no identifier that is kept has more bits than its slot.
-use Rattle.std.proofs.Common.{◌≡◌, ℕ, ◌+◌, ◌-◌, ◌^◌, ◌<◌, ◌≤◌, ◌==◌, nat_le, nat_lt, Bool, true, false, ◌||◌, not, cond, List, [], ◌∷◌, ◌++◌, length, get_or, map, Option, Some, None, arith, refl, subst, option_and_then, length-append}
+use Rattle.std.proofs.Common.{◌≡◌, ℕ, ◌+◌, ◌-◌, ◌^◌, ◌<◌, ◌≤◌, ◌==◌, nat_le, nat_lt, Bool, true, false, ◌||◌, not, cond, List, [], ◌∷◌, ◌++◌, length, get_or, map, Option, Some, None, is_some, arith, refl, subst, option_and_then, length-append}
 use Rattle.std.specs.Prelude.{⊤}
 use Rattle.std.proofs.lemmas.Bool.{ltb-false, ltb-true}
 use Rattle.std.proofs.lemmas.List.{length-map}
@@ -217,11 +217,11 @@ opened-fit (word ∷ words) h vars rest whole is =
         let same : words ≡ rest = cc in subst WordsFit same whole.1
     by (header.Fails mistake) others e = absurd (cc)
 
-pub dump-rows : (masters ports : List Bus) (line : ℕ) (text : List ℕ) (vars : List Var) (words : List Word) (find : Find)
-    (s : Sampling) → length masters < 2 ^ 64 → length ports < 2 ^ 64 → opening (dump_words text) blank ≡ Opened vars words → FindFits s.widths find
-    → SamplingFits masters ports s
-    → HasRows masters ports s.channels line (rows_from (happenings find words start) s).text
-dump-rows masters ports line text vars words find s few_masters few_ports opened fit fits =
-    readable-from masters ports few_masters few_ports (happenings find words start) s fits
+pub dump-rows : (masters ports : List Bus) (told : Bool) (line : ℕ) (text : List ℕ) (vars : List Var) (words : List Word)
+    (find : Find) (s : Sampling) → length masters < 2 ^ 64 → length ports < 2 ^ 64 → opening (dump_words text) blank ≡ Opened vars words
+    → FindFits s.widths find → SamplingFits masters ports s → (is_some s.resets ≡ true → told ≡ true)
+    → HasRows masters ports s.channels told line (rows_from (happenings find words start) s).text
+dump-rows masters ports told line text vars words find s few_masters few_ports opened fit fits are =
+    readable-from masters ports told few_masters few_ports (happenings find words start) s fits are
     (happens-fit s.widths find fit words start (opened-fit (dump_words text) blank vars words (words-fit text) opened)
     (omega arith)) line

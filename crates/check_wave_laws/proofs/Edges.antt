@@ -1,5 +1,5 @@
 -- The beats of one edge, and their rows.
-use Rattle.std.proofs.Common.{◌≡◌, ◌∙◌, ℕ, zero, suc, ◌+◌, ◌<◌, ◌⊎◌, inl, inr, Bool, true, false, ◌&&◌, ◌||◌, cond, not, List, [], ◌∷◌, ◌++◌, length, get_or, slice_get, codes, Contains, Option, None, Some, is_some, ap, arith, append_assoc, refl, subst, sym}
+use Rattle.std.proofs.Common.{◌≡◌, ◌∙◌, ℕ, zero, suc, ◌+◌, ◌<◌, ◌⊎◌, inl, inr, Bool, true, false, ◌&&◌, ◌||◌, cond, not, List, [], ◌∷◌, ◌++◌, length, get_or, map, slice_get, codes, Contains, Option, None, Some, is_some, ap, arith, append_assoc, refl, subst, sym}
 use Rattle.std.proofs.lemmas.Bool.{and_from, and_parts, both_ways, not-true, not_from_false}
 use Rattle.std.proofs.lemmas.List.Elements.{Contains-append_cases}
 use Rattle.std.proofs.lemmas.Option.{same_Some}
@@ -15,7 +15,7 @@ use Rattle.check_samples.specs.declared.clock.Edge.TheVariants.{Rising, Falling}
 use Rattle.check_samples.specs.declared.edges.Needs.{Needs}
 use Rattle.check_samples.specs.declared.signal.Signal.{Signal}
 use Rattle.check_samples.specs.declared.tap.Tap.{Tap}
-use Rattle.check_wave_laws.specs.Sampled.{AreInOrder, HasEdge, HidesReady, HidesValid, IsJoinedUntil, IsSampledBeat, Meets, Precedes, SampledBeat, WasReset, Wave, hidden_hand, is_whole, sampled_row, sampled_rows, shown_row, values_before, values_until}
+use Rattle.check_wave_laws.specs.Sampled.{AreInOrder, HasEdge, HidesReady, HidesValid, IsJoinedUntil, IsSampled, IsSampledBeat, IsSampledReset, Meets, OfBeat, OfReset, Precedes, SampledBeat, SampledRow, WasReset, Wave, hidden_hand, is_whole, sampled_row, sampled_rows, shown_row, time_of_sampled, values_before, values_until}
 
 -- ---- rows, one after the other
 
@@ -33,45 +33,72 @@ followed-twice (Some unknown) other text more rest = refl
 and-then-twice : (one two rest : Rows) → and_then (and_then one two) rest ≡ and_then one (and_then two rest)
 and-then-twice one two rest = followed-twice one.fault two.fault one.text two.text rest
 
-pub rows-append : (wave : Wave) (beats more : List SampledBeat)
-    → sampled_rows wave (beats ++ more) ≡ and_then (sampled_rows wave beats) (sampled_rows wave more)
+pub rows-append : (wave : Wave) (some more : List SampledRow)
+    → sampled_rows wave (some ++ more) ≡ and_then (sampled_rows wave some) (sampled_rows wave more)
 rows-append wave [] more = refl
-rows-append wave (beat ∷ beats) more =
-    ap (λ (r : Rows). and_then (sampled_row wave beat) r) (rows-append wave beats more)
-    ∙ sym (and-then-twice (sampled_row wave beat) (sampled_rows wave beats) (sampled_rows wave more))
+rows-append wave (one ∷ some) more =
+    ap (λ (r : Rows). and_then (sampled_row wave one) r) (rows-append wave some more)
+    ∙ sym (and-then-twice (sampled_row wave one) (sampled_rows wave some) (sampled_rows wave more))
 
--- ---- lists of beats
+-- ---- lists
 
-pub here : (beat : SampledBeat) (beats : List SampledBeat) → Contains (beat ∷ beats) beat
-here beat beats = (0, omega arith, refl)
+module _ {A : Type 0} where
+  pub here : (x : A) (xs : List A) → Contains (x ∷ xs) x
+  here x xs = (0, omega arith, refl)
 
-pub there : (beat other : SampledBeat) (beats : List SampledBeat) → Contains beats other → Contains (beat ∷ beats) other
-there beat other beats has = (suc has.0, omega (arith, has.1), has.2)
+  pub there : (x other : A) (xs : List A) → Contains xs other → Contains (x ∷ xs) other
+  there x other xs has = (suc has.0, omega (arith, has.1), has.2)
 
-pub here-or-there : (beat other : SampledBeat) (beats : List SampledBeat) → Contains (beat ∷ beats) other
-    → (beat ≡ other) ⊎ Contains beats other
-here-or-there beat other beats has = go has.0 has.1 has.2
-  where
-    go : (k : ℕ) → k < length (beat ∷ beats) → get_or (beat ∷ beats) k other ≡ other
-        → (beat ≡ other) ⊎ Contains beats other
-    go zero inside is = inl is
-    go (suc k) inside is = inr (k, omega (arith, inside), is)
+  pub here-or-there : (x other : A) (xs : List A) → Contains (x ∷ xs) other → (x ≡ other) ⊎ Contains xs other
+  here-or-there x other xs has = go has.0 has.1 has.2
+    where
+      go : (k : ℕ) → k < length (x ∷ xs) → get_or (x ∷ xs) k other ≡ other → (x ≡ other) ⊎ Contains xs other
+      go zero inside is = inl is
+      go (suc k) inside is = inr (k, omega (arith, inside), is)
 
-pub none-there : (beat : SampledBeat) → Contains [] beat → ⊥
-none-there beat has = omega (arith, has.1)
+  pub none-there : (x : A) → Contains [] x → ⊥
+  none-there x has = omega (arith, has.1)
 
-pub order-append : (beats more : List SampledBeat) → AreInOrder beats → AreInOrder more
-    → ((beat later : SampledBeat) → Contains beats beat → Contains more later → Precedes beat later)
-    → AreInOrder (beats ++ more)
+pub order-append : (some more : List SampledRow) → AreInOrder some → AreInOrder more
+    → ((one later : SampledRow) → Contains some one → Contains more later → Precedes one later)
+    → AreInOrder (some ++ more)
 order-append [] more first second across = second
-order-append (beat ∷ beats) more first second across = (
-  λ later has. by later (Contains-append_cases beats more later has),
-  order-append beats more first.1 second (λ one later has after. across one later (there beat one beats has) after),
+order-append (one ∷ some) more first second across = (
+  λ later has. by later (Contains-append_cases some more later has),
+  order-append some more first.1 second (λ other later has after. across other later (there one other some has) after),
 )
   where
-    by : (later : SampledBeat) → Contains beats later ⊎ Contains more later → Precedes beat later
+    by : (later : SampledRow) → Contains some later ⊎ Contains more later → Precedes one later
     by later (inl near) = first.0 later near
-    by later (inr far) = across beat later (here beat beats) far
+    by later (inr far) = across one later (here one some) far
+
+-- beats as rows
+abbrev pub of-beats : List SampledBeat → List SampledRow
+of-beats beats = map OfBeat beats
+
+pub of-beats-each : (beats : List SampledBeat) (row : SampledRow) → Contains (of-beats beats) row
+    → (beat : SampledBeat) × (row ≡ OfBeat beat) × Contains beats beat
+of-beats-each [] row has = absurd (none-there row has)
+of-beats-each (first ∷ beats) row has =
+    go (of-beats-each beats row) (here-or-there (OfBeat first) row (of-beats beats) has)
+  where
+    go : (Contains (of-beats beats) row → (beat : SampledBeat) × (row ≡ OfBeat beat) × Contains beats beat)
+        → (OfBeat first ≡ row) ⊎ Contains (of-beats beats) row
+        → (beat : SampledBeat) × (row ≡ OfBeat beat) × Contains (first ∷ beats) beat
+    go rest (inl same) = (first, sym same, here first beats)
+    go rest (inr far) = let more = rest far in (more.0, more.1, there first more.0 beats more.2)
+
+pub of-beats-has : (beats : List SampledBeat) (beat : SampledBeat) → Contains beats beat
+    → Contains (of-beats beats) (OfBeat beat)
+of-beats-has [] beat has = absurd (none-there beat has)
+of-beats-has (first ∷ beats) beat has = go (of-beats-has beats beat) (here-or-there first beat beats has)
+  where
+    go : (Contains beats beat → Contains (of-beats beats) (OfBeat beat)) → (first ≡ beat) ⊎ Contains beats beat
+        → Contains (of-beats (first ∷ beats)) (OfBeat beat)
+    go rest (inl same) =
+        subst (λ (b : SampledBeat). Contains (of-beats (first ∷ beats)) (OfBeat b)) same
+        (here (OfBeat first) (of-beats beats))
+    go rest (inr far) = there (OfBeat first) (OfBeat beat) (of-beats beats) (rest far)
 
 -- ---- one edge
 
@@ -233,34 +260,40 @@ module _ (wave : Wave) (dues : Dues) (time : ℕ) where
       (crossing wave dues time (place + 1) channels)
       (crossing-all (place + 1) channels beat index now (omega (arith, at)) is crossed)
 
-  later-place : (place : ℕ) (channel : Channel) (channels : List Channel) (later : SampledBeat)
-      → Contains (crossing wave dues time (place + 1) channels) later → Precedes (beat-of time place channel) later
+  later-place : (place : ℕ) (channel : Channel) (channels : List Channel) (later : SampledRow)
+      → Contains (of-beats (crossing wave dues time (place + 1) channels)) later
+      → Precedes (OfBeat (beat-of time place channel)) later
   later-place place channel channels later has =
-      let one = crossing-each (place + 1) channels later has in inr (sym one.now, omega (arith, one.spot))
+      let it = of-beats-each (crossing wave dues time (place + 1) channels) later has in
+      let one = crossing-each (place + 1) channels it.0 it.2 in
+      subst (λ (r : SampledRow). Precedes (OfBeat (beat-of time place channel)) r) (sym it.1)
+      (inr (sym one.now, omega (arith, one.spot)))
 
-  pub crossing-order : (place : ℕ) (channels : List Channel) → AreInOrder (crossing wave dues time place channels)
+  pub crossing-order : (place : ℕ) (channels : List Channel)
+      → AreInOrder (of-beats (crossing wave dues time place channels))
   crossing-order place [] = tt
   crossing-order place (channel ∷ channels) =
       go (tells dues (values_before wave time) channel) (crossing-order (place + 1) channels)
     where
-      go : (t : Bool) → AreInOrder (crossing wave dues time (place + 1) channels)
-          → AreInOrder (first-if t (beat-of time place channel) (crossing wave dues time (place + 1) channels))
+      go : (t : Bool) → AreInOrder (of-beats (crossing wave dues time (place + 1) channels))
+          → AreInOrder (of-beats (first-if t (beat-of time place channel) (crossing wave dues time (place + 1) channels)))
       go true rest = (later-place place channel channels, rest)
       go false rest = rest
 
   pub crossing-rows : (place : ℕ) (channels : List Channel)
       → rows_of dues time (values_before wave time) channels
-      ≡ sampled_rows wave (crossing wave dues time place channels)
+      ≡ sampled_rows wave (of-beats (crossing wave dues time place channels))
   crossing-rows place [] = refl
   crossing-rows place (channel ∷ channels) =
       go (tells dues (values_before wave time) channel) refl (crossing-rows (place + 1) channels)
     where
       go : (t : Bool) → tells dues (values_before wave time) channel ≡ t
           → rows_of dues time (values_before wave time) channels
-          ≡ sampled_rows wave (crossing wave dues time (place + 1) channels)
+          ≡ sampled_rows wave (of-beats (crossing wave dues time (place + 1) channels))
           → and_then (rows_due (due_at dues channel.domain) time (values_before wave time) channel)
           (rows_of dues time (values_before wave time) channels)
-          ≡ sampled_rows wave (first-if t (beat-of time place channel) (crossing wave dues time (place + 1) channels))
+          ≡ sampled_rows wave
+          (of-beats (first-if t (beat-of time place channel) (crossing wave dues time (place + 1) channels)))
       go true is rest =
           ap (λ (r : Rows). and_then r (rows_of dues time (values_before wave time) channels))
           (rows-told dues time (values_before wave time) channel is)
@@ -326,7 +359,7 @@ no-edge wave values clock so below one before until =
     (subst (λ (vs : List (List ℕ)). is_late clock.edge (bits_of vs clock.tap) ≡ true) until one.late)
 
 -- nor has it a beat
-pub no-beat : (wave : Wave) (values : List (List ℕ)) (beat : SampledBeat)
+no-beat : (wave : Wave) (values : List (List ℕ)) (beat : SampledBeat)
     → values_before wave beat.time ≡ with_joined wave.probes.joins values → values_until wave beat.time ≡ values
     → IsSampledBeat wave beat → ⊥
 no-beat wave values beat before until is =
@@ -334,6 +367,22 @@ no-beat wave values beat before until is =
     never-ticks wave.probes.joins values clock
     (subst (λ (vs : List (List ℕ)). is_early clock.edge (bits_of vs clock.tap) ≡ true) before is.early)
     (subst (λ (vs : List (List ℕ)). is_late clock.edge (bits_of vs clock.tap) ≡ true) until is.late)
+
+-- nor a reset
+no-reset : (wave : Wave) (values : List (List ℕ)) (time : ℕ)
+    → values_before wave time ≡ with_joined wave.probes.joins values → values_until wave time ≡ values
+    → IsSampledReset wave time → ⊥
+no-reset wave values time before until is =
+    let clock = is.system.clock in
+    never-ticks wave.probes.joins values clock
+    (subst (λ (vs : List (List ℕ)). is_early clock.edge (bits_of vs clock.tap) ≡ true) before is.early)
+    (subst (λ (vs : List (List ℕ)). is_late clock.edge (bits_of vs clock.tap) ≡ true) until is.late)
+
+pub no-row : (wave : Wave) (values : List (List ℕ)) (row : SampledRow)
+    → values_before wave (time_of_sampled row) ≡ with_joined wave.probes.joins values
+    → values_until wave (time_of_sampled row) ≡ values → IsSampled wave row → ⊥
+no-row wave values (OfBeat beat) before until is = no-beat wave values beat before until is
+no-row wave values (OfReset time) before until is = no-reset wave values time before until is
 
 pub edge-at : (wave : Wave) (time : ℕ) (beat : SampledBeat) → beat.time ≡ time → (is : IsSampledBeat wave beat)
     → has_edge (values_before wave time) (values_until wave time) is.domain ≡ true

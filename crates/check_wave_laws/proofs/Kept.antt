@@ -29,7 +29,7 @@ use Rattle.check_signals.specs.declared.signal_fault.SignalOwner.TheVariants as 
 use Rattle.check_signals.specs.declared.wanted.Wanted.{Wanted}
 use Rattle.check_signals.specs.declared.wanted.Wanted.TheVariants.{Exactly}
 use Rattle.check_wave_laws.specs.Text.{AllLieWithin, ChannelFits, FindFits, SamplingFits, TakesBeat, taps_bits}
-use Rattle.check_wave_laws.proofs.Found.{ClockFits, Each, FitsAll, LineFits, clock-fits, HasBits, KeptFits, LinkFits, PartFits, PartsFit, SourceFits, each-append, each-first, each-has, each-map, each-second, masters-fit, ports-fit}
+use Rattle.check_wave_laws.proofs.Found.{ClockFits, Each, FitsAll, LineFits, clock-fits, HasBits, KeptFits, LinkFits, PartFits, PartsFit, each-append, each-first, each-has, each-map, each-second, masters-fit, ports-fit}
 
 -- ---- one value and another
 
@@ -621,19 +621,40 @@ sources-fit vars masters ports names sources is =
         → clock_sources vars owner.System names.system ≡ c
         → links_from vars true names.ports 0 ports ≡ p → links_from vars false names.masters 0 masters ≡ m
         → (c >>= (λ system. p >>= (λ of_ports. m >>= (λ of_masters.
-        Ok (record { system = system; ports = of_ports; masters = of_masters }))))) ≡ Ok sources
+        Ok (record { system = system; resets = names.resets; ports = of_ports; masters = of_masters }))))) ≡ Ok sources
         → AllFit vars masters ports sources
     go (Err fault) p m x z w e = absurd (cc)
     go (Ok system) (Err fault) m x z w e = absurd (cc)
     go (Ok system) (Ok of_ports) (Err fault) x z w e = absurd (cc)
     go (Ok system) (Ok of_ports) (Ok of_masters) x z w e =
-        let made : FoundSources = record { system = system; ports = of_ports; masters = of_masters } in
+        let made : FoundSources =
+        record { system = system; resets = names.resets; ports = of_ports; masters = of_masters } in
         let same : made ≡ sources = cc in
         subst (AllFit vars masters ports) same (record {
           system = clock-fits vars owner.System names.system system x;
           of_ports = ports-fit vars masters ports names.ports of_ports z;
           of_masters = masters-fit vars masters ports names.masters of_masters w;
         })
+
+pub sources-told : (vars : List Var) (masters ports : List Bus) (names : SignalNames) (sources : FoundSources)
+    → sources_in vars masters ports names ≡ Ok sources → sources.resets ≡ names.resets
+unfolding sources_in
+sources-told vars masters ports names sources is =
+    go (clock_sources vars owner.System names.system) (links_from vars true names.ports 0 ports)
+    (links_from vars false names.masters 0 masters) is
+  where
+    go : (c : Result ClockSources SearchFault) (p m : Result (List LinkSources) SearchFault)
+        → (c >>= (λ system. p >>= (λ of_ports. m >>= (λ of_masters.
+        Ok (record { system = system; resets = names.resets; ports = of_ports; masters = of_masters }))))) ≡ Ok sources
+        → sources.resets ≡ names.resets
+    go (Err fault) p m e = absurd (cc)
+    go (Ok system) (Err fault) m e = absurd (cc)
+    go (Ok system) (Ok of_ports) (Err fault) e = absurd (cc)
+    go (Ok system) (Ok of_ports) (Ok of_masters) e =
+        let made : FoundSources =
+        record { system = system; resets = names.resets; ports = of_ports; masters = of_masters } in
+        let same : made ≡ sources = cc in
+        ap (λ (s : FoundSources). s.resets) (sym same)
 
 pub all-found : (vars : List Var) (masters ports : List Bus) (names : SignalNames) (found : Found)
     → found_in vars masters ports names ≡ Ok found

@@ -12,5 +12,7 @@ pub mod Counts
 pub mod Systems
 pub mod Changes
 pub mod Edges
+pub mod Present
+pub mod Resets
 pub mod Sampled
 pub mod SampledDumps

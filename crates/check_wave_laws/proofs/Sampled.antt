@@ -1,402 +1,197 @@
--- The rows of what happens in a dump are those of its beats.
-use Rattle.std.proofs.Common.{◌≡◌, ◌∙◌, ℕ, zero, suc, ◌+◌, ◌<◌, ◌≤◌, ◌⊎◌, inl, inr, ◌==◌, ◌||◌, Bool, true, false, cond, not, nat_le, List, [], ◌∷◌, ◌++◌, length, get_or, map, slice_get, Contains, Option, None, Some, is_none, ap, arith, append_assoc, refl, subst, sym}
+-- The rows of what happens in a dump are those of its beats and its resets.
+use Rattle.std.proofs.Common.{◌≡◌, ◌∙◌, ℕ, zero, suc, ◌<◌, ◌≤◌, ◌⊎◌, inl, inr, ◌==◌, Bool, true, false, cond, not, nat_le, List, [], ◌∷◌, ◌++◌, length, get_or, slice_get, Contains, Option, None, Some, ap, arith, append_assoc, refl, subst, sym, option_map}
 use Rattle.std.specs.Prelude.{⊤, ◌↔◌}
-use Rattle.std.proofs.lemmas.Bool.{and_from, and_parts, both_ways, cases_lt, cond-false, cond-true, eq-eqb, le-leb, leb-true, ne_eqb, not-true}
-use Rattle.std.proofs.lemmas.Option.{same_Some}
+use Rattle.std.proofs.lemmas.Bool.{both_ways, cases_lt, cond-false, cond-true, eq-eqb, le-leb, leb-true, ne_eqb, not-true}
 use Rattle.std.proofs.lemmas.List.Elements.{Contains-append_cases, Contains-append_left, Contains-append_right}
 use Rattle.check_vcd.specs.Body.{Happens, At, Sets, Resumes, Wrong}
-use Rattle.check_samples.specs.Digits.{bits_of, with_joined}
-use Rattle.check_samples.specs.Domain.{Domain, Watched, unwatched}
-use Rattle.check_samples.specs.EdgeFault.{edge_fault, some_crossed}
-use Rattle.check_samples.specs.Edges.{needs_of, no_edges, with_edge}
+use Rattle.check_samples.specs.Digits.{with_joined}
+use Rattle.check_samples.specs.Domain.{Watched}
+use Rattle.check_samples.specs.EdgeFault.{some_crossed}
 use Rattle.check_vcd.specs.declared.fault.Mistake.TheVariants.{Gap}
-use Rattle.check_samples.specs.Left.{BeforeLine, end_in, end_of_edges}
-use Rattle.check_samples.specs.Rows.{Dues, Probes, Rows, and_then, due_at, has_edge, is_early, is_late, no_rows, rows_of, some_crosses, ticks}
-use Rattle.check_samples.specs.Sampling.{Sampling, at_time, dues_of, is_at, is_time, rows_from, rows_now, rows_when, sampling_by, watched_from, watched_now, watched_when, with_value}
+use Rattle.check_samples.specs.Left.{BeforeLine, end_in}
+use Rattle.check_samples.specs.Rows.{Dues, Probes, Rows, and_then, no_rows, rows_of}
+use Rattle.check_samples.specs.Sampling.{Sampling, at_time, dues_of, is_at, is_time, rows_from, rows_now, rows_when, sampling_by, watched_from, watched_now, watched_when, with_value, resets_now, resets_when}
 use Rattle.check_samples.specs.declared.channel.Channel.{Channel}
-use Rattle.check_samples.specs.declared.clock.Clock.{Clock}
-use Rattle.check_samples.specs.declared.edges.Edges.{Edges}
-use Rattle.check_samples.specs.declared.edges.Needs.{Needs}
-use Rattle.check_samples.specs.declared.reset.Reset.{Reset}
 use Rattle.check_samples.specs.declared.tap.Tap.{Tap}
-use Rattle.check_wave_laws.specs.Sampled.{AllWatched, AreInOrder, AreSampled, EdgesAre, EndsSampled, HasEdge, HasNoGap, StandsBelow, MayLose, IsJoinedUntil, IsSampledBeat, NeverFalls, Precedes, SampledBeat, ValueChange, WasReset, Wave, active_in, always, changes_after, crossed_in, cut_after, gaps_after, is_before, is_until, is_whole, masked_in, outside_in, sampled_rows, values_after, values_before, values_until, wave_of}
-use Rattle.check_wave_laws.proofs.Changes.{EachTime, IsFrom, IsLess, IsUpTo, before-past, before-until, changes-from, each-push, each-weaker, from-before, from-until, gaps-from, now-push, until-before, until-past, up-to-before, up-to-next, up-to-self, up-to-until, value-kept, values-none, whole-before}
-use Rattle.check_wave_laws.proofs.Edges.{DuesAre, NeedsAre, beat-at, crossed-at, crossing, crossing-all, crossing-each, crossing-order, crossing-rows, Crosses, no-beat, no-edge, none-there, or-right, order-append, rows-append}
+use Rattle.check_wave_laws.specs.Sampled.{AllWatched, AreInOrder, AreSampled, EndsSampled, HasNoGap, StandsBelow, MayLose, IsJoinedUntil, NeverFalls, Precedes, SampledBeat, ValueChange, Wave, changes_after, cut_after, gaps_after, is_before, is_until, is_whole, sampled_rows, values_after, values_before, values_until, wave_of, IsSampled, IsSampledReset, OfBeat, OfReset, SampledRow, time_of_sampled}
+use Rattle.check_wave_laws.proofs.Changes.{EachTime, IsFrom, IsLess, IsUpTo, before-past, changes-from, each-push, each-weaker, from-before, from-until, gaps-from, now-push, up-to-before, up-to-next, up-to-self, up-to-until, value-kept, values-none, whole-before}
+use Rattle.check_wave_laws.proofs.Edges.{DuesAre, beat-at, crossed-at, crossing, crossing-all, crossing-each, crossing-order, crossing-rows, Crosses, none-there, order-append, rows-append, here, here-or-there, there, of-beats, of-beats-each, of-beats-has}
+use Rattle.check_samples.specs.Resets.{is_reset_due, reset_rows, watched_reset}
+use Rattle.check_samples.specs.declared.reset.WatchedReset.{WatchedReset}
+use Rattle.check_wave_laws.proofs.Present.{BeforeIs, Ends, WatchedSoFar, all-more, all-none, crossed-gap, dues-are, gap-crossed, quiet, until-is}
+use Rattle.check_wave_laws.proofs.Resets.{ResetIs, ResetSoFar, due-is, reset-more, reset-none}
 
--- ---- the beats of some times
+-- ---- the rows of some times
 
 abbrev IsSince : Option ℕ → ℕ → Type 0
 IsSince None time = ⊤
 IsSince (Some from) time = from ≤ time
 
--- a beat at one of the times from one on, below another
-record IsWithin (wave : Wave) (from below : Option ℕ) (beat : SampledBeat) : Type 0 where
-  is : IsSampledBeat wave beat
-  since : IsSince from beat.time
-  before : StandsBelow below beat.time
+-- a beat or a reset at one of the times from one on, below another
+record IsWithin (wave : Wave) (from below : Option ℕ) (row : SampledRow) : Type 0 where
+  is : IsSampled wave row
+  since : IsSince from (time_of_sampled row)
+  before : StandsBelow below (time_of_sampled row)
 
--- the rows are those of these beats
-record HasBeats (wave : Wave) (from below : Option ℕ) (rows : Rows) : Type 0 where
-  beats : List SampledBeat
-  each : (beat : SampledBeat) → Contains beats beat → IsWithin wave from below beat
-  all : (beat : SampledBeat) → IsWithin wave from below beat → Contains beats beat
-  order : AreInOrder beats
-  are : rows ≡ sampled_rows wave beats
+-- the rows are those of these beats and resets
+record HasSampled (wave : Wave) (from below : Option ℕ) (rows : Rows) : Type 0 where
+  sampled : List SampledRow
+  each : (row : SampledRow) → Contains sampled row → IsWithin wave from below row
+  all : (row : SampledRow) → IsWithin wave from below row → Contains sampled row
+  order : AreInOrder sampled
+  are : rows ≡ sampled_rows wave sampled
 
 -- there is none
-no-beats : (wave : Wave) (from below : Option ℕ) → ((beat : SampledBeat) → IsWithin wave from below beat → ⊥)
-    → HasBeats wave from below no_rows
-no-beats wave from below none = record {
-  beats = [];
-  each = λ beat has. absurd (none-there beat has);
-  all = λ beat within. absurd (none beat within);
+no-rows-there : (wave : Wave) (from below : Option ℕ) → ((row : SampledRow) → IsWithin wave from below row → ⊥)
+    → HasSampled wave from below no_rows
+no-rows-there wave from below none = record {
+  sampled = [];
+  each = λ row has. absurd (none-there row has);
+  all = λ row within. absurd (none row within);
   order = tt;
   are = refl;
 }
 
-since-next : (time : Option ℕ) (next beat : ℕ) → IsLess time next → next ≤ beat → IsSince time beat
-since-next None next beat less order = tt
-since-next (Some time) next beat less order = omega (arith, less, order)
+since-next : (time : Option ℕ) (next at : ℕ) → IsLess time next → next ≤ at → IsSince time at
+since-next None next at less order = tt
+since-next (Some time) next at less order = omega (arith, less, order)
 
 module _ (wave : Wave) (time : Option ℕ) (next : ℕ) (one two : Rows) (less : IsLess time next)
-    (first : HasBeats wave time (Some next) one) (second : HasBeats wave (Some next) None two) where
-  join-each : (beat : SampledBeat) → Contains first.beats beat ⊎ Contains second.beats beat → IsWithin wave time None beat
-  join-each beat (inl near) =
-      let within = first.each beat near in record { is = within.is; since = within.since; before = tt }
-  join-each beat (inr far) =
-      let within = second.each beat far in
-      record { is = within.is; since = since-next time next beat.time less within.since; before = tt }
+    (first : HasSampled wave time (Some next) one) (second : HasSampled wave (Some next) None two) where
+  join-each : (row : SampledRow) → Contains first.sampled row ⊎ Contains second.sampled row → IsWithin wave time None row
+  join-each row (inl near) =
+      let within = first.each row near in record { is = within.is; since = within.since; before = tt }
+  join-each row (inr far) =
+      let within = second.each row far in
+      record { is = within.is; since = since-next time next (time_of_sampled row) less within.since; before = tt }
 
-  join-all : (beat : SampledBeat) → IsWithin wave time None beat → (beat.time < next) ⊎ (next ≤ beat.time)
-      → Contains (first.beats ++ second.beats) beat
-  join-all beat within (inl near) =
-      Contains-append_left first.beats second.beats beat
-      (first.all beat (record { is = within.is; since = within.since; before = near }))
-  join-all beat within (inr far) =
-      Contains-append_right first.beats second.beats beat
-      (second.all beat (record { is = within.is; since = far; before = tt }))
+  join-all : (row : SampledRow) → IsWithin wave time None row → (time_of_sampled row < next) ⊎ (next ≤ time_of_sampled row)
+      → Contains (first.sampled ++ second.sampled) row
+  join-all row within (inl near) =
+      Contains-append_left first.sampled second.sampled row
+      (first.all row (record { is = within.is; since = within.since; before = near }))
+  join-all row within (inr far) =
+      Contains-append_right first.sampled second.sampled row
+      (second.all row (record { is = within.is; since = far; before = tt }))
 
-  join-order : (beat later : SampledBeat) → Contains first.beats beat → Contains second.beats later → Precedes beat later
-  join-order beat later near far =
-      inl (omega (arith, (first.each beat near).before, (second.each later far).since))
+  join-order : (row later : SampledRow) → Contains first.sampled row → Contains second.sampled later → Precedes row later
+  join-order row later near far =
+      inl (omega (arith, (first.each row near).before, (second.each later far).since))
 
-  join : HasBeats wave time None (and_then one two)
+  join : HasSampled wave time None (and_then one two)
   join = record {
-    beats = first.beats ++ second.beats;
-    each = λ beat has. join-each beat (Contains-append_cases first.beats second.beats beat has);
-    all = λ beat within. join-all beat within (cases_lt beat.time next);
-    order = order-append first.beats second.beats first.order second.order join-order;
+    sampled = first.sampled ++ second.sampled;
+    each = λ row has. join-each row (Contains-append_cases first.sampled second.sampled row has);
+    all = λ row within. join-all row within (cases_lt (time_of_sampled row) next);
+    order = order-append first.sampled second.sampled first.order second.order join-order;
     are = ap (λ (r : Rows). and_then r two) first.are
-        ∙ ap (λ (r : Rows). and_then (sampled_rows wave first.beats) r) second.are
-        ∙ sym (rows-append wave first.beats second.beats);
+        ∙ ap (λ (r : Rows). and_then (sampled_rows wave first.sampled) r) second.are
+        ∙ sym (rows-append wave first.sampled second.sampled);
   }
 
 -- a sampler after another time began
 abbrev begun : Sampling → ℕ → Sampling
-begun s next = record s { before = with_joined s.joins s.now; time = Some next; watched = watched_now s }
-
--- ---- the present time ends
-
--- the values before the present time, if it is known
-abbrev pub BeforeIs : Wave → Option ℕ → List (List ℕ) → Type 0
-BeforeIs wave None values = ⊤
-BeforeIs wave (Some time) values = values ≡ values_before wave time
-
--- the changes up to the present time, and those from the next one on
-record Ends (wave : Wave) (time next : Option ℕ) : Type 0 where
-  past : List ValueChange
-  later : List ValueChange
-  changes : wave.changes ≡ past ++ later
-  until : EachTime (IsUpTo time) past
-  gap : (early : ℕ) → StandsBelow next early → EachTime (λ at. is_until early at ≡ false) later
-  joined : (early : ℕ) → StandsBelow next early → IsJoinedUntil wave early
-  whole : (early : ℕ) → StandsBelow next early → is_whole wave.cut early ≡ true
-
-module _ (wave : Wave) (time next : Option ℕ) (ends : Ends wave time next) where
-  before-is : (at : ℕ) → IsLess time at → StandsBelow next at
-      → values_before wave at ≡ with_joined wave.probes.joins (values_after wave ends.past)
-  before-is at less below =
-      before-past wave ends.past ends.later at ends.changes
-      (each-weaker (IsUpTo time) (λ other. is_before at other ≡ true) ends.past
-      (λ other up. up-to-before time at other less up) ends.until)
-      (each-weaker (λ other. is_until at other ≡ false) (λ other. is_before at other ≡ false) ends.later
-      (λ other no. until-before at other no) (ends.gap at below))
-
-  until-is : (at : ℕ) → EachTime (λ other. is_until at other ≡ true) ends.past → StandsBelow next at
-      → values_until wave at ≡ values_after wave ends.past
-  until-is at up below = until-past wave ends.past ends.later at ends.changes up (ends.gap at below)
-
-  -- between the present time and the next one there is no edge
-  quiet-edge : (clock : Clock) (so : List (List ℕ) → Bool) (below : Option ℕ) (one : HasEdge wave clock so below)
-      → IsLess time one.time → StandsBelow next one.time → ⊥
-  quiet-edge clock so below one less bound =
-      no-edge wave (values_after wave ends.past) clock so below one (before-is one.time less bound)
-      (until-is one.time (each-weaker (IsUpTo time) (λ other. is_until one.time other ≡ true) ends.past
-      (λ other up. before-until one.time other (up-to-before time one.time other less up)) ends.until) bound)
-
-  -- and nothing crosses
-  quiet : (beat : SampledBeat) → IsLess time beat.time → StandsBelow next beat.time → IsSampledBeat wave beat → ⊥
-  quiet beat less below is =
-      no-beat wave (values_after wave ends.past) beat (before-is beat.time less below)
-      (until-is beat.time (each-weaker (IsUpTo time) (λ other. is_until beat.time other ≡ true) ends.past
-      (λ other up. before-until beat.time other (up-to-before time beat.time other less up)) ends.until) below) is
-
--- ---- the edges of the present time
-
-below-less : (next : Option ℕ) (early time : ℕ) → early < time → StandsBelow next time → StandsBelow next early
-below-less None early time less below = tt
-below-less (Some next) early time less below = omega (arith, less, below)
-
--- a clock ticks at a time
-abbrev ticks-at : Wave → Clock → ℕ → Bool
-ticks-at wave clock time = ticks (values_before wave time) (values_until wave time) clock
-
-rising : (wave : Wave) (clock : Clock) (so : List (List ℕ) → Bool) (below : Option ℕ) (one : HasEdge wave clock so below)
-    → ticks-at wave clock one.time ≡ true
-rising wave clock so below one =
-    and_from (is_early clock.edge (bits_of (values_before wave one.time) clock.tap))
-    (is_late clock.edge (bits_of (values_until wave one.time) clock.tap)) one.early one.late
-
-module _ (wave : Wave) (time : ℕ) (next : Option ℕ) (ends : Ends wave (Some time) next)
-    (below : StandsBelow next time) (clock : Clock) (so : List (List ℕ) → Bool) where
-  widen : HasEdge wave clock so (Some time) → HasEdge wave clock so next
-  widen one = record {
-    time = one.time;
-    before = below-less next one.time time one.before below;
-    early = one.early;
-    late = one.late;
-    was = one.was;
-  }
-
-  here-is : ticks-at wave clock time ≡ true → so (values_before wave time) ≡ true → HasEdge wave clock so next
-  here-is up was =
-      let both = and_parts (is_early clock.edge (bits_of (values_before wave time) clock.tap))
-      (is_late clock.edge (bits_of (values_until wave time) clock.tap)) up in
-      record { time = time; before = below; early = both.0; late = both.1; was = was }
-
-  -- an edge below the next time is below the present one or at it
-  where-is : (P : Type 0) → (HasEdge wave clock so (Some time) → P)
-      → (ticks-at wave clock time ≡ true → so (values_before wave time) ≡ true → P) → HasEdge wave clock so next → P
-  where-is P early now one = go (cases_lt one.time time) (cases_lt time one.time)
-    where
-      go : (one.time < time) ⊎ (time ≤ one.time) → (time < one.time) ⊎ (one.time ≤ time) → P
-      go (inl less) later =
-          early (record { time = one.time; before = less; early = one.early; late = one.late; was = one.was })
-      go (inr from) (inl later) = absurd (quiet-edge wave (Some time) next ends clock so next one later one.before)
-      go (inr from) (inr to) =
-          let same : one.time ≡ time = omega (arith, from, to) in
-          now (subst (λ (n : ℕ). ticks-at wave clock n ≡ true) same (rising wave clock so next one))
-          (subst (λ (n : ℕ). so (values_before wave n) ≡ true) same one.was)
-
-  -- whether there was one, if the clock ticks at the present time
-  flag-up : (flag : Bool) → ticks-at wave clock time ≡ true → (flag ≡ true) ↔ HasEdge wave clock so (Some time)
-      → ((flag || so (values_before wave time)) ≡ true) ↔ HasEdge wave clock so next
-  flag-up flag up know = (λ e. to flag (so (values_before wave time)) refl refl e, λ one. back one)
-    where
-      to : (f w : Bool) → flag ≡ f → so (values_before wave time) ≡ w → (f || w) ≡ true → HasEdge wave clock so next
-      to true w is was e = widen (know.0 is)
-      to false true is was e = here-is up was
-      to false false is was e = absurd (cc)
-
-      back : HasEdge wave clock so next → (flag || so (values_before wave time)) ≡ true
-      back one =
-          where-is ((flag || so (values_before wave time)) ≡ true)
-          (λ early. ap (λ (f : Bool). f || so (values_before wave time)) (know.1 early))
-          (λ rise was. or-right flag (so (values_before wave time)) was) one
-
-  -- and if it does not
-  flag-same : (flag : Bool) → ticks-at wave clock time ≡ false → (flag ≡ true) ↔ HasEdge wave clock so (Some time)
-      → (flag ≡ true) ↔ HasEdge wave clock so next
-  flag-same flag still know = (
-    λ e. widen (know.0 e),
-    λ one. where-is (flag ≡ true) know.1 (λ rise was. absurd (both_ways (ticks-at wave clock time) still rise)) one,
-  )
-
--- no edge is below the first time
-module _ (wave : Wave) (next : Option ℕ) (ends : Ends wave None next) where
-  flag-none : (clock : Clock) (so : List (List ℕ) → Bool) → (false ≡ true) ↔ HasEdge wave clock so next
-  flag-none clock so = (
-    λ e. absurd (both_ways false refl e),
-    λ one. absurd (quiet-edge wave None next ends clock so next one tt one.before),
-  )
-
-  edges-none : (place : ℕ) (domain : Domain) → EdgesAre wave place domain next no_edges
-  edges-none place domain = record {
-    any = flag-none domain.clock always;
-    outside = flag-none domain.clock (outside_in domain);
-    in_reset = flag-none domain.clock (active_in domain);
-    crossed = flag-none domain.clock (crossed_in wave place domain);
-    masked = flag-none domain.clock (masked_in wave place domain);
-  }
-
-  all-none : (place : ℕ) (domains : List Domain) → AllWatched wave next place domains (map unwatched domains)
-  all-none place [] = tt
-  all-none place (domain ∷ domains) = (refl, edges-none place domain, all-none (place + 1) domains)
-
-module _ (wave : Wave) (time : ℕ) (next : Option ℕ) (ends : Ends wave (Some time) next)
-    (below : StandsBelow next time) where
-  edges-more : (place : ℕ) (domain : Domain) (edges : Edges) → EdgesAre wave place domain (Some time) edges
-      → (t : Bool) → ticks-at wave domain.clock time ≡ t
-      → EdgesAre wave place domain next (cond t (with_edge edges (active_in domain (values_before wave time))
-      (some_crosses place (values_before wave time) wave.probes.channels)) edges)
-  edges-more place domain edges so_far true up =
-      let clock = domain.clock in
-      record {
-        any = (λ e. here-is wave time next ends below clock always up refl, λ one. refl);
-        outside = flag-up wave time next ends below clock (outside_in domain) edges.outside up so_far.outside;
-        in_reset = flag-up wave time next ends below clock (active_in domain) edges.in_reset up so_far.in_reset;
-        crossed = flag-up wave time next ends below clock (crossed_in wave place domain) edges.crossed up so_far.crossed;
-        masked = flag-up wave time next ends below clock (masked_in wave place domain) edges.masked up so_far.masked;
-      }
-  edges-more place domain edges so_far false still =
-      let clock = domain.clock in
-      record {
-        any = flag-same wave time next ends below clock always edges.any still so_far.any;
-        outside = flag-same wave time next ends below clock (outside_in domain) edges.outside still so_far.outside;
-        in_reset = flag-same wave time next ends below clock (active_in domain) edges.in_reset still so_far.in_reset;
-        crossed = flag-same wave time next ends below clock (crossed_in wave place domain) edges.crossed still
-            so_far.crossed;
-        masked = flag-same wave time next ends below clock (masked_in wave place domain) edges.masked still so_far.masked;
-      }
-
-  all-more : (place : ℕ) (domains : List Domain) (watched : List Watched)
-      → AllWatched wave (Some time) place domains watched → AllWatched wave next place domains
-      (watched_from place (values_before wave time) (values_until wave time) wave.probes.channels watched)
-  all-more place [] [] are = tt
-  all-more place [] (one ∷ watched) are = absurd are
-  all-more place (domain ∷ domains) [] are = absurd are
-  all-more place (domain ∷ domains) (one ∷ watched) are = (
-    are.0,
-    subst (λ (d : Domain). EdgesAre wave place domain next (cond (ticks-at wave d.clock time)
-        (with_edge one.edges (active_in d (values_before wave time))
-        (some_crosses place (values_before wave time) wave.probes.channels)) one.edges)) (sym are.0)
-        (edges-more place domain one.edges are.1 (ticks-at wave domain.clock time) refl),
-    all-more (place + 1) domains watched are.2,
-  )
-
--- what has to be known of a domain at a time follows from the edges below it
-needs-are : (wave : Wave) (place : ℕ) (domain : Domain) (time : ℕ) (edges : Edges)
-    → EdgesAre wave place domain (Some time) edges → NeedsAre wave domain time (needs_of domain.reset edges)
-needs-are wave place domain time edges are = record {
-  valid = are.in_reset.0;
-  has_valid = are.in_reset.1;
-  ready = λ e. to domain.reset refl e;
-  has_ready = λ why. back domain.reset refl why;
+begun s next = record s {
+  before = with_joined s.joins s.now;
+  time = Some next;
+  watched = watched_now s;
+  resets = resets_now s;
 }
-  where
-    to : (reset : Option Reset) → domain.reset ≡ reset → (is_none reset || edges.in_reset) ≡ true
-        → (domain.reset ≡ None) ⊎ WasReset wave domain time
-    to None is e = inl is
-    to (Some reset) is e = inr (are.in_reset.0 e)
 
-    back : (reset : Option Reset) → domain.reset ≡ reset → (domain.reset ≡ None) ⊎ WasReset wave domain time
-        → (is_none reset || edges.in_reset) ≡ true
-    back None is why = refl
-    back (Some reset) is (inl none) = absurd (cc)
-    back (Some reset) is (inr was) = are.in_reset.1 was
-
--- what is due of all domains at a time
-module _ (wave : Wave) (time : ℕ) where
-  due-here : (domain : Domain) (edges : Edges) (t : Bool)
-      → has_edge (values_before wave time) (values_until wave time) domain ≡ t → (needs : Needs)
-      → cond t (Some (needs_of domain.reset edges)) None ≡ Some needs
-      → (has_edge (values_before wave time) (values_until wave time) domain ≡ true) × (needs_of domain.reset edges ≡ needs)
-  due-here domain edges true edge needs is = (edge, same_Some (needs_of domain.reset edges) needs is)
-  due-here domain edges false edge needs is = absurd (cc)
-
-  due-each : (first : ℕ) (domains : List Domain) (watched : List Watched) → AllWatched wave (Some time) first domains watched
-      → (place : ℕ) (needs : Needs)
-      → due_at (dues_of (values_before wave time) (values_until wave time) watched) place ≡ Some needs
-      → (domain : Domain) × (slice_get domains place ≡ Some domain)
-      × (has_edge (values_before wave time) (values_until wave time) domain ≡ true) × NeedsAre wave domain time needs
-  due-each first [] [] are place needs is = absurd (cc)
-  due-each first [] (one ∷ watched) are place needs is = absurd are
-  due-each first (domain ∷ domains) [] are place needs is = absurd are
-  due-each first (domain ∷ domains) (one ∷ watched) are zero needs is =
-      let edges = one.edges in
-      let found : cond (has_edge (values_before wave time) (values_until wave time) domain)
-      (Some (needs_of domain.reset edges)) None ≡ Some needs =
-      subst (λ (d : Domain). cond (has_edge (values_before wave time) (values_until wave time) d)
-      (Some (needs_of d.reset edges)) None ≡ Some needs) are.0 is in
-      let both = due-here domain edges (has_edge (values_before wave time) (values_until wave time) domain) refl needs found in (
-        domain,
-        refl,
-        both.0,
-        subst (λ (n : Needs). NeedsAre wave domain time n) both.1
-            (needs-are wave first domain time edges are.1),
-      )
-  due-each first (domain ∷ domains) (one ∷ watched) are (suc place) needs is =
-      due-each (first + 1) domains watched are.2 place needs is
-
-  due-all : (first : ℕ) (domains : List Domain) (watched : List Watched) → AllWatched wave (Some time) first domains watched
-      → (place : ℕ) (domain : Domain) → slice_get domains place ≡ Some domain
-      → has_edge (values_before wave time) (values_until wave time) domain ≡ true
-      → (needs : Needs)
-      × (due_at (dues_of (values_before wave time) (values_until wave time) watched) place ≡ Some needs)
-      × NeedsAre wave domain time needs
-  due-all first [] [] are place domain is edge = absurd (cc)
-  due-all first [] (one ∷ watched) are place domain is edge = absurd are
-  due-all first (other ∷ domains) [] are place domain is edge = absurd are
-  due-all first (other ∷ domains) (one ∷ watched) are zero domain is edge =
-      let same : one.domain ≡ domain = are.0 ∙ same_Some other domain is in
-      let known : EdgesAre wave first domain (Some time) one.edges =
-      subst (λ (d : Domain). EdgesAre wave first d (Some time) one.edges) (same_Some other domain is) are.1 in (
-        needs_of domain.reset one.edges,
-        ap (λ (d : Domain). cond (has_edge (values_before wave time) (values_until wave time) d)
-            (Some (needs_of d.reset one.edges)) None) same
-            ∙ ap (λ (t : Bool). cond t (Some (needs_of domain.reset one.edges)) None) edge,
-        needs-are wave first domain time one.edges known,
-      )
-  due-all first (other ∷ domains) (one ∷ watched) are (suc place) domain is edge =
-      due-all (first + 1) domains watched are.2 place domain is edge
-
-  dues-are : (watched : List Watched) → AllWatched wave (Some time) 0 wave.probes.domains watched
-      → DuesAre wave time (dues_of (values_before wave time) (values_until wave time) watched)
-  dues-are watched are = record {
-    each = λ place needs is.
-        let due = due-each 0 wave.probes.domains watched are place needs is in
-        record { domain = due.0; has = due.1; edge = due.2; are = due.3 };
-    all = λ place domain is edge. due-all 0 wave.probes.domains watched are place domain is edge;
-  }
-
--- ---- the beats of the present time
+-- ---- the rows of the present time
 
 module _ (wave : Wave) (time : ℕ) (next : Option ℕ) (ends : Ends wave (Some time) next)
     (below : StandsBelow next time) (dues : Dues) (are : DuesAre wave time dues) where
-  time-beats : HasBeats wave (Some time) next (rows_of dues time (values_before wave time) wave.probes.channels)
-  time-beats = record {
-    beats = crossing wave dues time 0 wave.probes.channels;
-    each = λ beat has. each-one beat (crossing-each wave dues time 0 wave.probes.channels beat has);
-    all = λ beat within. all-of beat within (cases_lt time beat.time);
+  -- its beats
+  abbrev crossing-now : List SampledBeat
+  crossing-now = crossing wave dues time 0 wave.probes.channels
+
+  beat-within : (beat : SampledBeat) → Crosses wave dues time 0 wave.probes.channels beat
+      → IsWithin wave (Some time) next (OfBeat beat)
+  beat-within beat one =
+      let place : one.index ≡ beat.place = omega (arith, one.spot) in
+      let looked : slice_get wave.probes.channels beat.place ≡ Some beat.channel =
+      subst (λ (n : ℕ). slice_get wave.probes.channels n ≡ Some beat.channel) place one.is in
+      record {
+        is = beat-at wave dues time beat are one.now looked one.crossed (ends.joined time below) (ends.whole time below);
+        since = omega (arith, one.now);
+        before = subst (λ (n : ℕ). StandsBelow next n) (sym one.now) below;
+      }
+
+  -- a row of one of the times from the present one on stands at it
+  at-time : (row : SampledRow) → IsWithin wave (Some time) next row → time_of_sampled row ≡ time
+  at-time row within = go (cases_lt time (time_of_sampled row))
+    where
+      go : (time < time_of_sampled row) ⊎ (time_of_sampled row ≤ time) → time_of_sampled row ≡ time
+      go (inl later) = absurd (quiet wave (Some time) next ends row later within.before within.is)
+      go (inr order) = omega (arith, order, within.since)
+
+  all-beats : (beat : SampledBeat) → IsWithin wave (Some time) next (OfBeat beat)
+      → Contains (of-beats crossing-now) (OfBeat beat)
+  all-beats beat within =
+      let now = at-time (OfBeat beat) within in
+      of-beats-has crossing-now beat (crossing-all wave dues time 0 wave.probes.channels beat beat.place now (omega arith)
+      within.is.looked (crossed-at wave dues time beat are now within.is))
+
+  each-beat : (row : SampledRow) → Contains (of-beats crossing-now) row → IsWithin wave (Some time) next row
+  each-beat row has =
+      let it = of-beats-each crossing-now row has in
+      subst (λ (r : SampledRow). IsWithin wave (Some time) next r) (sym it.1)
+      (beat-within it.0 (crossing-each wave dues time 0 wave.probes.channels it.0 it.2))
+
+  -- a reset stands before them
+  reset-first : (later : SampledRow) → Contains (of-beats crossing-now) later → Precedes (OfReset time) later
+  reset-first later has =
+      let it = of-beats-each crossing-now later has in
+      let one = crossing-each wave dues time 0 wave.probes.channels it.0 it.2 in
+      subst (λ (r : SampledRow). Precedes (OfReset time) r) (sym it.1) (inr (sym one.now, tt))
+
+  abbrev rows-of-time : Bool → Rows
+  rows-of-time due =
+      and_then (reset_rows time due) (rows_of dues time (values_before wave time) wave.probes.channels)
+
+  with-reset : IsSampledReset wave time → HasSampled wave (Some time) next (rows-of-time true)
+  with-reset is = record {
+    sampled = OfReset time ∷ of-beats crossing-now;
+    each = λ row has. each-one row (here-or-there (OfReset time) row (of-beats crossing-now) has);
+    all = all-rows;
+    order = (reset-first, crossing-order wave dues time 0 wave.probes.channels);
+    are = ap (λ (r : Rows). and_then (reset_rows time true) r) (crossing-rows wave dues time 0 wave.probes.channels);
+  }
+    where
+      each-one : (row : SampledRow) → (OfReset time ≡ row) ⊎ Contains (of-beats crossing-now) row
+          → IsWithin wave (Some time) next row
+      each-one row (inl same) =
+          subst (λ (r : SampledRow). IsWithin wave (Some time) next r) same
+          (record { is = is; since = omega arith; before = below })
+      each-one row (inr far) = each-beat row far
+
+      all-rows : (row : SampledRow) → IsWithin wave (Some time) next row
+          → Contains (OfReset time ∷ of-beats crossing-now) row
+      all-rows (OfBeat beat) within =
+          there (OfReset time) (OfBeat beat) (of-beats crossing-now) (all-beats beat within)
+      all-rows (OfReset at) within =
+          subst (λ (n : ℕ). Contains (OfReset time ∷ of-beats crossing-now) (OfReset n))
+          (sym (at-time (OfReset at) within)) (here (OfReset time) (of-beats crossing-now))
+
+  without-reset : (IsSampledReset wave time → ⊥) → HasSampled wave (Some time) next (rows-of-time false)
+  without-reset none = record {
+    sampled = of-beats crossing-now;
+    each = each-beat;
+    all = all-rows;
     order = crossing-order wave dues time 0 wave.probes.channels;
     are = crossing-rows wave dues time 0 wave.probes.channels;
   }
     where
-      each-one : (beat : SampledBeat) → Crosses wave dues time 0 wave.probes.channels beat
-          → IsWithin wave (Some time) next beat
-      each-one beat one =
-          let place : one.index ≡ beat.place = omega (arith, one.spot) in
-          let looked : slice_get wave.probes.channels beat.place ≡ Some beat.channel =
-          subst (λ (n : ℕ). slice_get wave.probes.channels n ≡ Some beat.channel) place one.is in
-          record {
-            is = beat-at wave dues time beat are one.now looked one.crossed (ends.joined time below)
-                (ends.whole time below);
-            since = omega (arith, one.now);
-            before = subst (λ (n : ℕ). StandsBelow next n) (sym one.now) below;
-          }
+      all-rows : (row : SampledRow) → IsWithin wave (Some time) next row → Contains (of-beats crossing-now) row
+      all-rows (OfBeat beat) within = all-beats beat within
+      all-rows (OfReset at) within =
+          absurd (none (subst (λ (n : ℕ). IsSampledReset wave n) (at-time (OfReset at) within) within.is))
 
-      all-of : (beat : SampledBeat) → IsWithin wave (Some time) next beat → (time < beat.time) ⊎ (beat.time ≤ time)
-          → Contains (crossing wave dues time 0 wave.probes.channels) beat
-      all-of beat within (inl later) = absurd (quiet wave (Some time) next ends beat later within.before within.is)
-      all-of beat within (inr order) =
-          let now : beat.time ≡ time = omega (arith, order, within.since) in
-          crossing-all wave dues time 0 wave.probes.channels beat beat.place now (omega arith) within.is.looked
-          (crossed-at wave dues time beat are now within.is)
-
--- the edges below the present time, if it is known
-abbrev pub WatchedSoFar : Wave → Option ℕ → List Watched → Type 0
-WatchedSoFar wave None watched = watched ≡ map unwatched wave.probes.domains
-WatchedSoFar wave (Some time) watched = AllWatched wave (Some time) 0 wave.probes.domains watched
+  time-rows : (due : Bool) → (due ≡ true) ↔ IsSampledReset wave time
+      → HasSampled wave (Some time) next (rows-of-time due)
+  time-rows true is = with-reset (is.0 refl)
+  time-rows false is = without-reset (λ reset. both_ways false refl (is.1 reset))
 
 -- a sampler at the end of the present time
 record IsSampler (wave : Wave) (time : Option ℕ) (past : List ValueChange) (s : Sampling) : Type 0 where
@@ -407,21 +202,25 @@ record IsSampler (wave : Wave) (time : Option ℕ) (past : List ValueChange) (s 
   now : s.now ≡ values_after wave past
   before : BeforeIs wave time s.before
   watched : WatchedSoFar wave time s.watched
+  resets : ResetSoFar wave time s.resets
 
 abbrev NowIsBelow : Option ℕ → Option ℕ → Type 0
 NowIsBelow None next = ⊤
 NowIsBelow (Some time) next = StandsBelow next time
 
+-- the rows of a time by the values before it and at its end
+abbrev rows-by : ℕ → List (List ℕ) → List (List ℕ) → Sampling → List Channel → Rows
+rows-by time before now s channels =
+    and_then (reset_rows time (is_reset_due before now s.watched s.resets))
+    (rows_of (dues_of before now s.watched) time before channels)
+
 rows-at : (wave : Wave) (time : ℕ) (past : List ValueChange) (s : Sampling) → IsSampler wave (Some time) past s
     → values_until wave time ≡ values_after wave past
-    → rows_when (Some time) s
-    ≡ rows_of (dues_of (values_before wave time) (values_until wave time) s.watched) time (values_before wave time)
-    wave.probes.channels
+    → rows_when (Some time) s ≡ rows-by time (values_before wave time) (values_until wave time) s wave.probes.channels
 rows-at wave time past s is until =
-    ap (λ (cs : List Channel). rows_of (dues_of s.before s.now s.watched) time s.before cs) is.channels
-    ∙ ap (λ (vs : List (List ℕ)). rows_of (dues_of vs s.now s.watched) time vs wave.probes.channels) is.before
-    ∙ ap (λ (vs : List (List ℕ)). rows_of (dues_of (values_before wave time) vs s.watched) time (values_before wave time)
-    wave.probes.channels) (is.now ∙ sym until)
+    ap (λ (cs : List Channel). rows-by time s.before s.now s cs) is.channels
+    ∙ ap (λ (vs : List (List ℕ)). rows-by time vs s.now s wave.probes.channels) is.before
+    ∙ ap (λ (vs : List (List ℕ)). rows-by time (values_before wave time) vs s wave.probes.channels) (is.now ∙ sym until)
 
 -- the edges below the next time
 watched-at : (wave : Wave) (time : ℕ) (next : Option ℕ) (ends : Ends wave (Some time) next) (s : Sampling)
@@ -461,20 +260,52 @@ watched-next wave time next ends s is below =
     subst (λ (at : Option ℕ). AllWatched wave next 0 wave.probes.domains (watched_when at s)) (sym is.present)
     (watched-when wave time next ends s is below)
 
+-- the same of the system's reset
+resets-at : (wave : Wave) (time : ℕ) (next : Option ℕ) (ends : Ends wave (Some time) next) (s : Sampling)
+    → IsSampler wave (Some time) ends.past s → StandsBelow next time → values_until wave time ≡ values_after wave ends.past
+    → ResetIs wave next wave.probes.resets (resets_when (Some time) s)
+resets-at wave time next ends s is below until =
+    subst (λ (r : Option WatchedReset). ResetIs wave next wave.probes.resets r) (sym same)
+    (reset-more wave time next ends below wave.probes.resets s.resets is.resets)
+  where
+    same : resets_when (Some time) s
+        ≡ option_map (watched_reset (values_before wave time) (values_until wave time)) s.resets
+    same =
+        ap (λ (vs : List (List ℕ)). option_map (watched_reset vs s.now) s.resets) is.before
+        ∙ ap (λ (vs : List (List ℕ)). option_map (watched_reset (values_before wave time) vs) s.resets) (is.now ∙ sym until)
+
+resets-when : (wave : Wave) (time next : Option ℕ) (ends : Ends wave time next) (s : Sampling)
+    → IsSampler wave time ends.past s → NowIsBelow time next
+    → ResetIs wave next wave.probes.resets (resets_when time s)
+resets-when wave None next ends s is below =
+    subst (λ (r : Option WatchedReset). ResetIs wave next wave.probes.resets r) (sym is.resets)
+    (reset-none wave next ends wave.probes.resets)
+resets-when wave (Some time) next ends s is below =
+    resets-at wave time next ends s is below (until-now wave time next ends below)
+
+resets-next : (wave : Wave) (time next : Option ℕ) (ends : Ends wave time next) (s : Sampling)
+    → IsSampler wave time ends.past s → NowIsBelow time next
+    → ResetIs wave next wave.probes.resets (resets_now s)
+resets-next wave time next ends s is below =
+    subst (λ (at : Option ℕ). ResetIs wave next wave.probes.resets (resets_when at s)) (sym is.present)
+    (resets-when wave time next ends s is below)
+
 ended-at : (wave : Wave) (time next : Option ℕ) (ends : Ends wave time next) (s : Sampling)
-    → IsSampler wave time ends.past s → NowIsBelow time next → HasBeats wave time next (rows_when time s)
+    → IsSampler wave time ends.past s → NowIsBelow time next → HasSampled wave time next (rows_when time s)
 ended-at wave None next ends s is below =
-    no-beats wave None next (λ beat within. quiet wave None next ends beat tt within.before within.is)
+    no-rows-there wave None next (λ row within. quiet wave None next ends row tt within.before within.is)
 ended-at wave (Some time) next ends s is below =
-    subst (λ (r : Rows). HasBeats wave (Some time) next r)
+    subst (λ (r : Rows). HasSampled wave (Some time) next r)
     (sym (rows-at wave time ends.past s is (until-now wave time next ends below)))
-    (time-beats wave time next ends below (dues_of (values_before wave time) (values_until wave time) s.watched)
-    (dues-are wave time s.watched is.watched))
+    (time-rows wave time next ends below (dues_of (values_before wave time) (values_until wave time) s.watched)
+    (dues-are wave time s.watched is.watched)
+    (is_reset_due (values_before wave time) (values_until wave time) s.watched s.resets)
+    (due-is wave time s.watched is.watched s.resets is.resets (ends.joined time below) (ends.whole time below)))
 
 ended : (wave : Wave) (time next : Option ℕ) (ends : Ends wave time next) (s : Sampling)
-    → IsSampler wave time ends.past s → NowIsBelow time next → HasBeats wave time next (rows_now s)
+    → IsSampler wave time ends.past s → NowIsBelow time next → HasSampled wave time next (rows_now s)
 ended wave time next ends s is below =
-    subst (λ (at : Option ℕ). HasBeats wave time next (rows_when at s)) (sym is.present)
+    subst (λ (at : Option ℕ). HasSampled wave time next (rows_when at s)) (sym is.present)
     (ended-at wave time next ends s is below)
 
 -- ---- all times
@@ -516,22 +347,33 @@ last-ends wave time s runs = record {
     go gap (inl past) is = runs.joined gap past is
     go gap (inr none) is = omega (arith, none.1)
 
-runs-out : (wave : Wave) (time : Option ℕ) (s : Sampling) → Runs wave time [] s → HasBeats wave time None (rows_now s)
+runs-out : (wave : Wave) (time : Option ℕ) (s : Sampling) → Runs wave time [] s → HasSampled wave time None (rows_now s)
 unfolding last-ends
 runs-out wave time s runs = ended wave time None (last-ends wave time s runs) s runs.sampler (now-below-none time)
 
+-- up to the end of a row's time no line is wrong, and there is no gap
+row-whole : (wave : Wave) (row : SampledRow) → IsSampled wave row → is_whole wave.cut (time_of_sampled row) ≡ true
+row-whole wave (OfBeat beat) is = is.whole
+row-whole wave (OfReset time) is = is.whole
+
+row-joined : (wave : Wave) (row : SampledRow) → IsSampled wave row → IsJoinedUntil wave (time_of_sampled row)
+row-joined wave (OfBeat beat) is = is.joined
+row-joined wave (OfReset time) is = is.joined
+
 -- a line is wrong
-runs-cut : (wave : Wave) (time : Option ℕ) → wave.cut ≡ Some time → HasBeats wave time None no_rows
-runs-cut wave time cut = no-beats wave time None (λ beat within. go time cut beat within)
+runs-cut : (wave : Wave) (time : Option ℕ) → wave.cut ≡ Some time → HasSampled wave time None no_rows
+runs-cut wave time cut = no-rows-there wave time None (λ row within. go time cut row within)
   where
-    go : (at : Option ℕ) → wave.cut ≡ Some at → (beat : SampledBeat) → IsWithin wave at None beat → ⊥
-    go None is beat within =
-        let whole : false ≡ true = subst (λ (c : Option (Option ℕ)). is_whole c beat.time ≡ true) is within.is.whole in
+    go : (at : Option ℕ) → wave.cut ≡ Some at → (row : SampledRow) → IsWithin wave at None row → ⊥
+    go None is row within =
+        let whole : false ≡ true =
+        subst (λ (c : Option (Option ℕ)). is_whole c (time_of_sampled row) ≡ true) is (row-whole wave row within.is) in
         both_ways false refl whole
-    go (Some at) is beat within =
-        let whole : not (nat_le at beat.time) ≡ true =
-        subst (λ (c : Option (Option ℕ)). is_whole c beat.time ≡ true) is within.is.whole in
-        both_ways (nat_le at beat.time) (not-true (nat_le at beat.time) whole) (le-leb at beat.time within.since)
+    go (Some at) is row within =
+        let here = time_of_sampled row in
+        let whole : not (nat_le at here) ≡ true =
+        subst (λ (c : Option (Option ℕ)). is_whole c here ≡ true) is (row-whole wave row within.is) in
+        both_ways (nat_le at here) (not-true (nat_le at here) whole) (le-leb at here within.since)
 
 -- a later time begins
 module _ (wave : Wave) (time : Option ℕ) (next : ℕ) (happens : List Happens) (s : Sampling)
@@ -564,6 +406,10 @@ module _ (wave : Wave) (time : Option ℕ) (next : ℕ) (happens : List Happens)
   unfolding later-ends
   later-watched = watched-next wave time (Some next) later-ends s runs.sampler (now-below time next less)
 
+  later-resets : ResetIs wave (Some next) wave.probes.resets (resets_now s)
+  unfolding later-ends
+  later-resets = resets-next wave time (Some next) later-ends s runs.sampler (now-below time next less)
+
   later-runs : Runs wave (Some next) happens (begun s next)
   later-runs = record {
     past = runs.past;
@@ -581,6 +427,7 @@ module _ (wave : Wave) (time : Option ℕ) (next : ℕ) (happens : List Happens)
           (each-weaker (IsFrom next) (λ at. is_before next at ≡ false) (changes_after (Some next) happens)
           (λ at from. from-before next at from) (changes-from next happens runs.rises.1)));
       watched = later-watched;
+      resets = later-resets;
     };
     changes = runs.changes;
     cut = runs.cut;
@@ -628,6 +475,7 @@ value-runs wave time slot digits happens s runs =
         now = now-push wave runs.past s change runs.sampler.now runs.sampler.widths;
         before = value-before wave time s.before (with_value s slot digits).before kept.earlier runs.sampler.before;
         watched = subst (λ (ws : List Watched). WatchedSoFar wave time ws) (sym kept.watched) runs.sampler.watched;
+        resets = subst (λ (r : Option WatchedReset). ResetSoFar wave time r) (sym kept.resets) runs.sampler.resets;
       };
       changes = runs.changes ∙ sym (append_assoc runs.past (change ∷ []) (changes_after time happens));
       cut = runs.cut;
@@ -638,87 +486,7 @@ value-runs wave time slot digits happens s runs =
       rises = runs.rises;
     }
 
--- changes are told again: whether a beat had crossed
-none-crossed : (domains : List Domain) → some_crossed (map unwatched domains) ≡ false
-none-crossed [] = refl
-none-crossed (domain ∷ domains) = none-crossed domains
-
-module _ (wave : Wave) (time : ℕ) where
-  -- a beat had crossed in one of these domains, of which the first has this place
-  abbrev CrossedAmong : ℕ → List Domain → Type 0
-  CrossedAmong first domains =
-      (place : ℕ) × (domain : Domain) × (slice_get domains place ≡ Some domain)
-      × HasEdge wave domain.clock (crossed_in wave (first + place) domain) (Some time)
-
-  crossed-each : (first : ℕ) (domains : List Domain) (watched : List Watched)
-      → AllWatched wave (Some time) first domains watched → some_crossed watched ≡ true → CrossedAmong first domains
-  crossed-each first [] [] are crossed = absurd (cc)
-  crossed-each first [] (one ∷ watched) are crossed = absurd are
-  crossed-each first (domain ∷ domains) [] are crossed = absurd are
-  crossed-each first (domain ∷ domains) (one ∷ watched) are crossed =
-      go one.edges.crossed refl (crossed-each (first + 1) domains watched are.2) crossed
-    where
-      go : (t : Bool) → one.edges.crossed ≡ t → (some_crossed watched ≡ true → CrossedAmong (first + 1) domains)
-          → (t || some_crossed watched) ≡ true → CrossedAmong first (domain ∷ domains)
-      go true is rest e = (
-        0,
-        domain,
-        refl,
-        subst (λ (n : ℕ). HasEdge wave domain.clock (crossed_in wave n domain) (Some time))
-            (let same : first ≡ first + 0 = omega arith in same) (are.1.crossed.0 is),
-      )
-      go false is rest e =
-          let more = rest e in (
-            suc more.0,
-            more.1,
-            more.2,
-            subst (λ (n : ℕ). HasEdge wave more.1.clock (crossed_in wave n more.1) (Some time))
-                (let same : first + 1 + more.0 ≡ first + suc more.0 = omega arith in same) more.3,
-          )
-
-  crossed-some : (first : ℕ) (domains : List Domain) (watched : List Watched)
-      → AllWatched wave (Some time) first domains watched → (place : ℕ) (domain : Domain)
-      → slice_get domains place ≡ Some domain
-      → HasEdge wave domain.clock (crossed_in wave (first + place) domain) (Some time) → some_crossed watched ≡ true
-  crossed-some first [] [] are place domain is edge = absurd (cc)
-  crossed-some first [] (one ∷ watched) are place domain is edge = absurd are
-  crossed-some first (other ∷ domains) [] are place domain is edge = absurd are
-  crossed-some first (other ∷ domains) (one ∷ watched) are zero domain is edge =
-      let same : other ≡ domain = same_Some other domain is in
-      let here : HasEdge wave domain.clock (crossed_in wave first domain) (Some time) =
-      subst (λ (n : ℕ). HasEdge wave domain.clock (crossed_in wave n domain) (Some time))
-      (let zeroed : first + 0 ≡ first = omega arith in zeroed) edge in
-      ap (λ (t : Bool). t || some_crossed watched) (are.1.crossed.1
-      (subst (λ (d : Domain). HasEdge wave d.clock (crossed_in wave first d) (Some time)) (sym same) here))
-  crossed-some first (other ∷ domains) (one ∷ watched) are (suc place) domain is edge =
-      or-right one.edges.crossed (some_crossed watched) (crossed-some (first + 1) domains watched are.2 place domain is
-      (subst (λ (n : ℕ). HasEdge wave domain.clock (crossed_in wave n domain) (Some time))
-      (let same : first + suc place ≡ first + 1 + place = omega arith in same) edge))
-
-crossed-gap : (wave : Wave) (time : Option ℕ) (watched : List Watched) → WatchedSoFar wave time watched
-    → some_crossed watched ≡ true → MayLose wave time
-crossed-gap wave None watched is crossed =
-    both_ways (some_crossed watched)
-    (ap (λ (ws : List Watched). some_crossed ws) is ∙ none-crossed wave.probes.domains) crossed
-crossed-gap wave (Some time) watched is crossed =
-    let one = crossed-each wave time 0 wave.probes.domains watched is crossed in
-    record {
-      place = one.0;
-      domain = one.1;
-      is = one.2;
-      edge = subst (λ (n : ℕ). HasEdge wave one.1.clock (crossed_in wave n one.1) (Some time))
-          (let same : 0 + one.0 ≡ one.0 = omega arith in same) one.3;
-    }
-
-gap-crossed : (wave : Wave) (time : Option ℕ) (watched : List Watched) → WatchedSoFar wave time watched
-    → MayLose wave time → some_crossed watched ≡ true
-gap-crossed wave None watched is gap = absurd gap
-gap-crossed wave (Some time) watched is gap =
-    crossed-some wave time 0 wave.probes.domains watched is gap.place gap.domain gap.is
-    (subst (λ (n : ℕ). HasEdge wave gap.domain.clock (crossed_in wave n gap.domain) (Some time))
-    (let same : gap.place ≡ 0 + gap.place = omega arith in same) gap.edge)
-
--- there is a gap, and so no beat behind it
+-- changes are told again: there is a gap, and so no row behind it
 module _ (wave : Wave) (time : Option ℕ) (line : ℕ) (happens : List Happens) (s : Sampling)
     (runs : Runs wave time (Resumes line ∷ happens) s) where
   gap-has : Contains wave.gaps time
@@ -726,17 +494,17 @@ module _ (wave : Wave) (time : Option ℕ) (line : ℕ) (happens : List Happens)
       subst (λ (gs : List (Option ℕ)). Contains gs time) (sym runs.gaps)
       (Contains-append_right runs.gone (time ∷ gaps_after time happens) time (0, omega arith, refl))
 
-  runs-apart : some_crossed s.watched ≡ true → HasBeats wave time None no_rows
-  runs-apart crossed = no-beats wave time None (λ beat within. go time gap-has gap-is beat within)
+  runs-apart : some_crossed s.watched ≡ true → HasSampled wave time None no_rows
+  runs-apart crossed = no-rows-there wave time None (λ row within. go time gap-has gap-is row within)
     where
       gap-is : MayLose wave time
       gap-is = crossed-gap wave time s.watched runs.sampler.watched crossed
 
-      go : (at : Option ℕ) → Contains wave.gaps at → MayLose wave at → (beat : SampledBeat)
-          → IsWithin wave at None beat → ⊥
-      go None has is beat within = is
-      go (Some at) has is beat within =
-          within.is.joined (Some at) has (le-leb at beat.time within.since) is
+      go : (at : Option ℕ) → Contains wave.gaps at → MayLose wave at → (row : SampledRow)
+          → IsWithin wave at None row → ⊥
+      go None has is row within = is
+      go (Some at) has is row within =
+          row-joined wave row within.is (Some at) has (le-leb at (time_of_sampled row) within.since) is
 
   runs-on : some_crossed s.watched ≡ false → Runs wave time happens s
   runs-on none = record {
@@ -780,14 +548,14 @@ later-rows s next happens other =
 -- the rows of the rest, wherever it begins
 abbrev Continues : Wave → List Happens → Type 0
 Continues wave happens = (time : Option ℕ) (s : Sampling) → Runs wave time happens s
-    → HasBeats wave time None (rows_from happens s)
+    → HasSampled wave time None (rows_from happens s)
 
-later-beats : (wave : Wave) (time : Option ℕ) (next : ℕ) (happens : List Happens) (s : Sampling)
+later-has : (wave : Wave) (time : Option ℕ) (next : ℕ) (happens : List Happens) (s : Sampling)
     → Runs wave time (At next ∷ happens) s → IsLess time next → is_at s next ≡ false → Continues wave happens
-    → HasBeats wave time None (rows_from (At next ∷ happens) s)
+    → HasSampled wave time None (rows_from (At next ∷ happens) s)
 unfolding later-ends
-later-beats wave time next happens s runs less other more =
-    subst (λ (r : Rows). HasBeats wave time None r) (sym (later-rows s next happens other))
+later-has wave time next happens s runs less other more =
+    subst (λ (r : Rows). HasSampled wave time None r) (sym (later-rows s next happens other))
     (join wave time next (rows_now s) (rows_from happens (begun s next)) less
     (ended wave time (Some next) (later-ends wave time next happens s runs less) s runs.sampler
     (now-below time next less))
@@ -795,43 +563,43 @@ later-beats wave time next happens s runs less other more =
 
 time-on : (wave : Wave) (time : Option ℕ) (next : ℕ) (happens : List Happens) (s : Sampling)
     → Runs wave time (At next ∷ happens) s → Continues wave happens
-    → HasBeats wave time None (rows_from (At next ∷ happens) s)
+    → HasSampled wave time None (rows_from (At next ∷ happens) s)
 time-on wave None next happens s runs more =
-    later-beats wave None next happens s runs tt
+    later-has wave None next happens s runs tt
     (ap (λ (at : Option ℕ). is_time at next) runs.sampler.present) more
 time-on wave (Some time) next happens s runs more = go (cases_lt time next)
   where
     test : is_at s next ≡ (time == next)
     test = ap (λ (now : Option ℕ). is_time now next) runs.sampler.present
 
-    go : (time < next) ⊎ (next ≤ time) → HasBeats wave (Some time) None (rows_from (At next ∷ happens) s)
+    go : (time < next) ⊎ (next ≤ time) → HasSampled wave (Some time) None (rows_from (At next ∷ happens) s)
     go (inl less) =
-        later-beats wave (Some time) next happens s runs less
+        later-has wave (Some time) next happens s runs less
         (test ∙ ne_eqb time next (λ same. omega (arith, less, same))) more
     go (inr order) =
         let same : next ≡ time = omega (arith, order, leb-true time next runs.rises.0) in
-        subst (λ (r : Rows). HasBeats wave (Some time) None r)
+        subst (λ (r : Rows). HasSampled wave (Some time) None r)
         (sym (same-rows s next happens (test ∙ eq-eqb time next (sym same))))
         (more (Some time) s (same-runs wave time next happens s runs same))
 
 resume-on : (wave : Wave) (time : Option ℕ) (line : ℕ) (happens : List Happens) (s : Sampling)
     → Runs wave time (Resumes line ∷ happens) s → Continues wave happens
-    → HasBeats wave time None (cond (some_crossed s.watched) no_rows (rows_from happens s))
+    → HasSampled wave time None (cond (some_crossed s.watched) no_rows (rows_from happens s))
 resume-on wave time line happens s runs more = go (some_crossed s.watched) refl
   where
-    go : (t : Bool) → some_crossed s.watched ≡ t → HasBeats wave time None (cond t no_rows (rows_from happens s))
+    go : (t : Bool) → some_crossed s.watched ≡ t → HasSampled wave time None (cond t no_rows (rows_from happens s))
     go true crossed = runs-apart wave time line happens s runs crossed
     go false none = more time s (runs-on wave time line happens s runs none)
 
-from-beats : (wave : Wave) (happens : List Happens) (time : Option ℕ) (s : Sampling) → Runs wave time happens s
-    → HasBeats wave time None (rows_from happens s)
+from-has : (wave : Wave) (happens : List Happens) (time : Option ℕ) (s : Sampling) → Runs wave time happens s
+    → HasSampled wave time None (rows_from happens s)
 unfolding rows_from
-from-beats wave [] time s runs = runs-out wave time s runs
-from-beats wave (At next ∷ happens) time s runs = time-on wave time next happens s runs (from-beats wave happens)
-from-beats wave (Sets slot digits ∷ happens) time s runs =
-    from-beats wave happens time (with_value s slot digits) (value-runs wave time slot digits happens s runs)
-from-beats wave (Resumes line ∷ happens) time s runs = resume-on wave time line happens s runs (from-beats wave happens)
-from-beats wave (Wrong line mistake ∷ happens) time s runs = runs-cut wave time runs.cut
+from-has wave [] time s runs = runs-out wave time s runs
+from-has wave (At next ∷ happens) time s runs = time-on wave time next happens s runs (from-has wave happens)
+from-has wave (Sets slot digits ∷ happens) time s runs =
+    from-has wave happens time (with_value s slot digits) (value-runs wave time slot digits happens s runs)
+from-has wave (Resumes line ∷ happens) time s runs = resume-on wave time line happens s runs (from-has wave happens)
+from-has wave (Wrong line mistake ∷ happens) time s runs = runs-cut wave time runs.cut
 
 -- before anything has happened
 first-runs : (happens : List Happens) (probes : Probes) (before now : List (List ℕ)) (widths : List ℕ)
@@ -849,6 +617,7 @@ first-runs happens probes before now widths rises =
         now = values-none wave;
         before = tt;
         watched = refl;
+        resets = refl;
       };
       changes = refl;
       cut = refl;
@@ -865,13 +634,13 @@ pub sampled : (happens : List Happens) (probes : Probes) (before now : List (Lis
     → AreSampled (wave_of probes now widths happens) (rows_from happens (sampling_by probes before now widths))
 sampled happens probes before now widths rises =
     let wave = wave_of probes now widths happens in
-    let has = from-beats wave happens None (sampling_by probes before now widths)
+    let has = from-has wave happens None (sampling_by probes before now widths)
     (first-runs happens probes before now widths rises) in
     record {
-      beats = has.beats;
-      each = λ beat. (
-        λ one. (has.each beat one).is,
-        λ is. has.all beat (record { is = is; since = tt; before = tt }),
+      sampled = has.sampled;
+      each = λ row. (
+        λ one. (has.each row one).is,
+        λ is. has.all row (record { is = is; since = tt; before = tt }),
       );
       order = has.order;
       are = has.are;

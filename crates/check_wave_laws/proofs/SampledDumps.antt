@@ -1,4 +1,4 @@
--- The times of a dump do not fall, so its rows are those of its beats; and there are no other rows of these beats.
+-- The times of a dump do not fall, so its rows are those of its beats and its resets; and there are no other rows of these.
 use Rattle.std.proofs.Common.{◌≡◌, ◌∙◌, ℕ, ◌-◌, ◌⊎◌, inl, inr, ◌==◌, ◌||◌, Bool, true, false, cond, not, nat_lt, List, [], ◌∷◌, ◌++◌, length, map, Contains, Option, None, Some, ap, arith, refl, subst, sym}
 use Rattle.std.specs.Prelude.{⊤}
 use Rattle.std.proofs.lemmas.Bool.{le-leb, ltb-false}
@@ -19,7 +19,7 @@ use Rattle.check_samples.specs.Left.{end_in}
 use Rattle.check_samples.specs.Rows.{Probes, Rows}
 use Rattle.check_samples.specs.Sampling.{rows_from, sampling_by}
 use Rattle.check_signals.specs.Found.{Found, digits_in, find_of, sampling_of, width_in}
-use Rattle.check_wave_laws.specs.Sampled.{AreInOrder, AreSampled, EndsSampled, HasNoGap, SampledBeat, NeverFalls, Precedes, Wave, cut_after, is_until, sampled_rows, wave_of}
+use Rattle.check_wave_laws.specs.Sampled.{AreInOrder, AreSampled, EndsSampled, HasNoGap, NeverFalls, OfBeat, OfReset, Precedes, PrecedesAtTime, SampledRow, Wave, cut_after, is_until, sampled_rows, wave_of}
 use Rattle.check_wave_laws.proofs.Edges.{here, here-or-there, none-there, there}
 use Rattle.check_wave_laws.proofs.Sampled.{ends-sampled, sampled}
 
@@ -162,56 +162,63 @@ system-ends vars words found whole joined =
 
 -- ---- no other rows
 
--- a beat does not precede itself, and of two one alone precedes the other
-apart : (beat other : SampledBeat) → Precedes beat other → Precedes other beat → ⊥
-apart beat other (inl first) (inl second) = omega (arith, first, second)
-apart beat other (inl first) (inr second) = omega (arith, first, second.0)
-apart beat other (inr first) (inl second) = omega (arith, first.0, second)
-apart beat other (inr first) (inr second) = omega (arith, first.1, second.1)
+-- nothing precedes itself, and of two one alone precedes the other
+apart-at : (one other : SampledRow) → PrecedesAtTime one other → PrecedesAtTime other one → ⊥
+apart-at (OfReset time) (OfReset later) first second = first
+apart-at (OfReset time) (OfBeat later) first second = second
+apart-at (OfBeat beat) (OfReset later) first second = first
+apart-at (OfBeat beat) (OfBeat later) first second = omega (arith, first, second)
 
--- lists in order that have the same beats
-abbrev HaveSame : List SampledBeat → List SampledBeat → Type 0
-HaveSame beats others = (beat : SampledBeat) → Contains beats beat → Contains others beat
+apart : (one other : SampledRow) → Precedes one other → Precedes other one → ⊥
+apart one other (inl first) (inl second) = omega (arith, first, second)
+apart one other (inl first) (inr second) = omega (arith, first, second.0)
+apart one other (inr first) (inl second) = omega (arith, first.0, second)
+apart one other (inr first) (inr second) = apart-at one other first.1 second.1
 
-same-first : (beat other : SampledBeat) (beats others : List SampledBeat) → AreInOrder (beat ∷ beats) → AreInOrder (other ∷ others)
-    → HaveSame (beat ∷ beats) (other ∷ others) → HaveSame (other ∷ others) (beat ∷ beats) → beat ≡ other
-same-first beat other beats others first second to back =
-    go (here-or-there other beat others (to beat (here beat beats)))
-    (here-or-there beat other beats (back other (here other others)))
+-- lists in order that have the same rows
+abbrev HaveSame : List SampledRow → List SampledRow → Type 0
+HaveSame rows others = (row : SampledRow) → Contains rows row → Contains others row
+
+same-first : (row other : SampledRow) (rows others : List SampledRow) → AreInOrder (row ∷ rows)
+    → AreInOrder (other ∷ others)
+    → HaveSame (row ∷ rows) (other ∷ others) → HaveSame (other ∷ others) (row ∷ rows) → row ≡ other
+same-first row other rows others first second to back =
+    go (here-or-there other row others (to row (here row rows)))
+    (here-or-there row other rows (back other (here other others)))
   where
-    go : (other ≡ beat) ⊎ Contains others beat → (beat ≡ other) ⊎ Contains beats other → beat ≡ other
+    go : (other ≡ row) ⊎ Contains others row → (row ≡ other) ⊎ Contains rows other → row ≡ other
     go (inl same) right = sym same
     go (inr left) (inl same) = same
-    go (inr left) (inr right) = absurd (apart other beat (second.0 beat left) (first.0 other right))
+    go (inr left) (inr right) = absurd (apart other row (second.0 row left) (first.0 other right))
 
-same-rest : (beat other : SampledBeat) (beats others : List SampledBeat) → AreInOrder (beat ∷ beats) → beat ≡ other
-    → HaveSame (beat ∷ beats) (other ∷ others) → HaveSame beats others
-same-rest beat other beats others first same to =
-    λ one has. go one has (here-or-there other one others (to one (there beat one beats has)))
+same-rest : (row other : SampledRow) (rows others : List SampledRow) → AreInOrder (row ∷ rows) → row ≡ other
+    → HaveSame (row ∷ rows) (other ∷ others) → HaveSame rows others
+same-rest row other rows others first same to =
+    λ one has. go one has (here-or-there other one others (to one (there row one rows has)))
   where
-    go : (one : SampledBeat) → Contains beats one → (other ≡ one) ⊎ Contains others one → Contains others one
+    go : (one : SampledRow) → Contains rows one → (other ≡ one) ⊎ Contains others one → Contains others one
     go one has (inl is) =
-        let after : Precedes beat one = first.0 one has in
-        let itself : Precedes one one = subst (λ (b : SampledBeat). Precedes b one) (same ∙ is) after in
+        let after : Precedes row one = first.0 one has in
+        let itself : Precedes one one = subst (λ (b : SampledRow). Precedes b one) (same ∙ is) after in
         absurd (apart one one itself itself)
     go one has (inr far) = far
 
-same-beats : (beats others : List SampledBeat) → AreInOrder beats → AreInOrder others → HaveSame beats others
-    → HaveSame others beats → beats ≡ others
-same-beats [] [] first second to back = refl
-same-beats [] (other ∷ others) first second to back = absurd (none-there other (back other (here other others)))
-same-beats (beat ∷ beats) [] first second to back = absurd (none-there beat (to beat (here beat beats)))
-same-beats (beat ∷ beats) (other ∷ others) first second to back =
-    let same = same-first beat other beats others first second to back in
-    ap (λ (b : SampledBeat). b ∷ beats) same
-    ∙ ap (λ (bs : List SampledBeat). other ∷ bs) (same-beats beats others first.1 second.1
-    (same-rest beat other beats others first same to) (same-rest other beat others beats second (sym same) back))
+same-sampled : (rows others : List SampledRow) → AreInOrder rows → AreInOrder others → HaveSame rows others
+    → HaveSame others rows → rows ≡ others
+same-sampled [] [] first second to back = refl
+same-sampled [] (other ∷ others) first second to back = absurd (none-there other (back other (here other others)))
+same-sampled (row ∷ rows) [] first second to back = absurd (none-there row (to row (here row rows)))
+same-sampled (row ∷ rows) (other ∷ others) first second to back =
+    let same = same-first row other rows others first second to back in
+    ap (λ (b : SampledRow). b ∷ rows) same
+    ∙ ap (λ (bs : List SampledRow). other ∷ bs) (same-sampled rows others first.1 second.1
+    (same-rest row other rows others first same to) (same-rest other row others rows second (sym same) back))
 
 pub one-sampled : (wave : Wave) (rows others : Rows) → AreSampled wave rows → AreSampled wave others → rows ≡ others
 one-sampled wave rows others first second =
     first.are
-    ∙ ap (λ (bs : List SampledBeat). sampled_rows wave bs)
-    (same-beats first.beats second.beats first.order second.order
-    (λ beat has. (second.each beat).1 ((first.each beat).0 has))
-    (λ beat has. (first.each beat).1 ((second.each beat).0 has)))
+    ∙ ap (λ (bs : List SampledRow). sampled_rows wave bs)
+    (same-sampled first.sampled second.sampled first.order second.order
+    (λ row has. (second.each row).1 ((first.each row).0 has))
+    (λ row has. (first.each row).1 ((second.each row).0 has)))
     ∙ sym second.are

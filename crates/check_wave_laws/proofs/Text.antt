@@ -1,5 +1,5 @@
 -- The rows of what happens in a dump are rows.
-use Rattle.std.proofs.Common.{◌≡◌, ◌∙◌, ℕ, zero, suc, ◌+◌, ◌-◌, ◌*◌, ◌^◌, ◌<◌, ◌≤◌, nat_le, nat_lt, Bool, true, false, ◌&&◌, cond, List, [], ◌∷◌, ◌++◌, length, get_or, set, take, drop, map, replicate, slice_get, Option, Some, None, Result, Ok, Err, Contains, arith, refl, sym, ap, subst, append_assoc, append-nil, length-append, length-drop, length-take, length-take-le}
+use Rattle.std.proofs.Common.{◌≡◌, ◌∙◌, ℕ, zero, suc, ◌+◌, ◌-◌, ◌*◌, ◌^◌, ◌<◌, ◌≤◌, nat_le, nat_lt, Bool, true, false, ◌&&◌, cond, List, [], ◌∷◌, ◌++◌, length, get_or, set, take, drop, map, replicate, slice_get, Option, Some, None, Result, Ok, Err, Contains, arith, refl, sym, ap, subst, append_assoc, append-nil, length-append, length-drop, length-take, length-take-le, inl, inr, is_some, option_map}
 use Rattle.std.specs.Option.{IfSome}
 use Rattle.std.proofs.lemmas.Bool.{and_from, le-leb}
 use Rattle.std.proofs.lemmas.List.{length-replicate, map-append, map-set, set-get_or}
@@ -10,7 +10,7 @@ use Rattle.check_rows.specs.Row.{SeenRow}
 use Rattle.check_samples.specs.Digits.{bits_of, extended, fill_of, joined_of, part_if_any, part_of, set_extended, with_joined}
 use Rattle.check_samples.specs.EdgeFault.{some_crossed}
 use Rattle.check_samples.specs.Rows.{Dues, Rows, and_then, crosses, due_at, followed_by, hand_alone, no_rows, row_alone, row_at, rows_at, rows_due, rows_of, unknown_hand}
-use Rattle.check_samples.specs.Sampling.{Sampling, at_time, dues_of, is_at, rows_from, rows_now, rows_when, watched_now, with_value}
+use Rattle.check_samples.specs.Sampling.{Sampling, at_time, dues_of, is_at, rows_from, rows_now, rows_when, watched_now, with_value, beat_rows, resets_now, resets_when}
 use Rattle.check_samples.specs.declared.channel.BeatTaps.{BeatTaps}
 use Rattle.check_samples.specs.declared.channel.BeatTaps.TheVariants.{A, D}
 use Rattle.check_samples.specs.declared.channel.Channel.{Channel}
@@ -18,10 +18,13 @@ use Rattle.check_samples.specs.declared.channel.UnknownBit.{UnknownBit}
 use Rattle.check_samples.specs.declared.edges.Needs.{Needs}
 use Rattle.check_samples.specs.declared.signal.Signal.{Signal}
 use Rattle.check_samples.specs.declared.tap.Tap.{Tap}
-use Rattle.check_wave_laws.specs.Seen.{BeatFits, row_of_channel}
+use Rattle.check_wave_laws.specs.Seen.{BeatFits, row_of_channel, reset_on_line}
 use Rattle.check_wave_laws.specs.Text.{AllLieWithin, AreRows, BeatTakes, ChannelFits, HappensFit, HasRows, LiesWithin, SamplingFits, TakesBeat, taps_bits, with_joined_width}
-use Rattle.check_wave_laws.proofs.Beats.{beat-row}
+use Rattle.check_wave_laws.proofs.Beats.{beat-row, reset-is-row}
 use Rattle.check_wave_laws.proofs.Buses.{bus-of}
+use Rattle.check_samples.specs.Domain.{Watched}
+use Rattle.check_samples.specs.Resets.{is_reset_due, reset_row, reset_rows, watched_reset}
+use Rattle.check_samples.specs.declared.reset.WatchedReset.{WatchedReset}
 
 -- ---- the bits of a tap
 
@@ -87,15 +90,15 @@ beat-fits bus values widths (D taps) some has takes = record {
 
 -- ---- texts of rows
 
-module _ (masters ports : List Bus) (channels : List Channel) where
+module _ (masters ports : List Bus) (channels : List Channel) (told : Bool) where
   are-appended : (line : ℕ) (rows more : List SeenRow) (text rest : List ℕ)
-      → AreRows masters ports channels line rows text
-      → AreRows masters ports channels (line + length rows) more rest
-      → AreRows masters ports channels line (rows ++ more) (text ++ rest)
+      → AreRows masters ports channels told line rows text
+      → AreRows masters ports channels told (line + length rows) more rest
+      → AreRows masters ports channels told line (rows ++ more) (text ++ rest)
   are-appended line [] more text rest first second =
       let none : line + 0 ≡ line = omega arith in
-      subst (λ (t : List ℕ). AreRows masters ports channels line more t) (ap (λ (t : List ℕ). t ++ rest) (sym first))
-      (subst (λ (n : ℕ). AreRows masters ports channels n more rest) none second)
+      subst (λ (t : List ℕ). AreRows masters ports channels told line more t) (ap (λ (t : List ℕ). t ++ rest) (sym first))
+      (subst (λ (n : ℕ). AreRows masters ports channels told n more rest) none second)
   are-appended line (row ∷ rows) more text rest first second =
       let cut = first.1 in
       let next : line + suc (length rows) ≡ line + 1 + length rows = omega arith in (
@@ -106,13 +109,13 @@ module _ (masters ports : List Bus) (channels : List Channel) where
           ap (λ (t : List ℕ). t ++ rest) cut.2 ∙ append_assoc cut.0 cut.1 rest,
           cut.3,
           are-appended (line + 1) rows more cut.1 rest cut.4
-              (subst (λ (n : ℕ). AreRows masters ports channels n more rest) next second),
+              (subst (λ (n : ℕ). AreRows masters ports channels told n more rest) next second),
         ),
       )
 
   -- a text is rows wherever it begins
   abbrev Readable : List ℕ → Type 0
-  Readable text = (line : ℕ) → HasRows masters ports channels line text
+  Readable text = (line : ℕ) → HasRows masters ports channels told line text
 
   readable-none : Readable []
   readable-none = λ line. record { rows = []; are = refl }
@@ -133,12 +136,12 @@ module _ (masters ports : List Bus) (channels : List Channel) where
 
 -- ---- the rows of a time
 
-module _ (masters ports : List Bus) (channels : List Channel) (widths : List ℕ) (few_masters : length masters < 2 ^ 64)
-    (few_ports : length ports < 2 ^ 64)
+module _ (masters ports : List Bus) (channels : List Channel) (told : Bool) (widths : List ℕ)
+    (few_masters : length masters < 2 ^ 64) (few_ports : length ports < 2 ^ 64)
     (fit : (which : Channel) → Contains channels which → ChannelFits masters ports widths which) (time : ℕ)
     (in_time : time < 2 ^ 64) (values : List (List ℕ)) (has : map length values ≡ widths) (dues : Dues) where
   readable-row : (which : Channel) (text : List ℕ) → Contains channels which → crosses values which ≡ true
-      → row_at time values which ≡ Ok text → Readable masters ports channels text
+      → row_at time values which ≡ Ok text → Readable masters ports channels told text
   readable-row which text one crossed is = λ line.
       let fits = fit which one in
       record {
@@ -146,7 +149,7 @@ module _ (masters ports : List Bus) (channels : List Channel) (widths : List ℕ
         are = (
           record {
             place = refl;
-            beat = record { values = values; which = which; one = one; crossed = crossed; is = refl };
+            is = inl (record { values = values; which = which; one = one; crossed = crossed; is = refl });
           },
           (
             text,
@@ -161,37 +164,62 @@ module _ (masters ports : List Bus) (channels : List Channel) (widths : List ℕ
       }
 
   readable-at : (needs : Needs) (which : Channel) → Contains channels which
-      → Readable masters ports channels (rows_at needs time values which).text
+      → Readable masters ports channels told (rows_at needs time values which).text
   readable-at needs which one = go (crosses values which) refl
     where
       alone : (r : Result (List ℕ) Signal) → row_at time values which ≡ r → crosses values which ≡ true
-          → Readable masters ports channels (row_alone time which r).text
+          → Readable masters ports channels told (row_alone time which r).text
       alone (Ok text) is crossed = readable-row which text one crossed is
-      alone (Err signal) is crossed = readable-none masters ports channels
+      alone (Err signal) is crossed = readable-none masters ports channels told
 
-      hand : (unknown : Option Signal) → Readable masters ports channels (hand_alone time which unknown).text
-      hand None = readable-none masters ports channels
-      hand (Some signal) = readable-none masters ports channels
+      hand : (unknown : Option Signal) → Readable masters ports channels told (hand_alone time which unknown).text
+      hand None = readable-none masters ports channels told
+      hand (Some signal) = readable-none masters ports channels told
 
       go : (t : Bool) → crosses values which ≡ t
-          → Readable masters ports channels (cond t (row_alone time which (row_at time values which))
+          → Readable masters ports channels told (cond t (row_alone time which (row_at time values which))
           (hand_alone time which (unknown_hand needs values which))).text
       go true crossed = alone (row_at time values which) refl crossed
       go false crossed = hand (unknown_hand needs values which)
 
   readable-due : (due : Option Needs) (which : Channel) → Contains channels which
-      → Readable masters ports channels (rows_due due time values which).text
-  readable-due None which one = readable-none masters ports channels
+      → Readable masters ports channels told (rows_due due time values which).text
+  readable-due None which one = readable-none masters ports channels told
   readable-due (Some needs) which one = readable-at needs which one
 
   pub readable-of : (some : List Channel) → ((which : Channel) → Contains some which → Contains channels which)
-      → Readable masters ports channels (rows_of dues time values some).text
-  readable-of [] within = readable-none masters ports channels
+      → Readable masters ports channels told (rows_of dues time values some).text
+  readable-of [] within = readable-none masters ports channels told
   readable-of (which ∷ some) within =
-      readable-and masters ports channels (rows_due (due_at dues which.domain) time values which)
+      readable-and masters ports channels told (rows_due (due_at dues which.domain) time values which)
       (rows_of dues time values some)
       (readable-due (due_at dues which.domain) which (within which (0, omega arith, refl)))
       (readable-of some (λ other has_it. within other (suc has_it.0, omega (arith, has_it.1), has_it.2)))
+
+-- ---- the row of a reset
+
+-- a sampler tells resets
+abbrev pub tells-resets : Sampling → Bool
+tells-resets s = is_some s.resets
+
+module _ (masters ports : List Bus) (channels : List Channel) (told : Bool) (time : ℕ) (in_time : time < 2 ^ 64) where
+  readable-reset : (due : Bool) → (due ≡ true → told ≡ true)
+      → Readable masters ports channels told (reset_rows time due).text
+  readable-reset false is = readable-none masters ports channels told
+  readable-reset true is = λ line. record {
+    rows = reset_on_line line time ∷ [];
+    are = (
+      record { place = refl; is = inr (record { are_told = is refl; is = refl }) },
+      (reset_row time, [], sym (append-nil (reset_row time)), reset-is-row masters ports line time in_time, refl),
+    );
+  }
+
+  readable-resets : (before now : List (List ℕ)) (watched : List Watched) (resets : Option WatchedReset)
+      → (is_some resets ≡ true → told ≡ true)
+      → Readable masters ports channels told (reset_rows time (is_reset_due before now watched resets)).text
+  readable-resets before now watched None is = readable-none masters ports channels told
+  readable-resets before now watched (Some one) is =
+      readable-reset (is_reset_due before now watched (Some one)) (λ due. is refl)
 
 -- ---- all times
 
@@ -248,12 +276,30 @@ joined-widths values widths parts has lie =
     ∙ ap (λ (ws : List ℕ). ws ++ (length (joined_of values parts) ∷ [])) has
     ∙ ap (λ (n : ℕ). widths ++ (n ∷ [])) (joined-bits values widths parts has lie)
 
+-- a sampler after another time began
+abbrev passed-time : Sampling → ℕ → Sampling
+passed-time s time = record s {
+  before = with_joined s.joins s.now;
+  time = Some time;
+  watched = watched_now s;
+  resets = resets_now s;
+}
+
+-- and it tells resets as before
+resets-stay : (s : Sampling) (time : Option ℕ) → is_some (resets_when time s) ≡ tells-resets s
+resets-stay s None = refl
+resets-stay s (Some time) = go s.resets
+  where
+    go : (resets : Option WatchedReset) → is_some (option_map (watched_reset s.before s.now) resets) ≡ is_some resets
+    go None = refl
+    go (Some one) = refl
+
 pub time-fits : (masters ports : List Bus) (s : Sampling) (time : ℕ) → SamplingFits masters ports s → time < 2 ^ 64
     → SamplingFits masters ports (at_time s time)
 time-fits masters ports s time fits below = go (is_at s time)
   where
     go : (t : Bool) → SamplingFits masters ports
-        (cond t s (record s { before = with_joined s.joins s.now; time = Some time; watched = watched_now s }))
+        (cond t s (passed-time s time))
     go true = fits
     go false = record {
       before = joined-widths s.now s.widths s.joins fits.now fits.joins;
@@ -263,71 +309,86 @@ time-fits masters ports s time fits below = go (is_at s time)
       channels = fits.channels;
     }
 
--- what is looked at and how many bits values have stays
+-- what is looked at, how many bits values have, and whether resets are told, stays
 record IsSame (after before : Sampling) : Type 0 where
   channels : after.channels ≡ before.channels
   widths : before.widths ≡ after.widths
+  resets : tells-resets after ≡ tells-resets before
 
 value-same : (s : Sampling) (slot : ℕ) (digits : List ℕ) → IsSame (with_value s slot digits) s
 value-same s slot digits = go (nat_lt slot (length s.now))
   where
     go : (t : Bool) → IsSame (cond t (record s { now = set_extended s.widths s.now slot digits }) s) s
-    go true = record { channels = refl; widths = refl }
-    go false = record { channels = refl; widths = refl }
+    go true = record { channels = refl; widths = refl; resets = refl }
+    go false = record { channels = refl; widths = refl; resets = refl }
 
 time-same : (s : Sampling) (time : ℕ) → IsSame (at_time s time) s
 time-same s time = go (is_at s time)
   where
     go : (t : Bool)
-        → IsSame (cond t s (record s { before = with_joined s.joins s.now; time = Some time; watched = watched_now s })) s
-    go true = record { channels = refl; widths = refl }
-    go false = record { channels = refl; widths = refl }
+        → IsSame (cond t s (passed-time s time)) s
+    go true = record { channels = refl; widths = refl; resets = refl }
+    go false = record { channels = refl; widths = refl; resets = resets-stay s s.time }
 
-module _ (masters ports : List Bus) (few_masters : length masters < 2 ^ 64) (few_ports : length ports < 2 ^ 64) where
-  readable-now : (s : Sampling) → SamplingFits masters ports s
-      → Readable masters ports s.channels (rows_now s).text
-  readable-now s fits = go s.time fits.time fits.before
+-- resets are told where a sampler tells them
+abbrev AreTold : Bool → Sampling → Type 0
+AreTold told s = tells-resets s ≡ true → told ≡ true
+
+same-told : (told : Bool) (s next : Sampling) → IsSame next s → AreTold told s → AreTold told next
+same-told told s next same are tells = are (sym same.resets ∙ tells)
+
+module _ (masters ports : List Bus) (told : Bool) (few_masters : length masters < 2 ^ 64)
+    (few_ports : length ports < 2 ^ 64) where
+  readable-now : (s : Sampling) → SamplingFits masters ports s → AreTold told s
+      → Readable masters ports s.channels told (rows_now s).text
+  readable-now s fits are = go s.time fits.time fits.before
     where
       go : (at : Option ℕ) → IfSome at (λ time. time < 2 ^ 64)
           → IfSome at (λ time. map length s.before ≡ with_joined_width s.joins s.widths)
-          → Readable masters ports s.channels (rows_when at s).text
-      go None below has = readable-none masters ports s.channels
+          → Readable masters ports s.channels told (rows_when at s).text
+      go None below has = readable-none masters ports s.channels told
       go (Some time) below has =
-          readable-of masters ports s.channels (with_joined_width s.joins s.widths) few_masters few_ports
-          fits.channels time below s.before has (dues_of s.before s.now s.watched) s.channels (λ which one. one)
+          readable-and masters ports s.channels told
+          (reset_rows time (is_reset_due s.before s.now s.watched s.resets)) (beat_rows time s)
+          (readable-resets masters ports s.channels told time below s.before s.now s.watched s.resets are)
+          (readable-of masters ports s.channels told (with_joined_width s.joins s.widths) few_masters few_ports
+          fits.channels time below s.before has (dues_of s.before s.now s.watched) s.channels (λ which one. one))
 
   readable-same : (s next : Sampling) (text : List ℕ) → IsSame next s
-      → Readable masters ports next.channels text → Readable masters ports s.channels text
+      → Readable masters ports next.channels told text → Readable masters ports s.channels told text
   readable-same s next text same readable =
-      subst (λ (channels : List Channel). Readable masters ports channels text) same.channels readable
+      subst (λ (channels : List Channel). Readable masters ports channels told text) same.channels readable
 
-  by-time : (s : Sampling) (time : ℕ) (t : Bool) (same next : Rows) → SamplingFits masters ports s
-      → Readable masters ports s.channels same.text → Readable masters ports s.channels next.text
-      → Readable masters ports s.channels (cond t same (and_then (rows_now s) next)).text
-  by-time s time true same next fits one two = one
-  by-time s time false same next fits one two =
-      readable-and masters ports s.channels (rows_now s) next (readable-now s fits) two
+  by-time : (s : Sampling) (time : ℕ) (t : Bool) (same next : Rows) → SamplingFits masters ports s → AreTold told s
+      → Readable masters ports s.channels told same.text → Readable masters ports s.channels told next.text
+      → Readable masters ports s.channels told (cond t same (and_then (rows_now s) next)).text
+  by-time s time true same next fits are one two = one
+  by-time s time false same next fits are one two =
+      readable-and masters ports s.channels told (rows_now s) next (readable-now s fits are) two
 
-  pub readable-from : (happens : List Happens) (s : Sampling) → SamplingFits masters ports s
-      → HappensFit s.widths happens → Readable masters ports s.channels (rows_from happens s).text
+  pub readable-from : (happens : List Happens) (s : Sampling) → SamplingFits masters ports s → AreTold told s
+      → HappensFit s.widths happens → Readable masters ports s.channels told (rows_from happens s).text
   unfolding rows_from
-  readable-from [] s fits all = readable-now s fits
-  readable-from (At time ∷ happens) s fits all =
+  readable-from [] s fits are all = readable-now s fits are
+  readable-from (At time ∷ happens) s fits are all =
       let next = at_time s time in
-      by-time s time (is_at s time) (rows_from happens s) (rows_from happens next) fits
-      (readable-from happens s fits all.1)
+      by-time s time (is_at s time) (rows_from happens s) (rows_from happens next) fits are
+      (readable-from happens s fits are all.1)
       (readable-same s next (rows_from happens next).text (time-same s time)
       (readable-from happens next (time-fits masters ports s time fits all.0)
+      (same-told told s next (time-same s time) are)
       (subst (λ (ws : List ℕ). HappensFit ws happens) (time-same s time).widths all.1)))
-  readable-from (Sets slot digits ∷ happens) s fits all =
+  readable-from (Sets slot digits ∷ happens) s fits are all =
       let next = with_value s slot digits in
       readable-same s next (rows_from happens next).text (value-same s slot digits)
       (readable-from happens next (value-fits masters ports s slot digits fits all.0)
+      (same-told told s next (value-same s slot digits) are)
       (subst (λ (ws : List ℕ). HappensFit ws happens) (value-same s slot digits).widths all.1))
-  readable-from (Resumes line ∷ happens) s fits all = by-gap (some_crossed s.watched) (readable-from happens s fits all)
+  readable-from (Resumes line ∷ happens) s fits are all =
+      by-gap (some_crossed s.watched) (readable-from happens s fits are all)
     where
-      by-gap : (t : Bool) → Readable masters ports s.channels (rows_from happens s).text
-          → Readable masters ports s.channels (cond t no_rows (rows_from happens s)).text
-      by-gap true more = readable-none masters ports s.channels
+      by-gap : (t : Bool) → Readable masters ports s.channels told (rows_from happens s).text
+          → Readable masters ports s.channels told (cond t no_rows (rows_from happens s)).text
+      by-gap true more = readable-none masters ports s.channels told
       by-gap false more = more
-  readable-from (Wrong line mistake ∷ happens) s fits all = readable-none masters ports s.channels
+  readable-from (Wrong line mistake ∷ happens) s fits are all = readable-none masters ports s.channels told

@@ -1,6 +1,6 @@
--- What sampling means, said of the changes of a dump alone: which beats there are, and what their rows show. It is this
--- project's own. A row has the values before the edge, since these are what a register takes at it.
-use Rattle.std.specs.Prelude.{◌≡◌, ◌⊎◌, ◌↔◌, ℕ, ◌+◌, ◌<◌, ◌==◌, Bool, true, false, ◌&&◌, not, nat_le, nat_lt, ⊤, List, [], ◌∷◌, length, get_or, map, filter, slice_get, Option, None, Some, Contains, if◌then◌else◌}
+-- What sampling means, said of the changes of a dump alone: which beats and which resets of the whole system there are, and what
+-- their rows show. It is this project's own. A row has the values before the edge, since these are what a register takes at it.
+use Rattle.std.specs.Prelude.{◌≡◌, ◌⊎◌, ◌↔◌, ℕ, ◌+◌, ◌<◌, ◌≤◌, ◌==◌, Bool, true, false, ◌&&◌, not, nat_le, nat_lt, ⊤, List, [], ◌∷◌, length, get_or, map, filter, slice_get, Option, None, Some, Contains, if◌then◌else◌}
 use Rattle.std.specs.List.{last_or, range_with_len}
 use Rattle.check_vcd.specs.Body.{Happens, At, Sets, Resumes, Wrong}
 use Rattle.check_samples.specs.Digits.{bits_of, extended, with_joined}
@@ -11,7 +11,9 @@ use Rattle.check_samples.specs.Rows.{Probes, Rows, and_then, crosses, hand_alone
 use Rattle.check_samples.specs.declared.channel.Channel.{Channel}
 use Rattle.check_samples.specs.declared.clock.Clock.{Clock}
 use Rattle.check_samples.specs.declared.edges.Edges.{Edges}
+use Rattle.check_samples.specs.declared.reset.SystemReset.{SystemReset}
 use Rattle.check_samples.specs.declared.signal.Signal.{Signal}
+use Rattle.check_samples.specs.Resets.{reset_rows}
 
 -- ---- the changes of a dump
 
@@ -240,28 +242,78 @@ shown_row time values channel =
     if crosses values channel then row_alone time channel (row_at time values channel)
     else hand_alone time channel (Some (hidden_hand values channel))
 
-abbrev pub sampled_row : Wave → SampledBeat → Rows
-sampled_row wave beat = shown_row beat.time (values_before wave beat.time) beat.channel
+-- ---- resets of the whole system
 
--- the rows of beats, one after the other, up to the first that has none
-abbrev pub sampled_rows : Wave → List SampledBeat → Rows
+-- the reset is active in these values
+abbrev pub system_active_in : SystemReset → List (List ℕ) → Bool
+system_active_in system values = is_active values (Some system.reset)
+
+-- it was active at the last edge of the system's clock below a time: at this edge, which no other follows
+pub record WasActive (wave : Wave) (system : SystemReset) (below : Option ℕ) : Type 0 where
+  pub edge : HasEdge wave system.clock (system_active_in system) below
+  pub last : (other : HasEdge wave system.clock always below) → other.time ≤ edge.time
+
+-- the whole system is reset at a time: resets are told; the system's clock was 0 before the time and is 1 at its end, or for
+-- its falling edges the other way round; its reset was active before the time, and not at the edge before, if there is one;
+-- a beat crossed at an earlier time; and up to the end of the time there is no gap and no line is wrong
+pub record IsSampledReset (wave : Wave) (time : ℕ) : Type 0 where
+  pub system : SystemReset
+  pub told : wave.probes.resets ≡ Some system
+  pub early : is_early system.clock.edge (bits_of (values_before wave time) system.clock.tap) ≡ true
+  pub late : is_late system.clock.edge (bits_of (values_until wave time) system.clock.tap) ≡ true
+  pub active : system_active_in system (values_before wave time) ≡ true
+  pub begins : WasActive wave system (Some time) → ⊥
+  pub crossed : HasCrossed wave time
+  pub joined : IsJoinedUntil wave time
+  pub whole : is_whole wave.cut time ≡ true
+
+-- ---- all rows
+
+-- what has a row: a beat, or a reset of the whole system at this time
+pub data SampledRow : Type 0 where
+  OfBeat : SampledBeat → SampledRow
+  OfReset : ℕ → SampledRow
+
+abbrev pub time_of_sampled : SampledRow → ℕ
+time_of_sampled (OfBeat beat) = beat.time
+time_of_sampled (OfReset time) = time
+
+abbrev pub IsSampled : Wave → SampledRow → Type 0
+IsSampled wave (OfBeat beat) = IsSampledBeat wave beat
+IsSampled wave (OfReset time) = IsSampledReset wave time
+
+abbrev pub sampled_row : Wave → SampledRow → Rows
+sampled_row wave (OfBeat beat) = shown_row beat.time (values_before wave beat.time) beat.channel
+sampled_row wave (OfReset time) = reset_rows time true
+
+-- the rows of these, one after the other, up to the first that has none
+abbrev pub sampled_rows : Wave → List SampledRow → Rows
 sampled_rows wave [] = no_rows
-sampled_rows wave (beat ∷ beats) = and_then (sampled_row wave beat) (sampled_rows wave beats)
+sampled_rows wave (one ∷ others) = and_then (sampled_row wave one) (sampled_rows wave others)
 
--- by time, and within a time in the order in which beats cross
-abbrev pub Precedes : SampledBeat → SampledBeat → Type 0
-Precedes beat later = (beat.time < later.time) ⊎ ((beat.time ≡ later.time) × (beat.place < later.place))
+-- within a time a reset is first, and then come beats in the order in which they cross
+abbrev pub PrecedesAtTime : SampledRow → SampledRow → Type 0
+PrecedesAtTime (OfReset time) (OfReset later) = ⊥
+PrecedesAtTime (OfReset time) (OfBeat later) = ⊤
+PrecedesAtTime (OfBeat beat) (OfReset later) = ⊥
+PrecedesAtTime (OfBeat beat) (OfBeat later) = beat.place < later.place
 
-abbrev pub AreInOrder : List SampledBeat → Type 0
+-- by time, and then so
+abbrev pub Precedes : SampledRow → SampledRow → Type 0
+Precedes one later =
+    (time_of_sampled one < time_of_sampled later)
+    ⊎ ((time_of_sampled one ≡ time_of_sampled later) × PrecedesAtTime one later)
+
+abbrev pub AreInOrder : List SampledRow → Type 0
 AreInOrder [] = ⊤
-AreInOrder (beat ∷ beats) = ((later : SampledBeat) → Contains beats later → Precedes beat later) × AreInOrder beats
+AreInOrder (one ∷ others) = ((later : SampledRow) → Contains others later → Precedes one later) × AreInOrder others
 
--- the rows are those of all beats of the dump and of nothing else, each once, in order
+-- the rows are those of all beats and all resets of the dump and of nothing else, each once, in order
 pub record AreSampled (wave : Wave) (rows : Rows) : Type 0 where
-  pub beats : List SampledBeat
-  pub each : (beat : SampledBeat) → Contains beats beat ↔ IsSampledBeat wave beat
-  pub order : AreInOrder beats
-  pub are : rows ≡ sampled_rows wave beats
+  pub sampled : List SampledRow
+  pub each : (one : SampledRow) → Contains sampled one ↔ IsSampled wave one
+  pub order : AreInOrder sampled
+  pub are : rows ≡ sampled_rows wave sampled
 
 -- a whole dump ends as the edges of its domains say
 pub record EndsSampled (wave : Wave) (end : End) : Type 0 where

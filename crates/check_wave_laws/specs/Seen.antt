@@ -1,6 +1,6 @@
 -- What the signals of a beat show, in the terms of captures. It is this project's own; the order of bits and lanes is that
 -- of the TileLink specification ("Signal descriptions").
-use Rattle.std.specs.Prelude.{ℕ, ◌-◌, ◌*◌, ◌≡◌, ◌≤◌, ◌==◌, Bool, List, [], ◌∷◌, drop, length, map, take, Option}
+use Rattle.std.specs.Prelude.{ℕ, ◌-◌, ◌*◌, ◌≡◌, ◌≤◌, ◌==◌, Bool, false, true, List, [], ◌∷◌, drop, length, map, take, Option}
 use Rattle.std.specs.List.{range_with_len}
 use Rattle.std.specs.Str.Parse.{digits_value}
 use Rattle.tl_text.specs.Number.{number_of}
@@ -10,7 +10,7 @@ use Rattle.check_watch.specs.declared.beat.Beat.TheVariants as beat
 use Rattle.check_watch.specs.declared.beat.Link.{Link}
 use Rattle.check_rows.specs.Buses.{bus_of_link}
 use Rattle.check_rows.specs.Lanes.{SeenLanes, seen_of}
-use Rattle.check_rows.specs.Row.{SeenBeat, SeenRow, asks_for_mark}
+use Rattle.check_rows.specs.Row.{SeenBeat, SeenRow, asks_for_mark, nothing_seen}
 use Rattle.check_samples.specs.Digits.{bits_of}
 use Rattle.check_samples.specs.declared.channel.AskTaps.{AskTaps}
 use Rattle.check_samples.specs.declared.channel.BeatTaps.{BeatTaps}
@@ -73,8 +73,13 @@ abbrev pub row_on_line : ℕ → ℕ → Link → SeenBeat → SeenRow
 row_on_line line time link seen = record {
   line = line;
   time = time;
+  is_reset = false;
   sighting = seen_at link seen.beat seen.lanes.known seen.lanes.bytes;
 }
+
+-- the row of a reset of the whole system, on this line
+abbrev pub reset_on_line : ℕ → ℕ → SeenRow
+reset_on_line line time = record { line = line; time = time; is_reset = true; sighting = nothing_seen }
 
 -- the row of a channel's beat, where the masters' links and the ports' have these buses
 abbrev pub row_of_channel : List Bus → List Bus → ℕ → ℕ → List (List ℕ) → Channel → SeenRow

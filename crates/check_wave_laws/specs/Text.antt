@@ -1,5 +1,5 @@
 -- Whole texts of rows, and the dumps whose rows they are. It is this project's own.
-use Rattle.std.specs.Prelude.{◌≡◌, ℕ, ◌+◌, ◌-◌, ◌*◌, ◌^◌, ◌≤◌, ◌<◌, true, ⊤, List, [], ◌∷◌, ◌++◌, get_or, length, map, Some, Contains, IfSome}
+use Rattle.std.specs.Prelude.{◌≡◌, ◌⊎◌, ℕ, ◌+◌, ◌-◌, ◌*◌, ◌^◌, ◌≤◌, ◌<◌, Bool, true, ⊤, List, [], ◌∷◌, ◌++◌, get_or, length, map, Some, Contains, IfSome}
 use Rattle.check_vcd.specs.Body.{Find, Happens, At, Sets, Resumes, Wrong}
 use Rattle.check_vcd.specs.declared.codes.Coded.{Coded}
 use Rattle.check_beats.specs.declared.bus.Bus.{Bus}
@@ -14,9 +14,9 @@ use Rattle.check_samples.specs.declared.channel.Channel.{Channel}
 use Rattle.check_samples.specs.declared.channel.ReplyTaps.{ReplyTaps}
 use Rattle.check_samples.specs.declared.tap.Tap.{Tap}
 use Rattle.check_wave_laws.specs.Rows.{IsRow}
-use Rattle.check_wave_laws.specs.Seen.{row_of_channel}
+use Rattle.check_wave_laws.specs.Seen.{reset_on_line, row_of_channel}
 
--- ---- rows of beats
+-- ---- rows of beats and of resets
 
 -- the row is that of a beat which crosses at one of the channels, in some values of the signals; the masters' links and
 -- the ports' have these buses
@@ -27,22 +27,28 @@ pub record IsBeat (masters ports : List Bus) (channels : List Channel) (row : Se
   pub crossed : crosses values which ≡ true
   pub is : row ≡ row_of_channel masters ports row.line row.time values which
 
--- the row is that of a beat and stands on this line
-pub record Stands (masters ports : List Bus) (channels : List Channel) (line : ℕ) (row : SeenRow) : Type 0 where
+-- the row is that of a reset of the whole system, and resets are told
+pub record IsToldReset (told : Bool) (row : SeenRow) : Type 0 where
+  pub are_told : told ≡ true
+  pub is : row ≡ reset_on_line row.line row.time
+
+-- the row is that of a beat or of a reset, and stands on this line
+pub record Stands (masters ports : List Bus) (channels : List Channel) (told : Bool) (line : ℕ) (row : SeenRow) : Type 0 where
   pub place : row.line ≡ line
-  pub beat : IsBeat masters ports channels row
+  pub is : IsBeat masters ports channels row ⊎ IsToldReset told row
 
--- a text is rows of beats, one to a line, of which the first stands on this line
-abbrev pub AreRows : List Bus → List Bus → List Channel → ℕ → List SeenRow → List ℕ → Type 0
-AreRows masters ports channels line [] text = text ≡ []
-AreRows masters ports channels line (row ∷ rows) text =
-    Stands masters ports channels line row
+-- a text is rows of beats and, if resets are told, of resets, one to a line, of which the first stands on this line
+abbrev pub AreRows : List Bus → List Bus → List Channel → Bool → ℕ → List SeenRow → List ℕ → Type 0
+AreRows masters ports channels told line [] text = text ≡ []
+AreRows masters ports channels told line (row ∷ rows) text =
+    Stands masters ports channels told line row
     × ((front : List ℕ) × (rest : List ℕ) × (text ≡ front ++ rest) × IsRow masters ports row front
-    × AreRows masters ports channels (line + 1) rows rest)
+    × AreRows masters ports channels told (line + 1) rows rest)
 
-pub record HasRows (masters ports : List Bus) (channels : List Channel) (line : ℕ) (text : List ℕ) : Type 0 where
+pub record HasRows (masters ports : List Bus) (channels : List Channel) (told : Bool) (line : ℕ)
+    (text : List ℕ) : Type 0 where
   pub rows : List SeenRow
-  pub are : AreRows masters ports channels line rows text
+  pub are : AreRows masters ports channels told line rows text
 
 -- ---- the bits of signals, by how many bits the kept values have
 

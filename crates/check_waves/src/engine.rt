@@ -80,6 +80,7 @@ fn sampler_of<D: Read + Drop>(
     let buses = Buses {
         masters: &links.master_buses,
         ports: &links.port_buses,
+        resets: false,
     };
     let resolved = find_signals(alloc, &buses, &links.names, vars)?;
     keep_all(alloc, dump, &resolved.codes)?;

@@ -3,3 +3,4 @@ pub mod Values
 pub mod Requests
 pub mod Drafts
 pub mod Told
+pub mod Resets

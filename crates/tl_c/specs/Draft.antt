@@ -1,5 +1,5 @@
 -- What a system file names, before a judge is made of it, and the images of its ports. This project's own.
-use Rattle.std.specs.Prelude.{◌≡◌, ◌<◌, ◌≤◌, ◌⊎◌, ◌&&◌, ℕ, nat_lt, not, Bool, List, [], length, map, replicate, slice_get, slice_set, Option, None, Some, is_some, option_map, unwrap_or, IsTrue, Ok, Vec, if◌then◌else◌}
+use Rattle.std.specs.Prelude.{◌≡◌, ◌<◌, ◌≤◌, ◌⊎◌, ◌&&◌, ℕ, nat_lt, not, Bool, List, [], length, map, replicate, slice_get, slice_set, Option, None, Some, is_some, option_map, unwrap_or, IsTrue, Vec, if◌then◌else◌}
 use Rattle.std.specs.declared.alloc.Global.{Global}
 use Rattle.check_keys.specs.declared.fault.SystemFault.{SystemFault}
 use Rattle.check_keys.specs.declared.fault.SystemFault.TheVariants.{ImageTooLong, ImageUnreadable}

@@ -1,11 +1,13 @@
 -- What each call makes of a judge. Lists of what crossed have the latest first. This project's own.
-use Rattle.std.specs.Prelude.{◌≡◌, ◌↔◌, ◌&&◌, ◌%◌, ◌^◌, ◌<◌, ◌≤◌, ◌==◌, ◌≢◌, ◌⊎◌, if◌then◌else◌, ℕ, List, [], ◌∷◌, length, take, Option, Some, None, IsSome, IsSomeAnd, vec_capacity}
+use Rattle.std.specs.Prelude.{◌≡◌, ◌↔◌, ◌&&◌, ◌%◌, ◌^◌, ◌<◌, ◌≤◌, ◌==◌, ◌≢◌, ◌⊎◌, if◌then◌else◌, false, ℕ, List, [], ◌∷◌, length, take, Option, Some, None, IsSome, IsSomeAnd, vec_capacity}
+use Rattle.check_flight.specs.PortSlave.{PortSlave}
 use Rattle.check_flight.specs.declared.order.Order.{Order}
 use Rattle.check_flight.specs.declared.order.Order.TheVariants.{Accept, Reply, Any}
 use Rattle.check_watch.specs.Plan.{Sighting, seen_at}
 use Rattle.check_watch.specs.declared.fault.Fault.{Fault}
 use Rattle.check_sides.specs.Lawful.{IsFirstFault, IsLawful, MayNeedMemory, what_is_seen}
 use Rattle.check_sides.specs.Plan.{Layout, Plan, bus_of}
+use Rattle.check_sides.specs.Reset.{IsReset}
 use Rattle.check_sides.specs.View.{Keeps}
 use Rattle.check_watch.specs.declared.links.Links.{Links}
 use Rattle.check_watch.specs.declared.links.Links.TheVariants.{Both, Masters, Ports, Each}
@@ -19,6 +21,7 @@ use Rattle.check_lines.specs.Verdict.{incomplete_line, unlawful_line}
 use Rattle.check_coverage.specs.Flights.{is_counted}
 use Rattle.check_review.specs.Count.{is_whole_ask, is_whole_reply, one_more}
 use Rattle.check_description.specs.Description.{Description, Makes}
+use Rattle.check_start.specs.Loads.{AreLoadsOf}
 use Rattle.check_start.specs.Start.{ByThePlan, layout_of, system_names}
 use Rattle.check_start.specs.declared.start.Terms.{Terms}
 use Rattle.tl_c.specs.Draft.{DraftView, IsDraftOf, LacksNone, image_bytes}
@@ -47,6 +50,8 @@ pub record IsStep (plan : Plan) (past : List Sighting) (shown : Sighting) (old :
       (is_counted plan.layout.links shown.link && is_whole_reply (what_is_seen plan past shown)) old.answered
   pub text : number ≡ OK → new.text ≡ old.text
   pub names : number ≡ OK → new.names ≡ old.names
+  pub resets : number ≡ OK → new.resets ≡ old.resets
+  pub loads : number ≡ OK → new.loads ≡ old.loads
 
 -- the text is the line of this fault, with these names of links; or it is empty, if there was no room for the line
 abbrev pub IsLineOf : NamesView → Row → Fault → ℕ → List ℕ → Type 0
@@ -55,7 +60,7 @@ IsLineOf names row fault room text =
 
 -- what was shown with this line and this time
 abbrev pub shown_row : ℕ → ℕ → Sighting → SeenRow
-shown_row line time shown = record { line = line; time = time; sighting = shown }
+shown_row line time shown = record { line = line; time = time; is_reset = false; sighting = shown }
 
 -- the number is that of the first fault of the beat that is shown, and the text is the line of this fault, with the
 -- line and the time that the beat was shown with
@@ -72,6 +77,8 @@ pub record IsFaultOfBeat (plan : Plan) (past : List Sighting) (shown : Sighting)
 pub record KeepsAllButText (old new : HeldJudge) : Type 0 where
   pub watch : new.watch ≡ old.watch
   pub names : new.names ≡ old.names
+  pub resets : new.resets ≡ old.resets
+  pub loads : new.loads ≡ old.loads
   pub requests : new.requests ≡ old.requests
   pub answered : new.answered ≡ old.answered
   pub pending : new.pending ≡ old.pending
@@ -87,14 +94,41 @@ pub record IsEndOf (plan : Plan) (rows : List SeenRow) (old new : HeldJudge) : T
   pub is_left : IsLeft plan rows left
   pub text : IsLineOfLeft left (vec_capacity old.text) new.text.items
 
+-- ---- resets
+
+-- the plan by which a system goes on whose slaves a reset leaves like this
+abbrev pub with_slaves : Plan → List PortSlave → List PortSlave → Plan
+with_slaves plan resets own = record plan { resets = resets; own = own }
+
+-- the judge goes on after a reset of the whole system, before which these beats crossed by this plan: ports hold what is loaded
+-- into them, or what the reset has left; no beat has crossed since then, and no request is in flight
+pub record IsAfterReset (plan : Plan) (past : List Sighting) (old new : HeldJudge) : Type 0 where
+  pub resets : List PortSlave
+  pub own : List PortSlave
+  pub is : IsReset plan past old.loads old.loads resets own
+  pub keeps : Keeps (with_slaves plan resets own) [] new.watch
+  pub pending : (rows : List SeenRow) → Holds plan rows old.pending → Holds (with_slaves plan resets own) [] new.pending
+
+-- a reset leaves the names, what resets load, the counts and the text as they were
+pub record KeepsAtReset (old new : HeldJudge) : Type 0 where
+  pub names : new.names ≡ old.names
+  pub resets : new.resets ≡ old.resets
+  pub loads : new.loads ≡ old.loads
+  pub requests : new.requests ≡ old.requests
+  pub answered : new.answered ≡ old.answered
+  pub text : new.text ≡ old.text
+
 -- ---- judges before any beat
 
 -- a judge of this system with these bytes of its images, before any beat: it keeps no beat by each plan of the system, of
--- which there is one, has counted none, and no request is in flight; its text is empty, with room for a line
+-- which there is one, has what a reset loads, has counted none, and no request is in flight; its text is empty, with room
+-- for a line
 pub record BeginsBy (terms : Terms) (system : Description) (images : List (List ℕ)) (judge : HeldJudge) : Type 0 where
   pub layout : judge.watch.layout ≡ layout_of terms system
-  pub keeps : ByThePlan terms system images (λ plan. Keeps plan [] judge.watch)
-  pub pending : ByThePlan terms system images (λ plan. Holds plan [] judge.pending)
+  pub keeps : ByThePlan terms system images (λ plan. Keeps plan.begins [] judge.watch)
+  pub pending : ByThePlan terms system images (λ plan. Holds plan.begins [] judge.pending)
+  pub resets : judge.resets ≡ system.resets
+  pub loads : ByThePlan terms system images (λ plan. AreLoadsOf plan judge.loads)
   pub names : judge.names ≡ system_names system
   pub requests : judge.requests ≡ 0
   pub answered : judge.answered ≡ 0

@@ -1,7 +1,10 @@
 //! What handles hold.
+ghost use Rattle.std.specs.Prelude.{◌≡◌, ◌+◌, length};
+
 use crate::draft::Draft;
 use check_lines::Names;
 use check_sides::Watch;
+use check_start::Loads;
 use check_unanswered::Pending;
 use std::marker::Model;
 use tl_model::Crossbar;
@@ -25,16 +28,19 @@ impl Model for Server {
     ghost view = { λ s. s.crossbar };
 }
 
-/// A judge of beats, with the names of links, the requests in flight, how many whole requests and replies it has seen,
-/// and the line of the last fault.
+/// A judge of beats, with the names of links, whether there may be resets of the whole system and what they load, the
+/// requests in flight, how many whole requests and replies it has seen, and the line of the last fault.
 #[derive(Drop)]
 pub struct HeldJudge {
     pub watch: Watch,
     pub names: Names,
+    pub resets: bool,
+    pub loads: Loads,
     pub pending: Pending,
     pub requests: u64,
     pub answered: u64,
     pub text: Vec<u8>,
+    ghost counted: { length loads ≡ length watch.layout.ports + 1 },
 }
 
 /// What a handle holds.

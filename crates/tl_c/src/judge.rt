@@ -1,5 +1,5 @@
 //! Judges of beats.
-ghost use Rattle.std.specs.Prelude.{◌≡◌, ◌≢◌, ◌%◌, ◌^◌, ◌<◌, ◌≤◌, ◌↔◌, ◌&&◌, ◌⊎◌, ℕ, List, ◌∷◌, IsSome, None, Some, length, vec_capacity};
+ghost use Rattle.std.specs.Prelude.{◌≡◌, ◌≢◌, ◌%◌, ◌^◌, ◌<◌, ◌≤◌, ◌↔◌, ◌&&◌, ◌⊎◌, ℕ, List, ◌∷◌, IsSome, None, Some, false, length, vec_capacity};
 ghost use Rattle.tl_c.specs.Calls.{HoldsJudge, IsJudge};
 ghost use Rattle.tl_c.specs.Judging.{IsEndOf, IsFaultOfBeat, IsLineOf, IsLineOfLeft, IsStep, KeepsAllButText, on_bus, shown_row};
 ghost use Rattle.tl_c.specs.Text.{IsTextOf, IsWritten};
@@ -36,6 +36,8 @@ fn count(judge: &mut HeldJudge, link: Link, end: Ended)
     ensures watch { judge.new.watch ≡ judge.old.watch }
     ensures text { judge.new.text ≡ judge.old.text }
     ensures names { judge.new.names ≡ judge.old.names }
+    ensures resets { judge.new.resets ≡ judge.old.resets }
+    ensures loads { judge.new.loads ≡ judge.old.loads }
     ensures pending { judge.new.pending ≡ judge.old.pending }
     ensures requests { judge.new.requests
         ≡ one_more (is_counted judge.old.watch.layout.links link && ends_an_ask end) judge.old.requests }
@@ -59,6 +61,7 @@ fn keep_line(text: &mut Vec<u8>, names: &Names, row: &Row, fault: &Fault)
 
 /// Judges the beat of a row, whose link is watched, for its fault.
 fn judge_fault(alloc: Global, judge: &mut HeldJudge, row: &Row, lanes: &[u8]) -> u32
+    requires beat { row.now.is_reset ≡ false }
     requires known { HasLink judge.old.watch.layout row.now.link }
     requires watched { IsWatched judge.old.watch.layout.links row.now.link }
     requires lanes { bus_of judge.old.watch.layout row.now.link ≤ length lanes.now }
@@ -89,6 +92,7 @@ fn judge_fault(alloc: Global, judge: &mut HeldJudge, row: &Row, lanes: &[u8]) ->
 
 /// Judges the beat of a row, whose link is watched. Most are lawful, and no more is asked of them than what they end.
 fn judge_beat(alloc: Global, judge: &mut HeldJudge, row: &Row, lanes: &[u8]) -> u32
+    requires beat { row.now.is_reset ≡ false }
     requires known { HasLink judge.old.watch.layout row.now.link }
     requires watched { IsWatched judge.old.watch.layout.links row.now.link }
     requires lanes { bus_of judge.old.watch.layout row.now.link ≤ length lanes.now }
@@ -118,6 +122,8 @@ fn judge_beat(alloc: Global, judge: &mut HeldJudge, row: &Row, lanes: &[u8]) -> 
 fn note(judge: &mut HeldJudge, change: Change, row: &Row)
     ensures watch { judge.new.watch ≡ judge.old.watch }
     ensures names { judge.new.names ≡ judge.old.names }
+    ensures resets { judge.new.resets ≡ judge.old.resets }
+    ensures loads { judge.new.loads ≡ judge.old.loads }
     ensures requests { judge.new.requests ≡ judge.old.requests }
     ensures answered { judge.new.answered ≡ judge.old.answered }
     ensures text { judge.new.text ≡ judge.old.text }
@@ -130,6 +136,7 @@ fn note(judge: &mut HeldJudge, change: Change, row: &Row)
 
 /// Judges the beat of a row, whose link is watched, and notes what it does to the requests in flight.
 fn judge_row(alloc: Global, judge: &mut HeldJudge, row: &Row, lanes: &[u8]) -> u32
+    requires beat { row.now.is_reset ≡ false }
     requires known { HasLink judge.old.watch.layout row.now.link }
     requires watched { IsWatched judge.old.watch.layout.links row.now.link }
     requires lanes { bus_of judge.old.watch.layout row.now.link ≤ length lanes.now }
@@ -184,6 +191,7 @@ fn step(alloc: Global, judge: &mut HeldJudge, link: Link, beat: Beat, wire: &Wir
     let row = Row {
         line: wire.line,
         time: wire.time,
+        is_reset: false,
         link,
         bus,
         beat,

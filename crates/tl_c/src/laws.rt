@@ -36,5 +36,5 @@ pub fn room_in_numbers()
 
 /// The version of the header, `TLX_VERSION`.
 pub fn version_in_numbers()
-    ensures { VERSION ≡ 5 }
+    ensures { VERSION ≡ 6 }
 {}

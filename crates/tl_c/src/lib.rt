@@ -21,6 +21,7 @@ pub mod laws;
 mod loose;
 mod making;
 mod model;
+mod reset;
 mod system;
 mod text;
 mod version;

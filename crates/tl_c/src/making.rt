@@ -89,6 +89,8 @@ pub(crate) fn make_judge(
     Ok(HeldJudge {
         watch: begun.watch,
         names: begun.names,
+        resets: begun.resets,
+        loads: begun.loads,
         pending,
         requests: 0,
         answered: 0,

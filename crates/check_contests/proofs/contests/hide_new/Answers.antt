@@ -2,7 +2,7 @@ use Rattle.std.proofs.Common.{◌∙◌, get_or, map, sym, ap}
 use Rattle.check_memory.specs.declared.slave.Slave.{Slave}
 use Rattle.check_memory.specs.declared.slave.Slave.TheVariants.{Memory}
 use Rattle.check_contests.specs.Contests.{Accepted, entry_accepting}
-use Rattle.check_contests.proofs.Places.{mapped-more}
+use Rattle.check_contests.proofs.Mapped.{mapped-more}
 use Rattle.check_contests.proofs.Uncontested.{device_keeps}
 use Rattle.check_contests.proofs.contests.hide_new.Goals as goal
 

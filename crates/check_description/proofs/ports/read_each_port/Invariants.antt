@@ -8,7 +8,7 @@ use Rattle.check_description.proofs.ports.read_each_port.Given as goal
 abbrev pub invariant-loop-table : goal.invariant-loop-table
 invariant-loop-table l = record {
   read : with_front (map port_view l.ports.items)
-      (each (port_of l.bus) (map (λ table. table_view table.now) (drop l.table-index l.tables)))
-      ≡ each (port_of l.bus) (map (λ table. table_view table.now) l.tables);
+      (each (port_of l.bus l.resets) (map (λ table. table_view table.now) (drop l.table-index l.tables)))
+      ≡ each (port_of l.bus l.resets) (map (λ table. table_view table.now) l.tables);
   counted : length l.ports.items ≡ l.table-index;
 }

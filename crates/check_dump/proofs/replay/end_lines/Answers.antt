@@ -1,6 +1,6 @@
 -- The last rows are lawful, or not.
 use Rattle.std.proofs.Common.{refl}
-use Rattle.check_dump.proofs.ReplayLemmas.{lawful_ends, refused_ends}
+use Rattle.check_dump.proofs.ReplayLemmas.{beat_ends, lawful_ends, refused_ends}
 use Rattle.check_dump.proofs.replay.end_lines.Goals as goal
 
 pub returns-in-Ok-clause-ended : goal.returns-in-Ok-clause-ended
@@ -9,7 +9,7 @@ returns-in-Ok-clause-ended c =
     (lawful_ends c.args.judge.now c.end.new.self.tally c.args.told.now.items c.end.new.text.items c.in-Ok.ending.counts
     c.args.end c.in-Ok.ending.left c.args.latest (record {
       lawful = λ plan rows judges. (
-        (c.in-Ok.ensures.lawful plan rows judges (λ is. absurd (cc))).0 refl,
+        c.in-Ok.ensures.lawful plan rows judges,
         c.in-Ok.ensures.counts plan rows judges,
         c.in-Ok.ensures.left plan rows judges,
       );
@@ -25,3 +25,8 @@ returns-in-Err-clause-ended c =
     (λ plan rows judges. c.in-Err.ensures.fault plan rows judges)
     (λ plan rows judges. c.in-Err.ensures.fault_covers plan rows judges)
     (λ plan rows so_far has. c.in-Err.ensures.fault_told plan rows so_far has))
+
+pub returns-in-Some-clause-ended : goal.returns-in-Some-clause-ended
+returns-in-Some-clause-ended c =
+    beat_ends c.args.judge.now c.args.judge.now.tally c.args.end c.args.latest c.args.told.now.items c.in-Some.unknown
+    c.in-Some.ensures.now.0 c.in-Some.ensures.now.1

@@ -14,7 +14,7 @@ returns-in_err-verdict-clause-checked g c = λ asked file parts images known is 
     let given : GivenParts = record { file = file; parts = parts; images = images; capture = known } in
     let text = g.C.Read.remaining c.args.capture in
     let of_it = of_prepared asked given c.args.prepared.now _ is
-    (buses_are _ _ is.system (c.deref.ensures.value ∙ is.masters) (c.deref-2.ensures.value ∙ is.ports)) in
+    (buses_are _ _ _ is.system (c.deref.ensures.value ∙ is.masters) (c.deref-2.ensures.value ∙ is.ports) is.resets) in
     let fault = c.in_err-verdict.field-0.0 in
     let stopped = is_stopped _ _ is.system _ _ _ _ fault of_it is.made
     (λ plan start. as_known known text _ same (c.in_err-verdict.ensures.fault plan start))
@@ -26,7 +26,7 @@ returns-in_err-append_coverage-clause-checked g c = λ asked file parts images k
     let given : GivenParts = record { file = file; parts = parts; images = images; capture = known } in
     let text = g.C.Read.remaining c.args.capture in
     let of_it = of_prepared asked given c.args.prepared.now _ is
-    (buses_are _ _ is.system (c.deref.ensures.value ∙ is.masters) (c.deref-2.ensures.value ∙ is.ports)) in
+    (buses_are _ _ _ is.system (c.deref.ensures.value ∙ is.masters) (c.deref-2.ensures.value ∙ is.ports) is.resets) in
     let verdict = c.in_ok-verdict.verdict in
     let has = has_verdict _ _ is.system _ _ _ _ verdict of_it is.made
     (λ plan start. as_known known text _ same (c.in_ok-verdict.ensures.verdict plan start))
@@ -39,7 +39,7 @@ returns-clause-checked g c = λ asked file parts images known is same.
     let given : GivenParts = record { file = file; parts = parts; images = images; capture = known } in
     let text = g.C.Read.remaining c.args.capture in
     let of_it = of_prepared asked given c.args.prepared.now _ is
-    (buses_are _ _ is.system (c.deref.ensures.value ∙ is.masters) (c.deref-2.ensures.value ∙ is.ports)) in
+    (buses_are _ _ _ is.system (c.deref.ensures.value ∙ is.masters) (c.deref-2.ensures.value ∙ is.ports) is.resets) in
     let verdict = c.in_ok-verdict.verdict in
     let has = has_verdict _ _ is.system _ _ _ _ verdict of_it is.made
     (λ plan start. as_known known text _ same (c.in_ok-verdict.ensures.verdict plan start))
@@ -55,7 +55,7 @@ returns-clause-covered g c = λ asked file parts images known is same.
     let given : GivenParts = record { file = file; parts = parts; images = images; capture = known } in
     let text = g.C.Read.remaining c.args.capture in
     let of_it = of_prepared asked given c.args.prepared.now _ is
-    (buses_are _ _ is.system (c.deref.ensures.value ∙ is.masters) (c.deref-2.ensures.value ∙ is.ports)) in
+    (buses_are _ _ _ is.system (c.deref.ensures.value ∙ is.masters) (c.deref-2.ensures.value ∙ is.ports) is.resets) in
     let verdict = c.in_ok-verdict.verdict in
     let has = has_verdict _ _ is.system _ _ _ _ verdict of_it is.made
     (λ plan start. as_known known text _ same (c.in_ok-verdict.ensures.verdict plan start))

@@ -1,5 +1,5 @@
 -- The judge is that of the system that the parts make, or the first fault is told.
-use Rattle.std.proofs.Common.{◌∙◌, ap, inl, inr, map, refl, sym}
+use Rattle.std.proofs.Common.{◌∙◌, ◌+◌, ap, inl, inr, length, map, refl, sym}
 use Rattle.check_description.specs.File.{parts_view}
 use Rattle.check_sides.specs.Plan.{Layout}
 use Rattle.check_program.specs.Fault.{of_system}
@@ -59,6 +59,13 @@ returns-in_err-judge c =
       fault = if_err _ result check.Memory is tt;
     }
 
+-- a reset may load something into each port and into the error port
+pub judge_of-requires : goal.judge_of-requires
+judge_of-requires c =
+    let begun = c.in_ok-begun.ensures in
+    let is = begun.keeps.some.1 in
+    (begun.loads.each begun.keeps.some.0 is).counted ∙ ap (λ (l : Layout). length l.ports + 1) (is.layout ∙ sym begun.layout)
+
 pub returns : goal.returns
 returns c =
     let begun = c.in_ok-begun.ensures in
@@ -72,7 +79,7 @@ returns c =
         made = c.in_ok-system.ensures.made;
         judges = record {
           some = begun.keeps.some;
-          each = λ plan is. judge.judges plan (begun.keeps.each plan is) (covered.none_yet c.args.asked.terms images plan is);
+          each = λ plan is. judge.judges plan (begun.keeps.each plan is) (begun.loads.each plan is) (covered.none_yet c.args.asked.terms images plan is);
         };
         trace = judge.trace;
         complete = judge.complete;
@@ -81,6 +88,7 @@ returns c =
         names = begun.names;
         masters = begun.masters;
         ports = begun.ports;
+        resets = begun.resets;
       };
       masters = begun.few_masters;
       ports = begun.few_ports;

@@ -1,5 +1,5 @@
 -- The slaves so far, and those of the ports that are left, are those of all ports.
-use Rattle.std.proofs.Common.{◌≡◌, ◌++◌, drop, map, Ok}
+use Rattle.std.proofs.Common.{◌≡◌, drop, map}
 use Rattle.tl_text.specs.Reading.{with_front}
 use Rattle.check_description.specs.Port.{port_view}
 use Rattle.check_start.specs.Slaves.{slaves_from}

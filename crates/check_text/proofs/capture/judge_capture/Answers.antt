@@ -2,7 +2,7 @@
 use Rattle.std.proofs.Common.{◌∙◌, Err, List, ℕ, [], IfOk, IfSome, ap, refl, subst}
 use Rattle.check_records.specs.Text.{text_start}
 use Rattle.check_review.specs.View.{Judges, is_asked, is_traced}
-use Rattle.check_sides.specs.Plan.{Plan}
+use Rattle.check_start.specs.Loads.{SystemPlan}
 use Rattle.check_text.specs.Out.{Finishes}
 use Rattle.check_text.specs.Buses.{link_buses}
 use Rattle.check_text.specs.Capture.{IsCovered}
@@ -21,7 +21,7 @@ returns-in_err-records g c =
     let result = c.from_residual.result in
     let why = c.in_err-records.field-0.0 in
     let is = c.from_residual.ensures.1 in
-    let says : (plan : Plan) → IfSome known (λ text. Says asked trace plan buses old old result (text_start text)) = λ plan.
+    let says : (plan : SystemPlan) → IfSome known (λ text. Says asked trace plan buses old old result (text_start text)) = λ plan.
     says_not_made asked trace plan buses old known result why is
     (λ line same. c.in_err-records.ensures.kind line (ap Err same)) in
     record {
@@ -45,7 +45,7 @@ returns-in_err-read_header g c =
     let is = c.from_residual-in_err-read_header.ensures.1 in
     let a = c.in_ok-records.records.left in
     let b = c.read_header.new.records.left in
-    let says : (plan : Plan) → IfSome known (λ text. Says asked trace plan buses old old result (text_start text)) = λ plan.
+    let says : (plan : SystemPlan) → IfSome known (λ text. Says asked trace plan buses old old result (text_start text)) = λ plan.
     says_stopped asked trace plan buses old known result why is
     (told known a (Says asked trace plan buses old old (Err why)) c.in_ok-records.ensures.text
     c.in_ok-records.ensures.line (no_header asked trace plan buses old a b why c.in_err-read_header.ensures.fault)) in
@@ -74,7 +74,7 @@ returns g c =
     let left = c.judge_rows-answer.new.text.items in
     let tally = c.judge_rows-answer.new.judge.tally in
     let F : List ℕ → Type 0 = λ t. Finishes mid new t c.judge_rows-answer.result result in
-    let says : (plan : Plan) → Judges plan [] c.args.judge.now
+    let says : (plan : SystemPlan) → Judges plan [] c.args.judge.now
     → IfSome known (λ text. Says asked trace plan buses old new result (text_start text)) = λ plan start.
     told known a (Says asked trace plan buses old new result) c.in_ok-records.ensures.text c.in_ok-records.ensures.line
     (says_judged plan buses a b old mid new left c.judge_rows-answer.result result c.args.judge.now tally start

@@ -12,7 +12,7 @@ returns-in-Ok-clause-judged g c =
     (contents c.take_rows.new.writer.writer.now)
     c.take_rows.new.text.items c.end.new.text.items c.args.records.now.left c.take_rows.new.records.left c.in_default.ensures.ok c.in-Ok.ending.counts c.in-Ok.ending.left
     (λ plan rows judges. (
-      (c.in-Ok.ensures.lawful plan rows judges (λ is. absurd (cc))).0 refl,
+      c.in-Ok.ensures.lawful plan rows judges,
       c.in-Ok.ensures.counts plan rows judges,
       c.in-Ok.ensures.left plan rows judges,
     ))

@@ -63,6 +63,6 @@ returns-in-Ok-false-take_quietly-clause-next g c =
     (gives, sym c.in-Ok.ensures.value, c.in-Ok-false-take_quietly.ensures.left c.in-Ok-false-take_quietly.field-0-test)
 
 pub take_quietly-requires-clause-bus : goal.take_quietly-requires-clause-bus
-take_quietly-requires-clause-bus g c =
+take_quietly-requires-clause-bus g c = λ beat.
     bus_fits c.args.judge.now.tally.watch.layout (link_buses c.args.buses.now) c.in-Ok.row.link c.in-Ok.row.bus
-    c.requires.buses c.in-Ok.ensures.bus
+    c.requires.buses (c.in-Ok.ensures.takable.bus beat)

@@ -1,7 +1,6 @@
 -- One place more, and the whole table.
-use Rattle.std.proofs.Common.{◌≡◌, ◌∙◌, ◌+◌, ◌<◌, ◌≤◌, List, [], ◌∷◌, ◌++◌, Option, Some, length, length-append, take, sym, subst, ap, arith}
+use Rattle.std.proofs.Common.{◌≡◌, ◌∙◌, Some, length, take, sym, subst, ap, arith}
 use Rattle.std.proofs.lemmas.List.{take_all, take_more}
-use Rattle.check_unanswered.specs.declared.request.Open.{Open}
 use Rattle.check_unanswered.specs.Table.{IsOldestOf, opens}
 use Rattle.check_unanswered.proofs.Tables.{counted_more, few_more}
 use Rattle.check_unanswered.proofs.left.left_in.Goals as goal

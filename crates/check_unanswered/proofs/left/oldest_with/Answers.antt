@@ -1,5 +1,5 @@
 -- One request more, or none.
-use Rattle.std.proofs.Common.{◌≡◌, List, [], ◌∷◌, ◌++◌, None, Option, Some, sym, subst}
+use Rattle.std.proofs.Common.{[], ◌∷◌, ◌++◌, Option, Some, sym, subst}
 use Rattle.check_unanswered.specs.declared.request.Open.{Open}
 use Rattle.check_unanswered.specs.Table.{IsOldestOf, opens}
 use Rattle.check_unanswered.proofs.Tables.{opens-append, opens-none}

@@ -9,6 +9,7 @@ use Rattle.check_description.specs.Description.{IsFirstFaultOf, Makes}
 use Rattle.check_description.specs.File.{Parts}
 use Rattle.check_sides.specs.View.{Keeps}
 use Rattle.check_start.specs.Slaves.{image_at, shared_side}
+use Rattle.check_start.specs.Loads.{AreLoadsOf}
 use Rattle.check_start.specs.Start.{ByThePlan}
 use Rattle.tl_c.specs.Draft.{image_bytes}
 use Rattle.tl_c.proofs.Drafts.{slaves_are}
@@ -33,15 +34,23 @@ returns-in_err-begun-clause-fault c =
     c.from_residual-in_err-begun.result c.from_residual-in_err-begun.ensures.1
     (λ real. absurd (slaves_are (shared_side c.args.terms.links) c.args.terms.orders given system.ports fits fault (c.in_err-begun.ensures.fault real)))
 
+pub returns-in_err-text-clause-fault : goal.returns-in_err-text-clause-fault
+returns-in_err-text-clause-fault c =
+    error_is (λ (fault : SystemFault). fault ≢ Memory → IsFirstFaultOf c.args.draft.parts fault) Memory
+    c.from_residual-in_err-text.result c.from_residual-in_err-text.ensures.1 (λ real. absurd (real refl))
+
 pub returns-clause-ok : goal.returns-clause-ok
 returns-clause-ok c =
     let system = c.in_ok-system.system in
     let watch = c.in_ok-begun.begun.watch in
     let images : map (λ image. image.items) c.deref.result.now ≡ image_bytes c.args.draft.images =
     ap (map (λ image. image.items)) c.deref.ensures.value ∙ c.in_ok-parts.ensures.images in
-    let keeps : ByThePlan c.args.terms system (image_bytes c.args.draft.images) (λ plan. Keeps plan [] watch) =
-    (let P : List (List ℕ) → Type 0 = λ l. ByThePlan c.args.terms system l (λ plan. Keeps plan [] watch) in
+    let keeps : ByThePlan c.args.terms system (image_bytes c.args.draft.images) (λ plan. Keeps plan.begins [] watch) =
+    (let P : List (List ℕ) → Type 0 = λ l. ByThePlan c.args.terms system l (λ plan. Keeps plan.begins [] watch) in
     subst P images c.in_ok-begun.ensures.keeps) in
+    let loads : ByThePlan c.args.terms system (image_bytes c.args.draft.images) (λ plan. AreLoadsOf plan c.in_ok-begun.begun.loads) =
+    (let P : List (List ℕ) → Type 0 = λ l. ByThePlan c.args.terms system l (λ plan. AreLoadsOf plan c.in_ok-begun.begun.loads) in
+    subst P images c.in_ok-begun.ensures.loads) in
     record {
       whole = c.requires;
       system = system;
@@ -49,7 +58,9 @@ returns-clause-ok c =
       begins = record {
         layout = c.in_ok-begun.ensures.layout;
         keeps = keeps;
-        pending = record { some = keeps.some; each = λ plan is. c.in_ok-pending.ensures plan (keeps.each plan is) };
+        pending = record { some = keeps.some; each = λ plan is. c.in_ok-pending.ensures plan.begins (keeps.each plan is) };
+        resets = c.in_ok-begun.ensures.resets;
+        loads = loads;
         names = c.in_ok-begun.ensures.names;
         requests = refl;
         answered = refl;

@@ -16,14 +16,14 @@ use Rattle.check_coverage.proofs.Noted.{ok_then}
 use Rattle.check_coverage.proofs.coverage.Coverage.note.Goals as goal
 
 pub returns-then-not-is_counted : goal.returns-then-not-is_counted
-returns-then-not-is_counted c = λ plan rows lanes covers keeps is_end.
+returns-then-not-is_counted c = λ plan earlier rows lanes covers keeps is_end.
     let link = c.args.row.now.link in
     let links : c.links.result ≡ plan.layout.links = c.links.ensures ∙ ap (λ (l : Layout). l.links) keeps.suits.layout in
-    covers_uncounted plan rows (row_with c.args.row.now lanes) c.args.self.now covers
+    covers_uncounted plan earlier rows (row_with c.args.row.now lanes) c.args.self.now covers
     (ap (λ (l : Links). is_counted l link) (sym links) ∙ sym c.is_counted.ensures ∙ c.if-not-is_counted.true)
 
 pub returns-in-Some : goal.returns-in-Some
-returns-in-Some c = λ plan rows lanes covers keeps is_end.
+returns-in-Some c = λ plan earlier rows lanes covers keeps is_end.
     let row = row_with c.args.row.now lanes in
     let link = c.args.row.now.link in
     let links : c.links.result ≡ plan.layout.links = c.links.ensures ∙ ap (λ (l : Layout). l.links) keeps.suits.layout in
@@ -42,7 +42,7 @@ returns-in-Some c = λ plan rows lanes covers keeps is_end.
     let wide : c.in-Some.wide ≡ wide_at plan row.sighting =
     same_Some c.in-Some.wide (wide_at plan row.sighting) (sym c.in-Some.is ∙ found) in
     ok_then c.note_beat.result
-    (λ noted. covers_counted plan rows row c.args.self.now c.note_beat.new.self (bus_bytes c.bus-bus.result) covers counted bus
+    (λ noted. covers_counted plan earlier rows row c.args.self.now c.note_beat.new.self (bus_bytes c.bus-bus.result) covers counted bus
     (subst (λ (e : Ended). IsNoted plan (bus_bytes c.bus-bus.result) (wide_at plan row.sighting) c.args.row.now.time
     c.args.row.now.beat e c.args.self.now c.note_beat.new.self) is_end
     (subst (λ (w : ℕ). IsNoted plan (bus_bytes c.bus-bus.result) w c.args.row.now.time
@@ -50,7 +50,7 @@ returns-in-Some c = λ plan rows lanes covers keeps is_end.
     (c.note_beat.ensures plan keeps.suits covers.mirrors (lawful_size plan (beats_of rows) row.sighting keeps.lawful))
 
 pub returns-in-None : goal.returns-in-None
-returns-in-None c = λ plan rows lanes covers keeps is_end.
+returns-in-None c = λ plan earlier rows lanes covers keeps is_end.
     let row = row_with c.args.row.now lanes in
     let link = c.args.row.now.link in
     let links : c.links.result ≡ plan.layout.links = c.links.ensures ∙ ap (λ (l : Layout). l.links) keeps.suits.layout in

@@ -1,4 +1,4 @@
-use Rattle.std.proofs.Common.{◌+◌, ◌^◌, ◌≤◌, List, subst, ap, arith}
+use Rattle.std.proofs.Common.{◌^◌, List, subst, ap, arith}
 use Rattle.tl_map.specs.declared.range.Range.{Range}
 use Rattle.check_memory.specs.Partial.{Partial, AreWithin}
 use Rattle.check_memory.proofs.SeenWindows.{in_space}

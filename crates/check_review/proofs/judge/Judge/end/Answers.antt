@@ -1,10 +1,9 @@
 -- The last rows are not lawful, and what is told.
 use Rattle.std.proofs.Common.{◌≡◌, ◌++◌, Bool, Err, List, ℕ, ap, reverse, subst}
-use Rattle.check_rows.specs.Row.{SeenRow}
-use Rattle.check_review.specs.Order.{watched}
+use Rattle.check_review.specs.Stretches.{watched_in}
 use Rattle.check_review.specs.Covered.{IsCoveredBefore, IsCoveredFile}
 use Rattle.check_review.specs.View.{HasTold, JudgeView, Judges, is_asked, is_traced, wants}
-use Rattle.check_review.specs.Verdict.{HasCounts, HasLeft, IsFirstUnlawful, IsToldBefore, IsToldFile, IsWhatIsLeft, MayWantMemory, OfUnlawful}
+use Rattle.check_review.specs.Verdict.{HasCounts, HasLeft, IsFirstUnlawful, IsLawfulFile, IsToldBefore, IsToldFile, IsWhatIsLeft, MayWantMemory, OfUnlawful}
 use Rattle.check_review.specs.declared.stop.Refusal.TheVariants as refusals
 use Rattle.check_review.proofs.Covering.{covered_before, covered_file}
 use Rattle.check_review.proofs.Judging.{first_unlawful, may_want, refused_is_not_lawful, told_before, told_file}
@@ -16,15 +15,25 @@ returns-in-Err-clause-fault c plan file =
     subst (λ (judge : JudgeView). Judges plan file judge → OfUnlawful (IsFirstUnlawful plan file) c.in-Err.refusal)
     c.self.view_is
     (λ judges. of_unlawful _ _ c.in-Err.refusal
-    (λ found stops. (first_unlawful plan file _ found judges stops.stops).0)
-    (c.in-Err.ensures.fault plan judges.before judges.kept))
+    (λ found stops. first_unlawful plan file _ found judges stops.stops)
+    (c.in-Err.ensures.fault plan judges.before judges.course judges.kept))
 
-pub returns-in-Err-clause-lawful : goal.returns-in-Err-clause-lawful
-returns-in-Err-clause-lawful c plan file judges other =
-    let first : OfUnlawful (IsFirstUnlawful plan file) c.in-Err.refusal = returns-in-Err-clause-fault c plan file judges in (
-      (λ is. absurd (cc)),
-      λ lawful. absurd (refused_is_not_lawful plan file c.in-Err.refusal first (λ is. other (ap Err is)) lawful),
-    )
+pub returns-in-Err-clause-taken : goal.returns-in-Err-clause-taken
+returns-in-Err-clause-taken c plan file judges plain other lawful =
+    let first : OfUnlawful (IsFirstUnlawful plan file) c.in-Err.refusal = returns-in-Err-clause-fault c plan file judges in
+    absurd (refused_is_not_lawful plan file c.in-Err.refusal plain first (λ is. other (ap Err is)) lawful)
+
+pub returns-clause-lawful : goal.returns-clause-lawful
+returns-clause-lawful c plan file =
+    subst (λ (judge : JudgeView). Judges plan file judge → IsLawfulFile plan file) c.self.view_is
+    (λ judges.
+    let on = c.in_default.ensures.keeps plan judges.before judges.course judges.kept in
+    record {
+      crossed = reverse c.self.inside.moment.rows ++ judges.before;
+      crossing = judges.crossing;
+      course = on.next;
+      lawful = on.kept.tallied.keeps.lawful;
+    })
 
 pub returns-in-Err-clause-fault_told : goal.returns-in-Err-clause-fault_told
 returns-in-Err-clause-fault_told c plan file so_far =
@@ -34,14 +43,14 @@ returns-in-Err-clause-fault_told c plan file so_far =
     × (next ≡ now ++ more) × IsToldBefore (is_traced judge) plan file (so_far ++ more) found) c.in-Err.refusal)
     c.self.view_is
     (λ has. of_unlawful _ _ c.in-Err.refusal (λ found stops. told_before plan file _ found so_far now next has stops)
-    (c.in-Err.ensures.fault plan has.judges.before has.judges.kept))
+    (c.in-Err.ensures.fault plan has.judges.before has.judges.course has.judges.kept))
 
 pub returns-in-Err-clause-memory : goal.returns-in-Err-clause-memory
 returns-in-Err-clause-memory c plan file =
     subst (λ (judge : JudgeView). Judges plan file judge → c.in-Err.refusal ≡ refusals.Memory
     → MayWantMemory (wants judge.tally) plan file) c.self.view_is
     (λ judges is. may_want (wants c.self.inside.tally) plan file _ judges
-    (c.in-Err.ensures.memory plan judges.before judges.kept is))
+    (c.in-Err.ensures.memory plan judges.before judges.course judges.kept is))
 
 pub returns-clause-told : goal.returns-clause-told
 returns-clause-told c plan file so_far =
@@ -50,20 +59,20 @@ returns-clause-told c plan file so_far =
     subst (λ (judge : JudgeView). HasTold plan file judge so_far → (more : List ℕ) × (next ≡ now ++ more)
     × IsToldFile (is_traced judge) plan file (so_far ++ more)) c.self.view_is
     (λ has. told_file plan file _ c.judge_rows.new.self so_far now next has
-    (c.in_default.ensures.keeps plan has.judges.before has.judges.kept)
-    (c.in_default.ensures.told plan has.judges.before has.judges.kept))
+    (c.in_default.ensures.keeps plan has.judges.before has.judges.course has.judges.kept))
 
 pub returns-clause-left : goal.returns-clause-left
 returns-clause-left c plan file =
     subst (λ (judge : JudgeView). Judges plan file judge → HasLeft (is_asked judge) plan file c.left.result) c.self.view_is
     (λ judges.
-    let crossed : List SeenRow = reverse c.self.inside.moment.rows ++ judges.before in
-    let kept = c.in_default.ensures.keeps plan judges.before judges.kept in
-    let A : Bool → Type 0 = λ asked. IsWhatIsLeft asked plan (watched plan.layout crossed) c.left.result in
+    let on = c.in_default.ensures.keeps plan judges.before judges.course judges.kept in
+    let A : Bool → Type 0 = λ asked. IsWhatIsLeft asked on.next.now.plan (watched_in on.next.now) c.left.result in
     record {
-      crossed = crossed;
+      crossed = reverse c.self.inside.moment.rows ++ judges.before;
       crossing = judges.crossing;
-      is = subst A c.in_default.ensures.same.asked (c.left.ensures plan (watched plan.layout crossed) kept.pending);
+      course = on.next;
+      is = subst A c.in_default.ensures.same.asked
+          (c.left.ensures on.next.now.plan (watched_in on.next.now) on.kept.pending);
     })
 
 pub returns-clause-counts : goal.returns-clause-counts
@@ -74,13 +83,14 @@ returns-clause-counts c plan file =
       answered = c.judge_rows.new.self.answered;
     })) c.self.view_is
     (λ judges.
-    let kept = c.in_default.ensures.keeps plan judges.before judges.kept in
+    let on = c.in_default.ensures.keeps plan judges.before judges.course judges.kept in
     record {
       crossed = reverse c.self.inside.moment.rows ++ judges.before;
       crossing = judges.crossing;
+      course = on.next;
       rows = judges.rows;
-      requests = kept.tallied.requests;
-      answered = kept.tallied.answered;
+      requests = on.kept.tallied.requests;
+      answered = on.kept.tallied.answered;
     })
 
 pub returns-in-Err-clause-fault_covers : goal.returns-in-Err-clause-fault_covers
@@ -89,10 +99,11 @@ returns-in-Err-clause-fault_covers c plan file =
     subst (λ (judge : JudgeView). Judges plan file judge → OfUnlawful (IsCoveredBefore plan file tally) c.in-Err.refusal)
     c.self.view_is
     (λ judges. of_unlawful _ _ c.in-Err.refusal (λ found stops. covered_before plan file _ tally found judges stops)
-    (c.in-Err.ensures.fault_covered plan judges.before judges.kept))
+    (c.in-Err.ensures.fault_covered plan judges.before judges.course judges.kept))
 
 pub returns-clause-covers : goal.returns-clause-covers
 returns-clause-covers c plan file =
     let tally = c.judge_rows.new.self in
     subst (λ (judge : JudgeView). Judges plan file judge → IsCoveredFile plan file tally) c.self.view_is
-    (λ judges. covered_file plan file _ tally judges (c.in_default.ensures.keeps plan judges.before judges.kept))
+    (λ judges. covered_file plan file _ tally _ _ _ judges
+    (c.in_default.ensures.keeps plan judges.before judges.course judges.kept))

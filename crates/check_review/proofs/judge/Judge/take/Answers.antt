@@ -13,13 +13,13 @@ returns-in-Ok-true-clause-row c =
     let taken = c.in-Ok-true.field-0-test in
     record {
       keeps = λ plan file judges.
-          (judges_now plan file row c.args.self.now c.put.new.self judges (c.in-Ok-true.ensures.taken taken)
+          judges_now plan file row c.args.self.now c.put.new.self judges (c.in-Ok-true.ensures.taken taken)
           (record {
             tally = c.put.ensures.tally;
             was = c.put.ensures.was;
             moment = c.put.ensures.moment;
             rows = c.in-Ok-true.ensures.rows taken;
-          })).0;
+          });
       told = λ plan file so_far has.
           told_now plan file row c.args.self.now c.put.new.self so_far text has (c.in-Ok-true.ensures.taken taken)
           (record {

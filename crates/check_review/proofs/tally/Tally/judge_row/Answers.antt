@@ -1,32 +1,23 @@
--- What is kept after a row, and of its request.
-use Rattle.std.proofs.Common.{◌≡◌, ◌∙◌, ◌∷◌, false, sym, subst}
+-- A beat is one of the stretch that goes on, and a reset ends that.
 use Rattle.check_unanswered.specs.Began.{row_with}
-use Rattle.check_sides.specs.Plan.{HasLink, IsWatched, Layout}
-use Rattle.check_review.specs.Order.{is_watched, sightings_of, watched}
-use Rattle.check_review.proofs.Leaving.{kept_noted, kept_unwatched}
-use Rattle.check_review.proofs.Watched.{watched_is, watches_by}
+use Rattle.check_review.specs.Stretches.{Earlier}
+use Rattle.check_review.proofs.Keeping.{both_ok, keeps_beat}
 use Rattle.check_review.proofs.tally.Tally.judge_row.Goals as goal
 
-pub returns-clause-keeps : goal.returns-clause-keeps
-returns-clause-keeps c plan before kept =
-    let row = row_with c.args.row.now c.args.lanes.now in
-    let P : Layout → Type 0 = λ l. HasLink l row.sighting.link × IsWatched l.links row.sighting.link in
-    kept_noted plan before row c.args.self.now c.step_row.new.self c.note.new.self c.change-change.result kept (record {
-      here = (watched_is plan.layout row.sighting.link).1
-          (subst P kept.tallied.keeps.suits.layout (c.watches.ensures.0 c.if-not-watches.false));
-      tallied = c.in_default.ensures.row.keeps plan before kept.tallied;
-      same = c.in_default.ensures.pending;
-      asked = c.change-change.ensures.asked;
-      change = c.change-change.ensures.change plan (sightings_of plan.layout before) c.args.lanes.now kept.tallied.keeps;
-      noted = c.note.ensures.tallied plan (row ∷ before);
-      holds = c.note.ensures.holds plan (watched plan.layout before) c.args.lanes.now;
-    })
+pub returns-then-not-row-clause-keeps : goal.returns-then-not-row-clause-keeps
+returns-then-not-row-clause-keeps c system before course kept =
+    let earlier : Earlier = record { system = system; ended = course.ended } in
+    both_ok c.judge_beat.result (keeps_beat system before course (row_with c.args.row.now c.args.lanes.now)
+    c.args.self.now.trace c.judge_beat.new.self c.args.text.now.items c.judge_beat.new.text.items c.if-not-row.true)
+    (c.judge_beat.ensures.keeps earlier course.now.plan course.now.rows kept)
+    (c.judge_beat.ensures.told earlier course.now.plan course.now.rows kept)
 
-pub returns-then-not-watches-clause-keeps : goal.returns-then-not-watches-clause-keeps
-returns-then-not-watches-clause-keeps c plan before kept =
-    let row = row_with c.args.row.now c.args.lanes.now in
-    let tally = c.args.self.now in
-    let other : is_watched plan.layout row.sighting.link ≡ false =
-    subst (λ l. is_watched l row.sighting.link ≡ false) kept.tallied.keeps.suits.layout
-    (sym (watches_by tally.watch.layout row.sighting.link c.watches.result c.watches.ensures) ∙ c.if-not-watches.true) in
-    kept_unwatched plan before row tally other kept
+pub returns-then-not-row-clause-fault : goal.returns-then-not-row-clause-fault
+returns-then-not-row-clause-fault c system before course kept =
+    let earlier : Earlier = record { system = system; ended = course.ended } in
+    c.judge_beat.ensures.fault earlier course.now.plan course.now.rows kept
+
+pub returns-then-not-row-clause-memory : goal.returns-then-not-row-clause-memory
+returns-then-not-row-clause-memory c system before course kept =
+    let earlier : Earlier = record { system = system; ended = course.ended } in
+    c.judge_beat.ensures.memory earlier course.now.plan course.now.rows kept

@@ -2,7 +2,6 @@
 use Rattle.std.proofs.Common.{◌≡◌, ◌∷◌, true, false, sym, subst}
 use Rattle.check_unanswered.specs.Began.{row_with}
 use Rattle.check_sides.specs.Plan.{HasLink, IsWatched, Layout}
-use Rattle.check_review.specs.declared.tally.Tally.{Tally}
 use Rattle.check_review.specs.Order.{is_watched, sightings_of}
 use Rattle.check_review.specs.Told.{AppendsTold}
 use Rattle.check_review.proofs.Telling.{tells_quietly}
@@ -15,16 +14,16 @@ returns-in-Ok-true-clause-row c =
     let text = c.args.text.now.items in
     let P : Layout → Type 0 = λ l. HasLink l row.sighting.link × IsWatched l.links row.sighting.link in
     record {
-      keeps = λ plan before tallied. c.in-Ok-true.ensures.keeps plan before tallied c.in-Ok-true.field-0-test;
-      told = λ plan before tallied.
+      keeps = λ earlier plan before tallied. c.in-Ok-true.ensures.keeps earlier plan before tallied c.in-Ok-true.field-0-test;
+      told = λ earlier plan before tallied.
           let watched : is_watched plan.layout row.sighting.link ≡ true =
           (watched_is plan.layout row.sighting.link).1
           (subst P tallied.keeps.suits.layout (c.requires.known, c.requires.watched)) in
           let quiet : c.args.self.now.trace ≡ false = c.if-self.false in
           subst (λ t. AppendsTold t plan (sightings_of plan.layout before) (sightings_of plan.layout (row ∷ before)) text text)
           (sym quiet) (tells_quietly plan before row text watched);
-      fault = λ plan before tallied. tt;
+      fault = λ earlier plan before tallied. tt;
       quiet = tt;
       uncovered = tt;
-      memory = λ plan before tallied. tt;
+      memory = λ earlier plan before tallied. tt;
     }

@@ -5,8 +5,8 @@ use Rattle.check_sides.specs.Plan.{HasLink, IsWatched, Layout}
 use Rattle.check_sides.specs.View.{Keeps, View}
 use Rattle.check_coverage.specs.View.{Covers}
 use Rattle.check_coverage.specs.declared.coverage.Coverage.{Coverage}
+use Rattle.check_review.specs.Stretches.{bins_in}
 use Rattle.check_review.specs.Order.{is_watched, sightings_of, watched}
-use Rattle.check_review.specs.declared.stop.Refusal.TheVariants as refusal
 use Rattle.check_review.specs.declared.tally.Tally.{Tally}
 use Rattle.check_review.proofs.Counting.{tallied_one}
 use Rattle.check_review.proofs.Telling.{tells_row, tells_step}
@@ -19,25 +19,26 @@ returns-in-Ok-tell-clause-row c =
     let rest = c.in-Ok-cover.ensures.rest in
     let P : Layout → Type 0 = λ l. HasLink l row.sighting.link × IsWatched l.links row.sighting.link in
     record {
-      keeps = λ plan before tallied.
+      keeps = λ earlier plan before tallied.
           let past = sightings_of plan.layout before in
           let judged = c.in-Ok.ensures.judged plan past tallied.keeps in
-          tallied_one plan before row c.args.self.now c.cover.new.self c.step.new.self c.in-Ok.seen c.ended-end.result tallied
+          tallied_one earlier plan before row c.args.self.now c.cover.new.self c.step.new.self c.in-Ok.seen c.ended-end.result tallied
           (record {
             here = (watched_is plan.layout row.sighting.link).1
                 (subst P tallied.keeps.suits.layout (c.requires.known, c.requires.watched));
             keeps = judged.keeps;
             watch_is = ap (λ (t : Tally). t.watch) rest ∙ c.count.ensures.watch;
+            loads = ap (λ (t : Tally). t.loads) rest ∙ c.count.ensures.loads;
             sees_is = judged.seen;
             end_is = c.ended-end.ensures;
             requests = ap (λ (t : Tally). t.requests) rest ∙ c.count.ensures.requests;
             answered = ap (λ (t : Tally). t.answered) rest ∙ c.count.ensures.answered;
-            covers = λ was keeps ends. c.in-Ok-cover.ensures.covers plan (watched plan.layout before) c.args.lanes.now
-                (subst (λ (o : Option Coverage). IfSome o (Covers plan (watched plan.layout before)))
+            covers = λ was keeps ends. c.in-Ok-cover.ensures.covers plan (bins_in earlier.ended) (watched plan.layout before) c.args.lanes.now
+                (subst (λ (o : Option Coverage). IfSome o (Covers plan (bins_in earlier.ended) (watched plan.layout before)))
                 (sym c.count.ensures.coverage) was)
                 (subst (λ (w : View). Keeps plan (row.sighting ∷ past) w) (sym c.count.ensures.watch) keeps) ends;
           });
-      told = λ plan before tallied.
+      told = λ earlier plan before tallied.
           let past = sightings_of plan.layout before in
           let judged = c.in-Ok.ensures.judged plan past tallied.keeps in
           let watched : is_watched plan.layout row.sighting.link ≡ true =
@@ -49,8 +50,8 @@ returns-in-Ok-tell-clause-row c =
           (ap (λ (t : Tally). t.trace) rest ∙ c.count.ensures.trace)
           (rw rest (rw c.count.ensures.watch judged.keeps.suits.layout))
           judged.seen judged.keeps.lawful.1 c.in-Ok-tell.ensures.told);
-      fault = λ plan before tallied. tt;
+      fault = λ earlier plan before tallied. tt;
       quiet = tt;
       uncovered = tt;
-      memory = λ plan before tallied. tt;
+      memory = λ earlier plan before tallied. tt;
     }

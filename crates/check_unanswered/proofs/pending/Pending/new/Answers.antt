@@ -6,7 +6,7 @@ use Rattle.check_watch.specs.Plan.{LinkSide}
 use Rattle.check_watch.specs.Plan.LinkSide.{AtMasters, AtPorts}
 use Rattle.check_unanswered.specs.declared.request.Open.{Open}
 use Rattle.check_unanswered.specs.Table.{open_at}
-use Rattle.check_unanswered.specs.View.{PendingView, open_table}
+use Rattle.check_unanswered.specs.View.{open_table}
 use Rattle.check_unanswered.proofs.Kept.{holds_fresh}
 use Rattle.check_unanswered.proofs.pending.Pending.new.Goals as goal
 

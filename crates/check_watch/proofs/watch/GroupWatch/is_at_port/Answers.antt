@@ -1,6 +1,6 @@
 -- The master that has the source, and the port of its requests.
 use Rattle.std.proofs.Common.{◌≡◌, ◌∙◌, ℕ, List, Option, None, Some, ap, eqb-true, eq-eqb, subst, sym}
-use Rattle.tl_map.specs.Owner.{IsOf, IsWideSource}
+use Rattle.tl_map.specs.Owner.{IsWideSource}
 use Rattle.tl_map.specs.declared.owners.Owner.{Owner}
 use Rattle.check_watch.specs.Plan.{RoutesAt}
 use Rattle.check_watch.specs.View.{GroupView}

@@ -1,6 +1,5 @@
-use Rattle.std.proofs.Common.{◌≡◌, ◌∙◌, ℕ, ap, subst, sym}
-use Rattle.check_watch.specs.declared.beat.Link.TheVariants.{Master}
-use Rattle.check_watch.specs.Plan.{RoutesAt, link_number}
+use Rattle.std.proofs.Common.{◌≡◌, ◌∙◌, ap, sym}
+use Rattle.check_watch.specs.Plan.{link_number}
 use Rattle.check_watch.proofs.watch.GroupWatch.port.Goals as goal
 
 pub returns-in-Master-clause-master : goal.returns-in-Master-clause-master

@@ -1,15 +1,14 @@
 -- No clock has an edge outside of reset.
-use Rattle.std.proofs.Common.{◌≡◌, Some, append-nil, false, is_some, refl, rules, sym}
+use Rattle.std.proofs.Common.{◌≡◌, append-nil, false, is_some, refl, rules, sym}
 use Rattle.std.specs.List.{list_any}
 use Rattle.check_samples.specs.Rows.{no_rows}
-use Rattle.check_samples.specs.Sampling.{dues_of, rows_now}
+use Rattle.check_samples.specs.Sampling.{beat_rows, dues_of}
 use Rattle.check_samples.proofs.WatchedLemmas.{rows-idle}
-use Rattle.check_samples.proofs.sampler.Sampler.push_rows.Goals as goal
+use Rattle.check_samples.proofs.sampler.Sampler.push_beats.Goals as goal
 
 pub returns-then-not-note_dues-clause-writes : goal.returns-then-not-note_dues-clause-writes
 returns-then-not-note_dues-clause-writes c =
     let s = c.args.self.now in
-    let is : s.time ≡ Some c.in-Some.time = search rules in
     let none : list_any (λ due. is_some due) (dues_of s.before s.now s.watched) ≡ false = search rules in
-    let idle : rows_now s ≡ no_rows = rows-idle s c.in-Some.time is none in
+    let idle : beat_rows c.args.time s ≡ no_rows = rows-idle s c.args.time none in
     rw idle (sym (append-nil c.args.text.now.items), refl)

@@ -1,0 +1,87 @@
+//! Resets of the whole system, as a judge takes them.
+ghost use Rattle.std.specs.Prelude.{◌≡◌, ◌≢◌, ◌↔◌, List, IfOk, IsTrue, None, OnOk, Some, false};
+ghost use Rattle.tl_c.specs.Calls.{HoldsJudge, IsJudge};
+ghost use Rattle.tl_c.specs.Judging.{IsAfterReset, KeepsAtReset};
+ghost use Rattle.tl_c.specs.declared.held.HeldJudge.{HeldJudge};
+ghost use Rattle.tl_c.specs.declared.held.HandleContent.TheVariants as held;
+ghost use Rattle.check_watch.specs.Plan.{Sighting};
+ghost use Rattle.check_sides.specs.Groups.{are_apart};
+ghost use Rattle.check_sides.specs.Plan.{Plan};
+ghost use Rattle.check_sides.specs.View.{Keeps};
+
+use crate::fault::{EMPTY, MEMORY, NO_LINK, OK};
+use crate::handle::Handle;
+use crate::held::{HandleContent, HeldJudge};
+use crate::system::take;
+use check_memory::Slave;
+use check_sides::Links;
+use std::alloc::{AllocError, Global};
+
+/// What a reset loads into the slaves of ports' links that are judged each by itself; nothing if none is.
+fn own_loads(alloc: Global, judge: &HeldJudge) -> Result<Vec<Option<Slave>>, AllocError>
+    ensures { IfOk result (λ own. IsTrue (are_apart judge.now.watch.layout.links) → own.items ≡ judge.now.loads) }
+{
+    match judge.watch.links() {
+        Links::Each => judge.loads.make(alloc),
+        Links::Both | Links::Masters | Links::Ports => Ok(Vec::new(alloc)),
+    }
+}
+
+/// The judge goes on after a reset of the whole system. Memory may be refused: then nothing is promised of what is kept
+/// from then on.
+fn go_on(alloc: Global, judge: &mut HeldJudge) -> Result<(), AllocError>
+    ensures reset { (plan : Plan) (past : List Sighting) → Keeps plan past judge.old.watch
+        → OnOk result (IsAfterReset plan past judge.old judge.new) }
+    ensures kept { OnOk result (KeepsAtReset judge.old judge.new) }
+{
+    let loaded = judge.loads.make(alloc)?;
+    let own = own_loads(alloc, judge)?;
+    judge.watch.reset(alloc, loaded, own)?;
+    judge.pending.reset();
+    Ok(())
+}
+
+/// Resets a judge, if its system has resets.
+fn reset(alloc: Global, judge: &mut HeldJudge) -> u32
+    ensures link { result ≡ NO_LINK ↔ (judge.old.resets ≡ false) }
+    ensures reset { (plan : Plan) (past : List Sighting) → Keeps plan past judge.old.watch → result ≡ OK
+        → IsAfterReset plan past judge.old judge.new }
+    ensures kept { result ≡ OK → KeepsAtReset judge.old judge.new }
+    ensures same { result ≡ NO_LINK → judge.new ≡ judge.old }
+    ensures answers { result ≢ OK → result ≢ NO_LINK → result ≡ MEMORY }
+{
+    if !judge.resets {
+        return NO_LINK;
+    }
+    match go_on(alloc, judge) {
+        Ok(()) => OK,
+        Err(_) => MEMORY,
+    }
+}
+
+/// `tlx_judge_reset_at` of the header: the whole system is reset. If memory is refused, the handle holds nothing.
+#[unsafe(no_mangle)]
+pub extern "C" fn tlx_judge_reset_at(alloc: Global, judge: &mut Handle) -> u32
+    ensures empty { result ≡ EMPTY ↔ (IsJudge judge.old.value → ⊥) }
+    ensures link { result ≡ NO_LINK ↔ HoldsJudge (λ old. old.resets ≡ false) judge.old.value }
+    ensures reset { (plan : Plan) (past : List Sighting) (j : HeldJudge) → judge.old.value ≡ Some (held.Judge j)
+        → Keeps plan past j.watch → result ≡ OK → HoldsJudge (IsAfterReset plan past j) judge.new.value }
+    ensures kept { result ≡ OK
+        → HoldsJudge (λ old. HoldsJudge (KeepsAtReset old) judge.new.value) judge.old.value }
+    ensures memory { result ≡ MEMORY → judge.new.value ≡ None }
+    ensures same { result ≢ OK → result ≢ MEMORY → judge.new.value ≡ judge.old.value }
+    ensures answers { result ≢ OK → result ≢ EMPTY → result ≢ NO_LINK → result ≡ MEMORY }
+{
+    let Some(mut held) = take(alloc, judge) else {
+        return EMPTY;
+    };
+    let number = match &mut *held {
+        HandleContent::Judge(held) => reset(alloc, held),
+        HandleContent::System(_) | HandleContent::Draft(_) | HandleContent::Model(_) => EMPTY,
+    };
+    // what memory was refused to is no judge any more
+    if number != MEMORY {
+        *judge = Handle::of(held);
+    }
+    number
+}
