@@ -165,5 +165,5 @@ row-spelled resets masters ports line time link which seen t l c w3 w4 w5 w6 w7 
 -- a reset is read where there are resets
 pub reset-spelled : (masters ports : List Bus) (line time : ℕ) (t : List ℕ) → decimal_of (2 ^ 64 - 1) t ≡ Ok time
     → row_of true masters ports line (t ∷ reset_words) ≡ Ok (reset_on_line line time)
-unfolding row_of row_at field_at link_of
+unfolding row_of row_or_reset field_at link_of
 reset-spelled masters ports line time t is = rw is refl
