@@ -26,7 +26,8 @@ struct watch {
   int links;           /* enum tlx_links */
   uint64_t count;      /* the beats that were handed over, watched or not */
   uint64_t resets;     /* the resets of the whole system */
-  int is_reset;        /* whether it is reset in the cycle that is under way */
+  int is_reset;        /* whether it is reset in the cycle that is under way, and the time */
+  uint64_t reset_time;
   char text[MAX_TEXT]; /* what is wrong, or the counts at the end; empty until then */
   size_t held;
   struct tlx_beat beats[MAX_BEATS];
@@ -202,9 +203,11 @@ void tl_judge_unknown(int judge, const char *link, unsigned long long time, cons
 }
 
 /* The whole system is reset at this edge. */
-void tl_judge_reset(int judge) {
+void tl_judge_reset(int judge, unsigned long long time) {
   struct watch *watch = watch_of(judge);
-  if (watch) watch->is_reset = 1;
+  if (!watch) return;
+  watch->is_reset = 1;
+  watch->reset_time = time;
 }
 
 /* A beat's turn within its cycle: A of the masters' links, A of the ports', D of the ports', D of the masters'. */
@@ -226,7 +229,7 @@ static void reset(struct watch *watch) {
   uint32_t fault = tlx_judge_reset(&watch->judge);
   if (fault == TLX_OK) return;
   if (fault != TLX_NO_LINK) tlx_fault_text(fault, why, sizeof why);
-  snprintf(watch->text, MAX_TEXT, "judge: the system is reset: %s\n", why);
+  snprintf(watch->text, MAX_TEXT, "judge: reset, time %" PRIu64 ": %s\n", watch->reset_time, why);
 }
 
 /* Judges a beat. Its line is the one that it has in a capture whose rows stand in the order of turns, after the header. */
