@@ -52,7 +52,8 @@ CELLS = ["0", "1", "2", "3", "4", "7", "8", "9", "10", "256", "65536", "m0", "m1
 
 def examples():
     """The text of each example of a capture, with that of its system."""
-    paths = [os.path.join(TOP, "examples", folder) for folder in ("captures", "systems/application_processor", "systems/microcontroller")]
+    systems = os.path.join(TOP, "examples", "systems")
+    paths = [os.path.join(TOP, "examples", "captures"), *(os.path.join(systems, name) for name in sorted(os.listdir(systems)))]
     fronts = [os.path.join(path, name[:-4]) for path in paths for name in sorted(os.listdir(path)) if name.endswith(".csv")]
     return [(read(system_of(front)), read(front + ".csv")) for front in fronts]
 

@@ -25,6 +25,9 @@ struct watch {
   struct tlx_judge judge;
   int links;           /* enum tlx_links */
   uint64_t count;      /* the beats that were handed over, watched or not */
+  uint64_t resets;     /* the resets of the whole system */
+  int is_reset;        /* whether it is reset in the cycle that is under way, and the time */
+  uint64_t reset_time;
   char text[MAX_TEXT]; /* what is wrong, or the counts at the end; empty until then */
   size_t held;
   struct tlx_beat beats[MAX_BEATS];
@@ -199,6 +202,14 @@ void tl_judge_unknown(int judge, const char *link, unsigned long long time, cons
   snprintf(watch->text, MAX_TEXT, "judge: link %s, channel %s, time %llu: a field is unknown\n", link, channel, time);
 }
 
+/* The whole system is reset at this edge. */
+void tl_judge_reset(int judge, unsigned long long time) {
+  struct watch *watch = watch_of(judge);
+  if (!watch) return;
+  watch->is_reset = 1;
+  watch->reset_time = time;
+}
+
 /* A beat's turn within its cycle: A of the masters' links, A of the ports', D of the ports', D of the masters'. */
 static int turn_of(const struct tlx_beat *beat) {
   if (beat->channel == TLX_A) return beat->side == TLX_MASTER ? 0 : 1;
@@ -211,10 +222,20 @@ static int compare(const void *one, const void *other) {
   return a->number < b->number ? -1 : a->number > b->number;
 }
 
+/* Tells the judge of a reset, which has a row of its own in a capture. */
+static void reset(struct watch *watch) {
+  char why[MAX_TEXT / 2] = "the system file does not say `resets = true`";
+  watch->resets++;
+  uint32_t fault = tlx_judge_reset(&watch->judge);
+  if (fault == TLX_OK) return;
+  if (fault != TLX_NO_LINK) tlx_fault_text(fault, why, sizeof why);
+  snprintf(watch->text, MAX_TEXT, "judge: reset, time %" PRIu64 ": %s\n", watch->reset_time, why);
+}
+
 /* Judges a beat. Its line is the one that it has in a capture whose rows stand in the order of turns, after the header. */
 static void step(struct watch *watch, struct tlx_beat *beat) {
   char why[MAX_TEXT / 2];
-  beat->line = ++watch->count + 1;
+  beat->line = ++watch->count + watch->resets + 1;
   if (watch->links == (beat->side == TLX_MASTER ? TLX_PORT_LINKS : TLX_MASTER_LINKS)) return;
   uint32_t fault = tlx_judge_step(&watch->judge, beat);
   if (fault >= TLX_FIELD_CHANGED) {
@@ -225,10 +246,12 @@ static void step(struct watch *watch, struct tlx_beat *beat) {
   }
 }
 
-/* Judges the beats of the cycle that ends; 1 if something is wrong, now or before. */
+/* Judges the beats of the cycle that ends, before which a reset crosses; 1 if something is wrong, now or before. */
 int tl_judge_cycle(int judge) {
   struct watch *watch = watch_of(judge);
   if (!watch) return 1;
+  if (watch->is_reset && !watch->text[0]) reset(watch);
+  watch->is_reset = 0;
   qsort(watch->beats, watch->held, sizeof *watch->beats, compare);
   for (size_t k = 0; k < watch->held && !watch->text[0]; k++) step(watch, &watch->beats[k]);
   watch->held = 0;

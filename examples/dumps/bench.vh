@@ -1,4 +1,4 @@
-// What each bench of this folder has: a clock, a reset that begins in mid-time and comes once more, a capture, a dump, and an end.
+// What each bench of this folder has: a clock, a reset that it begins with, a capture, a dump, and an end.
 reg clk = 0, reset = 1;
 always #5 clk = !clk;
 integer file;

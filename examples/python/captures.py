@@ -6,6 +6,7 @@ of its name (narrow.toml), or else system.toml. One whose verdict is about its t
 """
 
 import csv
+import itertools
 import pathlib
 import sys
 
@@ -13,6 +14,7 @@ import tlx
 from tally import Tally
 
 ALL_KNOWN = (1 << 64) - 1
+RESET = "reset"
 CROSSING = {("A", "m"): 0, ("A", "p"): 1, ("D", "p"): 2, ("D", "m"): 3}
 
 
@@ -25,7 +27,7 @@ def lanes_of(word):
 
 
 def rows_of(path):
-    """The beats of a capture in the order in which they cross, with the line of each."""
+    """The beats and resets of a capture in the order in which they cross, each beat with its line."""
     with open(path, encoding="utf-8-sig", newline="") as file:
         reader = csv.reader(file)
         next(reader)
@@ -34,8 +36,14 @@ def rows_of(path):
         for row in reader:
             if row:
                 rows.append((reader.line_num, row))
-    rows.sort(key=lambda found: (int(found[1][0]), CROSSING[found[1][2], found[1][1][0]], int(found[1][1][1:])))
-    return [beat_of(line, row) for line, row in rows]
+    rows.sort(key=lambda found: turn_of(found[1]))
+    return [RESET if row[1] == RESET else beat_of(line, row) for line, row in rows]
+
+
+def turn_of(row):
+    """Where a row stands in the order in which beats and resets cross."""
+    time, link, channel = row[:3]
+    return (int(time), -1, 0) if link == RESET else (int(time), CROSSING[channel, link[0]], int(link[1:]))
 
 
 def beat_of(line, row):
@@ -48,19 +56,31 @@ def beat_of(line, row):
                     number, int(param or 0), denied == "1", marked == "1", known, line, int(time))
 
 
+def hand_in(judge, beats, is_array):
+    """Gives the judge these beats and resets: the beats between two resets one by one, or as one array."""
+    for is_reset, part in itertools.groupby(beats, lambda beat: beat is RESET):
+        if is_reset:
+            for _ in part:
+                judge.reset()
+        elif is_array:
+            judge.steps(tlx.Beats(list(part)))
+        else:
+            for beat in part:
+                judge.step(beat)
+
+
+def is_watched(judge, beat):
+    return beat is RESET or judge.links in ("both", "each") or (judge.links == "masters") == (beat.side == tlx.Side.MASTER)
+
+
 def verdict_of(judge, beats, is_array, is_complete):
     """The line that tlcheck prints of these beats; those of links that are not watched are counted alone."""
-    watched = [beat for beat in beats if judge.links in ("both", "each") or (judge.links == "masters") == (beat.side == tlx.Side.MASTER)]
     try:
-        if is_array:
-            judge.steps(tlx.Beats(watched))
-        else:
-            for beat in watched:
-                judge.step(beat)
+        hand_in(judge, [beat for beat in beats if is_watched(judge, beat)], is_array)
         if is_complete:
             judge.end()
     except tlx.Unlawful as found:
-        is_beat = (found.line, found.time) in {(beat.line, beat.time) for beat in beats}
+        is_beat = (found.line, found.time) in {(beat.line, beat.time) for beat in beats if beat is not RESET}
         return (found.text if is_beat else f"of another beat: {found.text}"), found
     except tlx.Incomplete as left:
         return left.text, None

@@ -109,6 +109,12 @@ class Folder:
         return cell.replace("HOST", f"({hosts})").replace("PORT", f"({ports})")
 
 
+def is_lawful(verdict):
+    """A capture is lawful that has requests. With --complete all are answered then, but for those that a reset has cut short."""
+    told = rtl.LAWFUL.fullmatch(verdict)
+    return told is not None and int(told[2]) > 0
+
+
 def told_of(verdict):
     """A verdict as the table has it: the link, the channel and the fault; `incomplete`; or `lawful`."""
     named = UNLAWFUL.fullmatch(verdict)
@@ -116,7 +122,7 @@ def told_of(verdict):
         return f"{named[3]} {named[4]}"
     if verdict.startswith("incomplete: "):
         return "incomplete"
-    return "lawful" if rtl.is_whole(verdict) else verdict
+    return "lawful" if is_lawful(verdict) else verdict
 
 
 def table_of(path):
@@ -147,7 +153,7 @@ def check_design(folder, pool, name, defines, lawful):
     runs = [*pool.map(lambda seed: (seed, *judge_design(folder, bench, seed)), SEEDS)]
     for seed, capture, verdicts in runs:
         for view, order in lawful:
-            rtl.tell(f"{name}, seed {seed}, links {view}, order {order}: {verdicts[view, order]}", rtl.is_whole(verdicts[view, order]))
+            rtl.tell(f"{name}, seed {seed}, links {view}, order {order}: {verdicts[view, order]}", is_lawful(verdicts[view, order]))
         if seed in DUMPED_SEEDS:
             rtl.compare_dump(f"{name}, seed {seed}", folder.system, rtl.dump_of(capture), capture)
     for key in {(view, order) for view in VIEWS for order in ORDERS} - set(lawful):
