@@ -76,3 +76,16 @@ kept_unwatched earlier plan before row tally other kept =
       };
       pending = subst R (sym (watched_other plan.layout row before other)) kept.pending;
     }
+
+unasked : (pending : Option PendingView) (P : PendingView → Type 0) → is_some pending ≡ false → IfSome pending P
+unasked None P none = tt
+unasked (Some one) P none = absurd (cc)
+
+-- a row that is taken where it is not asked which requests are left
+pub kept_unasked : (earlier : Earlier) (plan : Plan) (before : List SeenRow) (row : SeenRow) (old new : Tally)
+    → is_some old.pending ≡ false → new.pending ≡ old.pending → Tallied earlier plan (row ∷ before) new
+    → Kept earlier plan (row ∷ before) new
+kept_unasked earlier plan before row old new none same tallied = record {
+  tallied = tallied;
+  pending = unasked new.pending (Holds plan (watched plan.layout (row ∷ before))) (ap is_some same ∙ none);
+}

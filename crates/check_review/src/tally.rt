@@ -399,6 +399,10 @@ impl Tally {
         if !self.watch.watches(row.link) {
             return Ok(true);
         }
+        // most runs don't ask for the requests in flight
+        if self.pending.is_none() {
+            return self.take_row(alloc, row, lanes);
+        }
         let change = self.change(row);
         if !self.take_row(alloc, row, lanes)? {
             return Ok(false);

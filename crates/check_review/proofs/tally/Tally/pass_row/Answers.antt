@@ -1,9 +1,10 @@
 -- What is kept after a row that is taken quietly, and of its request.
-use Rattle.std.proofs.Common.{◌≡◌, ◌∙◌, ◌∷◌, false, sym, subst}
+use Rattle.std.proofs.Common.{◌≡◌, ◌∙◌, ◌∷◌, false, not, ap, sym, subst}
 use Rattle.check_unanswered.specs.Began.{row_with}
 use Rattle.check_sides.specs.Plan.{HasLink, IsWatched, Layout}
 use Rattle.check_review.specs.Order.{is_watched, sightings_of, watched}
-use Rattle.check_review.proofs.Leaving.{kept_noted, kept_unwatched}
+use Rattle.check_review.proofs.Keeping.{on_true}
+use Rattle.check_review.proofs.Leaving.{kept_noted, kept_unasked, kept_unwatched}
 use Rattle.check_review.proofs.Watched.{watched_is, watches_by}
 use Rattle.check_review.proofs.tally.Tally.pass_row.Goals as goal
 
@@ -11,7 +12,7 @@ pub returns-clause-keeps : goal.returns-clause-keeps
 returns-clause-keeps c earlier plan before kept = λ _.
     let row = row_with c.args.row.now c.args.lanes.now in
     let P : Layout → Type 0 = λ l. HasLink l row.sighting.link × IsWatched l.links row.sighting.link in
-    kept_noted earlier plan before row c.args.self.now c.take_row.new.self c.note.new.self c.change-change.result kept (record {
+    kept_noted earlier plan before row c.args.self.now c.take_row-2.new.self c.note.new.self c.change-change.result kept (record {
       here = (watched_is plan.layout row.sighting.link).1
           (subst P kept.tallied.keeps.suits.layout (c.watches.ensures.0 c.if-not-watches.false));
       tallied = c.in_ok-take_row.ensures.keeps earlier plan before kept.tallied c.if-not-branch.false;
@@ -30,3 +31,11 @@ returns-then-not-watches-clause-keeps c earlier plan before kept = λ _.
     subst (λ l. is_watched l row.sighting.link ≡ false) kept.tallied.keeps.suits.layout
     (sym (watches_by tally.watch.layout row.sighting.link c.watches.result c.watches.ensures) ∙ c.if-not-watches.true) in
     kept_unwatched earlier plan before row tally other kept
+
+pub returns-then-is_none-clause-keeps : goal.returns-then-is_none-clause-keeps
+returns-then-is_none-clause-keeps c earlier plan before kept =
+    let row = row_with c.args.row.now c.args.lanes.now in
+    on_true c.take_row.result _ _
+    (kept_unasked earlier plan before row c.args.self.now c.take_row.new.self (c.is_none.ensures ∙ ap not c.if-is_none.true)
+    c.take_row.ensures.pending)
+    (c.take_row.ensures.keeps earlier plan before kept.tallied)
