@@ -19,13 +19,14 @@ use Rattle.check_review.specs.declared.stop.Refusal.TheVariants as refusal
 use Rattle.check_review.specs.declared.stop.Stop.TheVariants as stop
 use Rattle.check_review.specs.declared.stop.Unlawful.{Unlawful}
 use Rattle.check_review.specs.declared.tally.Tally.{Tally}
-use Rattle.check_review.specs.Stretches.{Stretches, IsLawfulStretch, Stretch, stretches}
+use Rattle.check_review.specs.Stretches.{AreStretches, GoOnWith, Stretches, Stretch, stretches}
 use Rattle.check_review.specs.Order.{CrossesBefore, IsCrossing, IsLater, NeverFalls, HasRowFault, sightings_of}
 use Rattle.check_review.specs.Told.{IsToldOfAll}
 use Rattle.check_review.specs.View.{HasTold, JudgeView, Judges, KeepsOn, KeptIn, TellsOn, TellsStop, is_traced}
 use Rattle.check_review.specs.Verdict.{IsLawfulFile, IsFirstUnlawful, IsUnlawfulAfter, IsStop, IsToldBefore, IsToldEarlier, IsToldFile, IsToldPart, MayWantAmong, MayWantMemory, OfUnlawful, StopsAt, StopsTelling, stop_of}
-use Rattle.check_review.proofs.Stretching.{course_none, one_stretch}
-use Rattle.check_review.proofs.Watched.{seen_one, lawful_rest}
+use Rattle.check_review.proofs.OneCourse.{lawful_before, one_course}
+use Rattle.check_review.proofs.Stretching.{course_none}
+use Rattle.check_review.proofs.Watched.{seen_one}
 use Rattle.check_review.proofs.Ordered.{all_weaker, in_order_rest, in_order_onto, reversed_middle}
 use Rattle.check_review.proofs.Unique.{crossing_is_unique}
 
@@ -271,39 +272,21 @@ may_want wants plan file judge judges want =
       is = want.is;
     }
 
-plain_rest : (after before : List SeenRow) → AllByRecursion (λ row. row.is_reset ≡ false) (after ++ before)
-    → AllByRecursion (λ row. row.is_reset ≡ false) before
-plain_rest [] before plain = plain
-plain_rest (row ∷ after) before plain = plain_rest after before plain.1
-
--- rows of a file that cross before others of it are no reset, if none of the file is
-plain_before : (file after before : List SeenRow) → AllByRecursion (λ row. row.is_reset ≡ false) file
-    → IsPermutation file (after ++ before) → AllByRecursion (λ row. row.is_reset ≡ false) before
-plain_before file after before plain same =
-    let P : SeenRow → Type 0 = λ row. row.is_reset ≡ false in
-    plain_rest after before (recursion_from_All P (after ++ before)
-    (All-permutation P file (after ++ before) same (All-from_recursion P file plain)))
-
--- a file without a reset that has such a row is not lawful
-pub not_lawful : (plan : SystemPlan) (file : List SeenRow) (found : Unlawful)
-    → AllByRecursion (λ row. row.is_reset ≡ false) file → IsFirstUnlawful plan file found → IsLawfulFile plan file → ⊥
-not_lawful plan file found plain first whole =
+-- a file that has such a row is not lawful
+pub not_lawful : (plan : SystemPlan) (file : List SeenRow) (found : Unlawful) → IsFirstUnlawful plan file found
+    → IsLawfulFile plan file → ⊥
+not_lawful plan file found first whole =
     let same : whole.crossed ≡ first.after ++ first.row ∷ first.before =
     crossing_is_unique file whole.crossed (first.after ++ first.row ∷ first.before) whole.crossing first.crossing in
-    let all = one_stretch plan whole.crossed whole.course.now whole.course.ended
-    (plain_before file [] whole.crossed plain whole.crossing.same) whole.course.are in
-    let here = one_stretch plan first.before first.course.now first.course.ended
-    (plain_before file (first.after ++ first.row ∷ []) first.before plain
-    (subst (IsPermutation file) (sym (append_assoc first.after (first.row ∷ []) first.before)) first.crossing.same))
-    first.course.are in
-    let begins = plan.begins in
-    let lawful : IsLawful begins (sightings_of begins.layout whole.crossed) = subst IsLawfulStretch all.0 whole.lawful in
-    let P : List SeenRow → Type 0 = λ l. IsLawful begins (sightings_of begins.layout l) in
-    let rest : IsLawful begins (sightings_of begins.layout (first.row ∷ first.before)) =
-    lawful_rest begins first.after (first.row ∷ first.before) (subst P same lawful) in
-    let unlawful : IsUnlawfulAfter (record { plan = begins; rows = first.before }) first.row found =
-    subst (λ (s : Stretch). IsUnlawfulAfter s first.row found) here.0 first.is in
-    unlawful.unlawful (subst (IsLawful begins) (seen_one begins.layout first.row first.before unlawful.watched) rest)
+    let are = subst (λ l. AreStretches plan l whole.course.now whole.course.ended) same whole.course.are in
+    let last = lawful_before plan first.after (first.row ∷ first.before) whole.course.now whole.course.ended are whole.lawful in
+    let on = subst (λ b. GoOnWith b plan first.row (AreStretches plan first.before) last.0 last.1) first.beat last.2 in
+    let now : Stretch = record last.0 { rows = on.0 } in
+    let here = one_course plan first.before now first.course.now last.1 first.course.ended on.2 first.course.are in
+    let unlawful : IsUnlawfulAfter now first.row found =
+    subst (λ (s : Stretch). IsUnlawfulAfter s first.row found) (sym here.0) first.is in
+    unlawful.unlawful (subst (IsLawful now.plan) (seen_one now.plan.layout first.row on.0 unlawful.watched)
+    (subst (λ l. IsLawful now.plan (sightings_of now.plan.layout l)) on.1 last.3))
 
 -- ---- what is told
 
@@ -400,13 +383,11 @@ told_file plan file judge tally so_far now next has on = (
   },
 )
 
--- rows without a reset that are refused, but not for want of memory, are not lawful
+-- rows that are refused, but not for want of memory, are not lawful
 pub refused_is_not_lawful : (plan : SystemPlan) (file : List SeenRow) (why : Refusal)
-    → AllByRecursion (λ row. row.is_reset ≡ false) file → OfUnlawful (IsFirstUnlawful plan file) why
-    → (why ≡ refusal.Memory → ⊥) → IsLawfulFile plan file → ⊥
-refused_is_not_lawful plan file (refusal.Unlawful found) plain first other lawful =
-    not_lawful plan file found plain first lawful
-refused_is_not_lawful plan file refusal.Memory plain first other lawful = other refl
+    → OfUnlawful (IsFirstUnlawful plan file) why → (why ≡ refusal.Memory → ⊥) → IsLawfulFile plan file → ⊥
+refused_is_not_lawful plan file (refusal.Unlawful found) first other lawful = not_lawful plan file found first lawful
+refused_is_not_lawful plan file refusal.Memory first other lawful = other refl
 
 -- what becomes of a row of a later time where those before it are refused, and what is told then
 pub stops_so : (plan : SystemPlan) (file : List SeenRow) (row : SeenRow) (why : Refusal) → IsLater file row

@@ -10,3 +10,4 @@ pub mod Resetting
 pub mod Judging
 pub mod Counting
 pub mod Covering
+pub mod OneCourse

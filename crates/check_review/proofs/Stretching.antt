@@ -96,21 +96,6 @@ same_mirrors system (row ∷ before) now ended are =
     mirrors_after row.is_reset system row (AreStretches system before) now ended
     (λ last others is. same_mirrors system before last others is) are
 
--- ---- rows without a reset are one stretch
-
-pub one_stretch : (system : SystemPlan) (crossed : List SeenRow) (now : Stretch) (ended : List Stretch)
-    → AllByRecursion (λ row. row.is_reset ≡ false) crossed → AreStretches system crossed now ended
-    → (now ≡ record { plan = system.begins; rows = crossed }) × (ended ≡ [])
-one_stretch system [] now ended plain are = are
-one_stretch system (row ∷ before) now ended plain are =
-    let on = subst (λ b. GoOnWith b system row (AreStretches system before) now ended) plain.0 are in
-    let rest = one_stretch system before (record now { rows = on.0 }) ended plain.1 on.2 in
-    let plan : now.plan ≡ system.begins = ap (λ (s : Stretch). s.plan) rest.0 in
-    let rows : now.rows ≡ row ∷ before = on.1 ∙ ap (λ l. row ∷ l) (ap (λ (s : Stretch). s.rows) rest.0) in (
-      (λ i. record { plan = plan i; rows = rows i }),
-      rest.1,
-    )
-
 -- ---- what is told
 
 pub grows_nothing : (trace : Bool) (all : List Stretch) (text : List ℕ) → GrowsTold trace all all text text

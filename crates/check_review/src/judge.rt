@@ -1,6 +1,5 @@
 //! The judge of the rows of a file.
 ghost use Rattle.std.specs.Prelude.{◌≡◌, ◌+◌, ◌%◌, ◌^◌, ◌<◌, ◌≤◌, ℕ, true, false, List, [], ◌∷◌, ◌++◌, Err, is_some, length, IsOk, IfOk, OnOk, OnErr, IfErr, IfSome};
-ghost use Rattle.std.specs.List.{AllByRecursion};
 ghost use Rattle.tl_text.specs.Text.{BeginsWith};
 ghost use Rattle.check_beats.specs.Bus.{bus_bytes};
 ghost use Rattle.check_sides.specs.Plan.{bus_of};
@@ -235,8 +234,7 @@ impl Judge {
         ensures lawful { (plan : SystemPlan) (file : List SeenRow) → Judges plan file self.old
             → OnOk result (IsLawfulFile plan file) }
         ensures taken { (plan : SystemPlan) (file : List SeenRow) → Judges plan file self.old
-            → AllByRecursion (λ row. row.is_reset ≡ false) file → (result ≡ Err Refusal.Memory → ⊥)
-            → IsLawfulFile plan file → IsOk result }
+            → (result ≡ Err Refusal.Memory → ⊥) → IsLawfulFile plan file → IsOk result }
         ensures counts { (plan : SystemPlan) (file : List SeenRow) → Judges plan file self.old
             → IfOk result (λ ending. HasCounts plan file ending.counts) }
         ensures left { (plan : SystemPlan) (file : List SeenRow) → Judges plan file self.old

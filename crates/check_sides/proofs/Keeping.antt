@@ -63,7 +63,7 @@ module _ (view now : View) (port : ℕ) (link : Link) (same : view ≡ now) (her
     -- what is read there stands there
     pub found_before : slice_get view.ports port ≡ Some one
     found_before =
-        let room : length view.layout.ports ≤ length view.ports =
+        let room : length view.ports ≡ length view.layout.ports =
         sized.ports (apart_from view.layout.links (Port port) alone_before) in
         let inside : port < length view.layout.ports =
         subst (λ (v : View). HasLink v.layout (Port port)) (sym same)

@@ -9,3 +9,4 @@ mod Keeping
 pub mod Fresh
 mod Restarting
 mod Changes
+mod OneReset

@@ -1,6 +1,7 @@
 -- Ports' links that are judged each by itself, as they are reset one after the other, and what is kept of all links then.
-use Rattle.std.proofs.Common.{◌≡◌, ◌∙◌, ◌⊎◌, inl, inr, ⊎_elim, ℕ, zero, suc, ◌+◌, ◌<◌, ◌≤◌, List, [], ◌∷◌, length, map, set, get_or, slice_get, Option, Some, refl, sym, ap, subst, arith, length-set}
+use Rattle.std.proofs.Common.{◌≡◌, ◌∙◌, ◌⊎◌, inl, inr, ⊎_elim, ℕ, zero, suc, ◌+◌, ◌<◌, ◌≤◌, Bool, true, false, List, [], ◌∷◌, length, map, set, get_or, slice_get, Option, Some, refl, sym, ap, subst, arith, length-set}
 use Rattle.std.specs.Prelude.{IsTrue}
+use Rattle.std.proofs.lemmas.List.{length-map}
 use Rattle.tl_types.proofs.Lists.{slice_get-set_same, slice_get-set_other}
 use Rattle.check_beats.specs.declared.bus.Bus.{Bus}
 use Rattle.tl_types.specs.Request.{Request}
@@ -168,51 +169,82 @@ slave_of [] port link is = cc
 slave_of (first ∷ links) zero link is = ap (λ (v : PortView). v.slave) (some_same first link is)
 slave_of (first ∷ links) (suc port) link is = slave_of links port link is
 
+-- the slaves of links by themselves: those of the links if they are judged so, else what stood there
+abbrev pub own_then : Bool → List PortSlave → List PortSlave → List PortSlave
+own_then true of_links were = of_links
+own_then false of_links were = were
+
+own_apart : (apart : Bool) (of_links were : List PortSlave) → IsTrue apart → own_then apart of_links were ≡ of_links
+own_apart true of_links were is = refl
+own_apart false of_links were is = absurd (cc)
+
+own_together : (apart : Bool) (of_links were : List PortSlave) → apart ≡ false → own_then apart of_links were ≡ were
+own_together true of_links were never = absurd (cc)
+own_together false of_links were never = refl
+
 module _ (plan : Plan) (past : List Sighting) (old new : View) (keeps : Keeps plan past old) (sized : IsSized old)
     (loaded own : List (Option Slave)) (resets : List PortSlave) (layout : new.layout ≡ old.layout)
     (counted : length new.ports ≡ length old.ports) (links : AreResetLinks old.ports own new.ports) where
+  abbrev pub own_after : List PortSlave
+  own_after = own_then (are_apart plan.layout.links) (slaves_of new.ports) plan.own
+
+  are_own : IsTrue (are_apart plan.layout.links) → own_after ≡ slaves_of new.ports
+  are_own apart = own_apart (are_apart plan.layout.links) (slaves_of new.ports) plan.own apart
+
+  all_there : IsTrue (are_apart plan.layout.links) → length old.ports ≡ length plan.layout.ports
+  all_there apart =
+      sized.ports (subst (λ (l : Layout). IsTrue (are_apart l.links)) (sym keeps.suits.layout) apart)
+      ∙ ap (λ (l : Layout). length l.ports) keeps.suits.layout
+
+  own_reset : IsTrue (are_apart plan.layout.links) → (port : ℕ) → port < length plan.layout.ports
+      → IsResetLink (port_plan plan) port (group.state (port_plan plan) (port_past port past)) (loaded_at own port)
+      (slave_at own_after port)
+  own_reset apart port known =
+      let all = all_there apart in
+      let link = some_there old.ports port (omega (arith, known, all)) in
+      let later = some_there new.ports port (omega (arith, known, all, counted)) in
+      subst (λ (s : PortSlave). IsResetLink (port_plan plan) port
+      (group.state (port_plan plan) (port_past port past)) (loaded_at own port) s)
+      (sym (ap (λ (s : List PortSlave). slave_at s port) (are_own apart) ∙ slave_of new.ports port later.0 later.1))
+      (link_reset plan port (port_past port past) link.0 known (keeps.ports apart port link.0 link.1)
+      (loaded_at own port) later.0 (links port link.0 later.0 link.1 later.1))
+
   pub is_reset : AreReset plan (group.state plan (shared_past plan.layout.links past)) loaded resets
-      → IsReset plan past loaded own resets (slaves_of new.ports)
+      → IsReset plan past loaded own resets own_after
   is_reset shared = record {
     shared = shared;
-    apart = λ apart port known.
-        let in_old : port < length old.layout.ports =
-        subst (λ (l : Layout). port < length l.ports) (sym keeps.suits.layout) known in
-        let fits : length old.layout.ports ≤ length old.ports =
-        sized.ports (subst (λ (l : Layout). IsTrue (are_apart l.links)) (sym keeps.suits.layout) apart) in
-        let link = some_there old.ports port (omega (arith, in_old, fits)) in
-        let later = some_there new.ports port (omega (arith, in_old, fits, counted)) in
-        subst (λ (s : PortSlave). IsResetLink (port_plan plan) port
-        (group.state (port_plan plan) (port_past port past)) (loaded_at own port) s)
-        (sym (slave_of new.ports port later.0 later.1))
-        (link_reset plan port (port_past port past) link.0 known (keeps.ports apart port link.0 link.1)
-        (loaded_at own port) later.0 (links port link.0 later.0 link.1 later.1));
+    apart = λ apart. record {
+      counted = ap (λ (s : List PortSlave). length s) (are_own apart)
+          ∙ length-map new.ports (λ (link : PortView). link.slave) ∙ counted ∙ all_there apart;
+      each = own_reset apart;
+    };
+    together = own_together (are_apart plan.layout.links) (slaves_of new.ports) plan.own;
   }
 
   pub keeps_on : group_view.KeepsGroup (group_reset.reset_plan plan resets) [] new.shared
-      → Keeps (reset_plan plan resets (slaves_of new.ports)) [] new
+      → Keeps (reset_plan plan resets own_after) [] new
   keeps_on shared = record {
     suits = record { lawful = lawful; layout = layout ∙ keeps.suits.layout };
     lawful = tt;
-    shared = subst (λ p. group_view.KeepsGroup (reset_plan plan resets (slaves_of new.ports)) p new.shared)
+    shared = subst (λ p. group_view.KeepsGroup (reset_plan plan resets own_after) p new.shared)
         (sym (shared_none plan.layout.links)) (record {
           suits = record { lawful = lawful; layout = shared.suits.layout };
           lawful = tt;
           state = shared.state;
         });
-    ports = λ apart port later found. fresh_port port later found;
+    ports = λ apart port later found. fresh_port apart port later found;
   }
     where
-      lawful : IsPlan (reset_plan plan resets (slaves_of new.ports))
+      lawful : IsPlan (reset_plan plan resets own_after)
       lawful = record {
         owners = keeps.suits.lawful.owners;
         wide = keeps.suits.lawful.wide;
         decode = keeps.suits.lawful.decode;
       }
 
-      fresh_port : (port : ℕ) (later : PortView) → slice_get new.ports port ≡ Some later
-          → KeepsPort (port_plan (reset_plan plan resets (slaves_of new.ports))) port [] later
-      fresh_port port later found =
+      fresh_port : IsTrue (are_apart plan.layout.links) → (port : ℕ) (later : PortView)
+          → slice_get new.ports port ≡ Some later → KeepsPort (port_plan (reset_plan plan resets own_after)) port [] later
+      fresh_port apart port later found =
           let link = some_there old.ports port (omega (arith, counted, within new.ports port later found)) in
           let is = links port link.0 later link.1 found in
           let bus : bus_at plan.layout.port_buses port ≡ link.0.under.bus =
@@ -221,6 +253,6 @@ module _ (plan : Plan) (past : List Sighting) (old new : View) (keeps : Keeps pl
             lawful = tt;
             under = ap nothing_under bus ∙ sym (ap (λ (v : PortView). v.under) is.2);
             flights = λ source. sym (ap (λ (v : PortView). flight_in v source) is.2);
-            slave = slave_of new.ports port later found;
+            slave = ap (λ (s : List PortSlave). slave_at s port) (are_own apart) ∙ slave_of new.ports port later found;
             unkept = λ source none. tt;
           }

@@ -1,5 +1,5 @@
 -- What a reset of the whole system leaves where ports' links are judged each by itself. It is this project's own.
-use Rattle.std.specs.Prelude.{◌≡◌, ℕ, ◌<◌, ◌⊎◌, List, length, Option, Some, IsTrue, slice_get}
+use Rattle.std.specs.Prelude.{◌≡◌, ℕ, ◌<◌, ◌⊎◌, false, List, length, Option, Some, IsTrue, slice_get}
 use Rattle.tl_types.specs.Request.{Request}
 use Rattle.check_beats.specs.State.{ask_so_far, replying_source}
 use Rattle.check_memory.specs.declared.slave.Slave.{Slave}
@@ -46,11 +46,18 @@ IsResetLink plan port state load later =
 abbrev pub reset_plan : Plan → List PortSlave → List PortSlave → Plan
 reset_plan plan resets own = record plan { resets = resets; own = own }
 
--- these slaves stand there after a reset: those of the links that are judged together, and those of ports' links by
--- themselves, if these are judged so
+-- the slaves of ports' links that are judged each by itself, after a reset with which this is loaded: one of each port
+pub record AreOwnReset (plan : Plan) (past : List Sighting) (loaded : List (Option Slave)) (own : List PortSlave)
+    : Type 0 where
+  pub counted : length own ≡ length plan.layout.ports
+  pub each : (port : ℕ) → port < length plan.layout.ports
+      → IsResetLink (port_plan plan) port (group.state (port_plan plan) (port_past port past)) (loaded_at loaded port)
+      (slave_at own port)
+
+-- these slaves stand there after a reset: those of the links that are judged together; and those of ports' links by
+-- themselves if these are judged so, else what stood there
 pub record IsReset (plan : Plan) (past : List Sighting) (loaded own_loaded : List (Option Slave))
     (resets own : List PortSlave) : Type 0 where
   pub shared : AreReset plan (group.state plan (shared_past plan.layout.links past)) loaded resets
-  pub apart : IsTrue (are_apart plan.layout.links) → (port : ℕ) → port < length plan.layout.ports
-      → IsResetLink (port_plan plan) port (group.state (port_plan plan) (port_past port past)) (loaded_at own_loaded port)
-      (slave_at own port)
+  pub apart : IsTrue (are_apart plan.layout.links) → AreOwnReset plan past own_loaded own
+  pub together : are_apart plan.layout.links ≡ false → own ≡ plan.own

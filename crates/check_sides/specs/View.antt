@@ -121,7 +121,7 @@ HaveBuses links buses =
 
 -- each port's link that is judged by itself has its place and its bus
 pub record IsSized (view : View) : Type 0 where
-  pub ports : IsTrue (are_apart view.layout.links) → length view.layout.ports ≤ length view.ports
+  pub ports : IsTrue (are_apart view.layout.links) → length view.ports ≡ length view.layout.ports
   pub buses : HaveBuses view.ports view.layout.port_buses
 
 -- a port's link with a bus of so many bytes and with this slave, before any beat

@@ -11,4 +11,5 @@ pub mod Resetting
 pub mod InFlight
 pub mod Changes
 pub mod Ending
+pub mod OneReset
 pub mod Stepping

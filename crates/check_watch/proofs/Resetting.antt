@@ -521,9 +521,11 @@ plan_goes_on plan after lawful = record { owners = lawful.owners; wide = lawful.
 pub slaves_reset : (plan : Plan) (state before : State) (slaves left after : List PortSlave) (loaded : List (Option Slave))
     → AreSame before state → ((port : ℕ) → slave_at slaves port ≡ before.slaves port)
     → AreLeft (IsCut plan before) slaves left
+    → length after ≡ length plan.layout.ports + 1
     → ((port : ℕ) → slave_at after port ≡ once_reset (slave_at left port) (loaded_at loaded port))
     → AreReset plan state loaded after
-slaves_reset plan state before slaves left after loaded same are cut is = record {
+slaves_reset plan state before slaves left after loaded same are cut counted is = record {
+  counted = counted;
   each = λ port. (
     slave_at left port,
     subst (λ (s : PortSlave). IsLeftPort (IsCut plan state port) s (slave_at left port))

@@ -1,7 +1,7 @@
 -- What a reset of the whole system leaves. Nothing is in flight after it. A memory keeps its bytes, or has those that are loaded
 -- into it. If it keeps them, nobody knows the bytes that requests may write which the reset cut short: they may have taken
 -- effect, or not, or in part. It is this project's own.
-use Rattle.std.specs.Prelude.{◌≡◌, ℕ, ◌⊎◌, true, List, length, Option, Some, None, slice_get, unwrap_or}
+use Rattle.std.specs.Prelude.{◌≡◌, ℕ, ◌+◌, ◌⊎◌, true, List, length, Option, Some, None, slice_get, unwrap_or}
 use Rattle.tl_types.specs.Request.{Request}
 use Rattle.tl_map.specs.Owner.{IsWideSource}
 use Rattle.check_beats.specs.State.{ask_so_far, replying_source}
@@ -81,9 +81,10 @@ pub record AreLeft (Cut : ℕ → Request → Type 0) (slaves left : List PortSl
 abbrev pub loaded_at : List (Option Slave) → ℕ → Option Slave
 loaded_at loaded port = unwrap_or (slice_get loaded port) None
 
--- the slave of each port after a reset with which this is loaded: what is loaded, or what is left where requests were cut
--- short. No request is kept any more, and the places in the port's list go on
+-- the slave of each port after a reset with which this is loaded, the error port's last: what is loaded, or what is left
+-- where requests were cut short. No request is kept any more, and the places in the port's list go on
 pub record AreReset (plan : Plan) (state : State) (loaded : List (Option Slave)) (after : List PortSlave) : Type 0 where
+  pub counted : length after ≡ length plan.layout.ports + 1
   pub each : (port : ℕ) → (left : PortSlave) × IsLeftPort (IsCut plan state port) (state.slaves port) left
       × (slave_at after port ≡ once_reset left (loaded_at loaded port))
 

@@ -19,9 +19,9 @@ returns-in-Err-clause-fault c plan file =
     (c.in-Err.ensures.fault plan judges.before judges.course judges.kept))
 
 pub returns-in-Err-clause-taken : goal.returns-in-Err-clause-taken
-returns-in-Err-clause-taken c plan file judges plain other lawful =
+returns-in-Err-clause-taken c plan file judges other lawful =
     let first : OfUnlawful (IsFirstUnlawful plan file) c.in-Err.refusal = returns-in-Err-clause-fault c plan file judges in
-    absurd (refused_is_not_lawful plan file c.in-Err.refusal plain first (λ is. other (ap Err is)) lawful)
+    absurd (refused_is_not_lawful plan file c.in-Err.refusal first (λ is. other (ap Err is)) lawful)
 
 pub returns-clause-lawful : goal.returns-clause-lawful
 returns-clause-lawful c plan file =

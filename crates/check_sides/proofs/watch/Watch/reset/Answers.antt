@@ -2,10 +2,10 @@ use Rattle.std.proofs.Common.{◌≡◌, ◌∙◌, ◌++◌, [], List, Option, 
 use Rattle.check_memory.specs.declared.slave.Slave.{Slave}
 use Rattle.check_watch.specs.View.{GroupView, KeepsGroup}
 use Rattle.check_watch.proofs.Resetting.{on_ok, written_back}
-use Rattle.check_sides.specs.Groups.{shared_past}
+use Rattle.check_sides.specs.Groups.{are_apart, shared_past}
 use Rattle.check_sides.specs.Reset.{AreResetLinks, reset_plan}
 use Rattle.check_sides.specs.View.{Keeps, PortView, View}
-use Rattle.check_sides.proofs.Restarting.{is_reset, keeps_on, slaves_of}
+use Rattle.check_sides.proofs.Restarting.{is_reset, keeps_on, own_then, slaves_of}
 use Rattle.check_sides.proofs.watch.Watch.reset.Goals as goal
 
 pub returns-clause-reset : goal.returns-clause-reset
@@ -34,10 +34,10 @@ returns-clause-reset c = λ plan past keeps.
     subst (λ (l : List (Option Slave)). AreResetLinks view.ports l new.ports) c.deref_mut-2.ensures.value
     (subst (λ (l : List PortView). AreResetLinks l c.deref_mut-2.result.now new.ports) ports_are reset) in (
       group.0,
-      slaves_of new.ports,
+      own_then (are_apart plan.layout.links) (slaves_of new.ports) plan.own,
       is_reset plan past view new keeps c.sized.ensures c.args.loaded.items c.args.own.items group.0 layout counted links
           group.1,
-      subst (λ (l : List PortView). Keeps (reset_plan plan group.0 (slaves_of new.ports)) [] (record new { ports = l })) (sym back)
+      subst (λ (l : List PortView). Keeps (reset_plan plan group.0 (own_then (are_apart plan.layout.links) (slaves_of new.ports) plan.own)) [] (record new { ports = l })) (sym back)
           (keeps_on plan past view new keeps c.sized.ensures c.args.loaded.items c.args.own.items group.0 layout counted
           links group.2),
     ))

@@ -1,4 +1,4 @@
-use Rattle.std.proofs.Common.{◌≡◌, ◌∙◌, ℕ, [], ◌++◌, length, map, take, drop, refl, sym, ap, subst}
+use Rattle.std.proofs.Common.{◌≡◌, ◌∙◌, ℕ, ◌+◌, [], ◌++◌, length, map, take, drop, refl, sym, ap, subst}
 use Rattle.std.proofs.lemmas.List.{length-map}
 use Rattle.check_flight.specs.Crossing.{Crossing}
 use Rattle.check_flight.specs.Crossing.Crossing.{Waiting}
@@ -74,10 +74,13 @@ returns-clause-reset c = λ plan past keeps.
     λ port. ap (λ s. slave_at s port) back ∙ c.reset_slaves.ensures.each port
     ∙ ap (λ s. once_reset (slave_at s port) (loaded_at c.deref_mut-2.result.now port)) same
     ∙ ap (λ l. once_reset (slave_at mid.slaves port) (loaded_at l port)) c.deref_mut-2.ensures.value in
-    let suits : SuitsGroup plan mid = suits_after plan view mid c.cut_all.ensures.rest keeps.suits in (
+    let suits : SuitsGroup plan mid = suits_after plan view mid c.cut_all.ensures.rest keeps.suits in
+    let counted : length slaves ≡ length plan.layout.ports + 1 =
+    ap (λ s. length s) (back) ∙ c.reset_slaves.ensures.counted ∙ ap (λ s. length s) same ∙ sized.slaves
+    ∙ ap (λ (l : Layout). length l.ports + 1) suits.layout in (
       slaves,
       slaves_reset plan (state plan past) (state_in view) view.slaves mid.slaves slaves c.args.loaded.items keeps.state
-          (λ port. refl) (c.in_ok-cut_all.ensures.cut plan keeps.suits) each,
+          (λ port. refl) (c.in_ok-cut_all.ensures.cut plan keeps.suits) counted each,
       subst (λ (l : Layout). KeepsGroup (reset_plan plan slaves) [] (record new { layout = l }))
           (sym (ap (λ (v : GroupView). v.layout) c.self.view_is))
           (keeps_again mid new refl masters ports waiting plan sized suits),
