@@ -9,4 +9,4 @@ mod Keeping
 pub mod Fresh
 mod Restarting
 mod Changes
-mod OneReset
+pub mod OneReset
