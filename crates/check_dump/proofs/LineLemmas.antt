@@ -1,9 +1,9 @@
--- Lines of a text, and the rows that are left to come of a dump.
-use Rattle.std.proofs.Common.{◌≡◌, ◌∙◌, ℕ, suc, ◌+◌, ◌<◌, ◌≤◌, List, [], ◌∷◌, ◌++◌, drop, take, length, get_or, Option, Some, None, Result, Ok, Err, IfOk, IfErr, IfSome, append_assoc, ap, arith, refl, subst, sym}
-use Rattle.std.proofs.lemmas.Bool.{le-leb}
-use Rattle.std.proofs.lemmas.List.{drop-append-le, drop-drop, length-drop}
-use Rattle.std.proofs.Math.Seq.{split_at}
-use Rattle.std.specs.Prelude.{◌&&◌, nat_le, if◌then◌else◌, slice_range}
+-- The rows that are left to come of a dump, and the next one.
+use Rattle.std.proofs.Common.{◌≡◌, ◌∙◌, ℕ, zero, suc, ◌+◌, ◌<◌, ◌≤◌, List, [], ◌∷◌, ◌++◌, drop, length, get_or, Option, Some, None, Result, Ok, Err, IfOk, IfErr, IfSome, append_assoc, ap, arith, refl, subst, sym}
+use Rattle.std.proofs.lemmas.List.{drop-append-le, drop_all, drop_more}
+use Rattle.std.proofs.lemmas.List.Elements.{All-get_or}
+use Rattle.std.specs.Prelude.{All, is_some, true}
+use Rattle.check_samples.specs.Due.{IsPlain, due_text}
 use Rattle.check_vcd.specs.Words.{Both}
 use Rattle.check_samples.specs.Left.{RowsGoOn, RowsLeft, Stops}
 use Rattle.check_samples.specs.declared.rows.Progress.{Progress}
@@ -95,49 +95,47 @@ goes_on next old new from to (Err (rows_fault.Dump line mistake)) ended is insid
 goes_on next old new from to (Err rows_fault.Read) ended is inside there ok fault = absurd (cc is)
 goes_on next old new from to (Err rows_fault.Memory) ended is inside there ok fault = absurd (cc is)
 
--- ---- one line
+-- ---- one row
 
--- the text at hand begins with a line, if a line end stands behind so many bytes
-begins : (rest : List ℕ) (count : ℕ) → count < length rest → get_or rest count 0 ≡ 10
-    → rest ≡ take count rest ++ (10 ∷ drop (suc count) rest)
-begins rest count inside is =
-    split_at rest count 0 inside ∙ ap (λ (b : ℕ). take count rest ++ (b ∷ drop (suc count) rest)) is
+-- no byte of a line ends it
+no_end : (line : List ℕ) → IsPlain line → HasNoLineEnd line
+no_end [] plain place inside = absurd (omega (arith, inside))
+no_end (byte ∷ line) plain zero inside = λ is. omega (arith, is, plain.0)
+no_end (byte ∷ line) plain (suc place) inside = no_end line plain.1 place (omega (arith, inside))
 
-pub takes_line : (text line : List ℕ) (next count : ℕ) (ended : Option RowsEnd) (rows : Option RowsLeft)
-    → next + count < length text → get_or (drop next text) count 0 ≡ 10 → HasNoLineEnd (take count (drop next text))
-    → line ≡ take count (drop next text)
-    → Both (coming_by (drop next text) ended rows) (coming_by (drop (next + count + 1) text) ended rows) (TakesLine line)
-takes_line text line next count ended rows inside is one same = go ended rows
+-- the next row is that at its place, and the others stand behind it
+pub takes_line : (due : List (List ℕ)) (next : ℕ) (ended : Option RowsEnd) (rows : Option RowsLeft) → next < length due
+    → All IsPlain due
+    → Both (coming_by (due_text (drop next due)) ended rows) (coming_by (due_text (drop (next + 1) due)) ended rows)
+    (TakesLine (get_or due next []))
+takes_line due next ended rows inside plain = go ended rows
   where
-    is_line : drop next text ≡ line ++ (10 ∷ drop (next + count + 1) text)
-    is_line =
-        begins (drop next text) count (omega (arith, length-drop next text, inside)) is
-        ∙ ap (λ (l : List ℕ). l ++ (10 ∷ drop (suc count) (drop next text))) (sym same)
-        ∙ ap (λ (l : List ℕ). line ++ (10 ∷ l)) (drop-drop (suc count) next text ∙ ap (λ n. drop n text) (omega arith))
+    line : List ℕ
+    line = get_or due next []
 
-    no_end : HasNoLineEnd line
-    no_end = subst HasNoLineEnd (sym same) one
+    rest : List ℕ
+    rest = due_text (drop (next + 1) due)
+
+    is_line : due_text (drop next due) ≡ line ++ (10 ∷ rest)
+    is_line = ap due_text (drop_more due next [] inside)
+
+    one : HasNoLineEnd line
+    one = no_end line (All-get_or IsPlain due next [] inside plain)
 
     go : (ended : Option RowsEnd) (rows : Option RowsLeft)
-        → Both (coming_by (drop next text) ended rows) (coming_by (drop (next + count + 1) text) ended rows) (TakesLine line)
-    go (Some end) rows = (record { is = is_line; one = no_end }, refl)
+        → Both (coming_by (due_text (drop next due)) ended rows) (coming_by rest ended rows) (TakesLine line)
+    go (Some end) rows = (record { is = is_line; one = one }, refl)
     go None None = tt
     go None (Some left) = (
       record {
-        is = ap (λ (l : List ℕ). l ++ left.text) is_line ∙ append_assoc line (10 ∷ drop (next + count + 1) text) left.text;
-        one = no_end;
+        is = ap (λ (l : List ℕ). l ++ left.text) is_line ∙ append_assoc line (10 ∷ rest) left.text;
+        one = one;
       },
       refl,
     )
 
--- the line that was taken stands between its places
-pub stands : (text : List ℕ) (start end count : ℕ) → end ≡ start + count → end < length text
-    → (if nat_le start end && nat_le end (length text) then slice_range text start end else []) ≡ take count (drop start text)
-stands text start end count is inside =
-    rw (le-leb start end (omega (arith, is)), le-leb end (length text) (omega (arith, inside)))
-    (ap (λ n. take n (drop start text)) (omega (arith, is)))
-
--- no line is left
-pub no_line : (text : List ℕ) (end : RowsEnd) (rows : Option RowsLeft) → HasNoLineEnd text
-    → IfSome (coming_by text (Some end) rows) (HasNoLine text (Some end))
-no_line text end rows none = record { none = none; is = refl; ends = refl }
+-- no row is left
+pub no_line : (due : List (List ℕ)) (next : ℕ) (ended : Option RowsEnd) (rows : Option RowsLeft) → length due ≤ next
+    → is_some ended ≡ true → IfSome (coming_by (due_text (drop next due)) ended rows) (HasNoLine ended)
+no_line due next None rows all some = absurd (cc)
+no_line due next (Some end) rows all some = record { is = ap due_text (drop_all next due all); ends = refl }

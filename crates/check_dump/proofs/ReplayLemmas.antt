@@ -1,5 +1,5 @@
 -- One row after another, and what they come to.
-use Rattle.std.proofs.Common.{◌≡◌, ◌∙◌, ◌⊎◌, inl, inr, ℕ, suc, ◌+◌, ◌<◌, ◌≤◌, Bool, true, false, List, [], ◌∷◌, ◌++◌, length, Option, Some, None, Result, Ok, Err, IfOk, IfSome, option_map, append_assoc, length-append, ap, arith, refl, subst, sym}
+use Rattle.std.proofs.Common.{◌≡◌, ◌∙◌, ◌⊎◌, inl, inr, ℕ, suc, ◌+◌, ◌≤◌, Bool, true, false, List, [], ◌∷◌, ◌++◌, length, Option, Some, None, Result, Ok, Err, IfOk, IfSome, option_map, append_assoc, length-append, ap, arith, refl, subst, sym}
 use Rattle.std.proofs.lemmas.Bool.{leb-false, leb-true}
 use Rattle.std.proofs.lemmas.List.Elements.{All-nil, All-push, All-weaker, Contains-append_left, Contains-push}
 use Rattle.std.specs.Prelude.{nat_lt, if◌then◌else◌}
@@ -8,7 +8,6 @@ use Rattle.tl_streams.specs.Streams.{AppendsPart}
 use Rattle.check_vcd.specs.Words.{Both}
 use Rattle.check_rows.specs.Row.{SeenRow, row_of}
 use Rattle.check_rows.specs.Column.{column_parts}
-use Rattle.check_rows.specs.declared.fault.RowFault.TheVariants.{Cut}
 use Rattle.check_lines.specs.declared.verdict.VerdictCounts.{VerdictCounts}
 use Rattle.check_unanswered.specs.declared.request.Left.{Left as LeftOver}
 use Rattle.check_review.specs.Covered.{CoversStop, IsCoveredBefore, IsCoveredFile}
@@ -32,7 +31,7 @@ use Rattle.check_text.specs.declared.fault.Verdict.{Verdict}
 use Rattle.check_text.specs.declared.fault.Verdict.TheVariants as verdict
 use Rattle.check_text.proofs.OutLemmas.{wrote_all, wrote_as, wrote_more, wrote_moved, wrote_none, wrote_part, wrote_so_far}
 use Rattle.check_dump.specs.Lines.{AreRowLines, HasNoLine, HasNoLineEnd, SpellsRow, TakesLine, end_of}
-use Rattle.check_dump.specs.Replay.{AllTaken, EndsLater, EndsReplay, IsLatest, IsReplayAnswer, IsReplayCounted, IsReplayCovered, IsReplayOut, IsReplayed, IsReplayedBy, LineStops, ReplayFinishes, ReplayWrote, TookLines, answer_at, answer_of, answer_refused, halt_of, is_cut_short, later_of, line_after, replay_fault_of}
+use Rattle.check_dump.specs.Replay.{AllTaken, EndsLater, EndsReplay, IsLatest, IsNoDue, IsReplayAnswer, IsReplayCounted, IsReplayCovered, IsReplayOut, IsReplayed, IsReplayedBy, LineStops, ReplayFinishes, ReplayWrote, TookLines, answer_at, answer_of, answer_refused, halt_of, is_cut_short, later_of, line_after, replay_fault_of}
 use Rattle.check_dump.specs.declared.fault.ReplayFault.{ReplayFault}
 use Rattle.check_dump.specs.declared.fault.ReplayFault.TheVariants as fault
 use Rattle.check_dump.specs.declared.kept.RowsEnd.{RowsEnd}
@@ -105,6 +104,18 @@ line_stops buses number line row spells judge tally text grown (stop.Row why) fa
 line_stops buses number line row spells judge tally text grown (stop.Beat found) facts =
     λ plan rows so_far has. let is = facts plan rows so_far has in ((row, spells, is.0.0), is.0.1, is.1, is.2)
 line_stops buses number line row spells judge tally text grown stop.Memory facts = tt
+
+-- the line is no row
+pub no_due : (buses : LinkBuses) (number : ℕ) (line : List ℕ) (judge : JudgeView) (tally : Tally) (text : List ℕ) (why : Halt)
+    → IsNoDue buses number line why → LineStops buses number line judge tally text text why
+no_due buses number line judge tally text (halt.Unlawful found) is = absurd is
+no_due buses number line judge tally text (halt.Fault (fault.Row on why)) is = (is.0, λ plan rows so_far has. (inl is.1, refl))
+no_due buses number line judge tally text (halt.Fault (fault.Edges why)) is = absurd is
+no_due buses number line judge tally text (halt.Fault (fault.Unknown unknown)) is = absurd is
+no_due buses number line judge tally text (halt.Fault (fault.Dump at mistake)) is = absurd is
+no_due buses number line judge tally text (halt.Fault fault.Read) is = absurd is
+no_due buses number line judge tally text (halt.Fault fault.Memory) is = tt
+no_due buses number line judge tally text (halt.Fault fault.Write) is = absurd is
 
 -- ---- the last rows
 
@@ -456,7 +467,7 @@ module _ (buses : LinkBuses) (first : JudgeView) (old : Option (List ℕ)) where
           answers = λ plan start.
               let wrote = took.told plan start in (
                 stops.0 ∙ took.number,
-                inl (
+                (
                   line,
                   z.text,
                   takes.0,
@@ -483,11 +494,11 @@ module _ (buses : LinkBuses) (first : JudgeView) (old : Option (List ℕ)) where
     row_halts c line grown (halt.Fault fault.Write) takes stops = absurd stops
 
     -- no line is left
-    pub took_all : (rest : List ℕ) (ended : Option RowsEnd) → IfSome b (HasNoLine rest ended)
-        → IfSome a (AllTaken buses first now place old mid text rest ended)
-    took_all rest ended none =
-        both_if a b (TookLines buses first now place old mid text) (HasNoLine rest ended)
-        (AllTaken buses first now place old mid text rest ended)
+    pub took_all : (ended : Option RowsEnd) → IfSome b (HasNoLine ended)
+        → IfSome a (AllTaken buses first now place old mid text ended)
+    took_all ended none =
+        both_if a b (TookLines buses first now place old mid text) (HasNoLine ended)
+        (AllTaken buses first now place old mid text ended)
         (λ x y took is. record { last = y; took = took; none = is }) so_far none
 
 -- ---- the end of all lines
@@ -496,8 +507,8 @@ some_is : (one other : End) → Some one ≡ Some other → one ≡ other
 some_is one other is = cc is
 
 module _ (buses : LinkBuses) (first now : JudgeView) (place : Place) (old mid : Option (List ℕ)) (text : List ℕ)
-    (rest : List ℕ) (ended : Option RowsEnd) (a : Option RowsLeft)
-    (all : IfSome a (AllTaken buses first now place old mid text rest ended)) where
+    (ended : Option RowsEnd) (a : Option RowsLeft)
+    (all : IfSome a (AllTaken buses first now place old mid text ended)) where
   if_some : (P Q : RowsLeft → Type 0) → ((x : RowsLeft) → P x → Q x) → IfSome a P → IfSome a Q
   if_some P Q to is = go a is
     where
@@ -505,32 +516,10 @@ module _ (buses : LinkBuses) (first now : JudgeView) (place : Place) (old mid : 
       go None is = tt
       go (Some b) is = to b is
 
-  -- a part of a line is left
-  pub ends_cut : (tally : Tally) → 0 < length rest
-      → IfSome a (IsReplayedBy buses first tally old mid text (Err (fault.Row place.number Cut)))
-  ends_cut tally left =
-      if_some (AllTaken buses first now place old mid text rest ended)
-      (IsReplayedBy buses first tally old mid text (Err (fault.Row place.number Cut))) (λ x taken.
-      let took = taken.took in
-      let none = taken.none in record {
-        rows = took.rows;
-        front = took.front;
-        rest = taken.last.text;
-        is = took.is;
-        spell = took.spell;
-        answers = λ plan start. (took.number, inr (refl, none.none, λ is. omega (arith, left, ap length (sym none.is ∙ is))));
-        counted = λ plan start. tt;
-        told = λ plan start.
-            let wrote = took.told plan start in
-            wrote_as (HasTold plan took.rows now) old mid text wrote (IsToldEarlier (is_traced first) plan took.rows) text refl
-            (subst (λ t. IsToldEarlier t plan took.rows wrote.told) took.traced
-            (told_earlier plan took.rows now wrote.told wrote.holds));
-      }) all
-
   -- it is not known how the rows end
   pub ends_unknown : (tally : Tally) → IfSome a (IsReplayedBy buses first tally old mid text (Err fault.Read))
   ends_unknown tally =
-      if_some (AllTaken buses first now place old mid text rest ended)
+      if_some (AllTaken buses first now place old mid text ended)
       (IsReplayedBy buses first tally old mid text (Err fault.Read)) (λ x taken.
       let took = taken.took in record {
         rows = took.rows;
@@ -548,11 +537,11 @@ module _ (buses : LinkBuses) (first now : JudgeView) (place : Place) (old mid : 
       }) all
 
   -- the last rows are judged
-  pub ends_judged : (tally : Tally) (end : RowsEnd) (grown : List ℕ) (answer : Result Verdict ReplayFault) → rest ≡ []
+  pub ends_judged : (tally : Tally) (end : RowsEnd) (grown : List ℕ) (answer : Result Verdict ReplayFault)
       → ended ≡ Some end → EndsReplay now tally end place.latest text grown answer
       → IfSome a (IsReplayedBy buses first tally old mid grown answer)
-  ends_judged tally end grown answer nothing known ends =
-      if_some (AllTaken buses first now place old mid text rest ended)
+  ends_judged tally end grown answer known ends =
+      if_some (AllTaken buses first now place old mid text ended)
       (IsReplayedBy buses first tally old mid grown answer) (λ x taken.
       let took = taken.took in
       let none = taken.none in
@@ -565,7 +554,7 @@ module _ (buses : LinkBuses) (first now : JudgeView) (place : Place) (old mid : 
         spell = took.spell;
         answers = λ plan start.
             let wrote = took.told plan start in
-            subst (λ (l : List ℕ). IsReplayAnswer (is_asked first) plan buses answer took.rows l x.end) (sym (none.is ∙ nothing))
+            subst (λ (l : List ℕ). IsReplayAnswer (is_asked first) plan buses answer took.rows l x.end) (sym none.is)
             (subst (λ (e : End). IsReplayAnswer (is_asked first) plan buses answer took.rows [] e) end_is
             (subst (λ asked. IsReplayAnswer asked plan buses answer took.rows [] (end_of end)) took.asked
             (ends.answers plan buses took.rows took.latest wrote.holds.judges)));

@@ -1,7 +1,8 @@
--- The rows of a dump, line by line: each stands on one line of the text that `tlvcd` writes of the dump. This project's own.
-use Rattle.std.specs.Prelude.{◌≡◌, ◌≢◌, ℕ, ◌+◌, ◌<◌, ◌≤◌, ◌&&◌, nat_le, if◌then◌else◌, List, [], ◌∷◌, ◌++◌, drop, length, slice_index, slice_range, Option, None, Some, option_map, Result, Ok, Err}
+-- The rows of a dump, one after the other: each stands on one line of the text that `tlvcd` writes of the dump. This project's own.
+use Rattle.std.specs.Prelude.{◌≡◌, ◌≢◌, ℕ, ◌+◌, ◌<◌, ◌≤◌, List, [], ◌∷◌, ◌++◌, drop, get_or, length, slice_index, Option, None, Some, option_map, Result, Ok, Err}
 use Rattle.check_rows.specs.Column.{column_parts}
 use Rattle.check_rows.specs.Row.{SeenRow, row_of}
+use Rattle.check_samples.specs.Due.{due_text}
 use Rattle.check_samples.specs.EdgeFault.{edge_fault_view}
 use Rattle.check_samples.specs.Left.{End, RowsLeft}
 use Rattle.check_samples.specs.Left.End.{BeforeBeat, BeforeLine, Whole, WithoutEdges}
@@ -55,22 +56,19 @@ ended_by (Err (rows_fault.Dump line mistake)) = Ok (Some (ends.BeforeLine line m
 ended_by (Err rows_fault.Read) = Err line_fault.Read
 ended_by (Err rows_fault.Memory) = Err line_fault.Memory
 
--- the line that was read last, and the text at hand after it
+-- the line of the row that was read last, and the text of those at hand after it
 abbrev pub line_at_hand : {D : Type 0} → DumpLines D → List ℕ
-line_at_hand lines =
-    if nat_le lines.start lines.end && nat_le lines.end (length lines.text.items)
-    then slice_range lines.text.items lines.start lines.end
-    else []
+line_at_hand lines = get_or lines.due lines.at []
 
 abbrev pub rest_at_hand : {D : Type 0} → DumpLines D → List ℕ
-rest_at_hand lines = drop lines.next lines.text.items
+rest_at_hand lines = due_text (drop lines.next lines.due)
 
--- where the next line begins lies within the text at hand
+-- the place of the next row is that of one at hand, or the one behind them
 abbrev pub IsInside : {D : Type 0} → DumpLines D → Type 0
-IsInside lines = lines.next ≤ length lines.text.items
+IsInside lines = lines.next ≤ length lines.due
 
--- the rows that are left to come, where the dump tells them: their text at hand, and what is to come of the dump, unless it
--- has ended
+-- the rows that are left to come, where the dump tells them: the text of those at hand, and what is to come of the dump, unless
+-- it has ended
 abbrev pub coming_by : List ℕ → Option RowsEnd → Option RowsLeft → Option RowsLeft
 coming_by text None rows = option_map (λ (left : RowsLeft). record left { text = text ++ left.text }) rows
 coming_by text (Some end) rows = Some (record { text = text; end = end_of end })
@@ -82,8 +80,7 @@ coming lines = coming_by (rest_at_hand lines) lines.ended lines.rows
 abbrev pub TakesLine : List ℕ → RowsLeft → RowsLeft → Type 0
 TakesLine line from to = BeginsWithLine line to.text from.text × (to.end ≡ from.end)
 
--- no line is left: no line end is in the text that is left, which is this, and the rows end so
-pub record HasNoLine (text : List ℕ) (end : Option RowsEnd) (from : RowsLeft) : Type 0 where
-  pub none : HasNoLineEnd from.text
-  pub is : from.text ≡ text
+-- no line is left, and the rows end so
+pub record HasNoLine (end : Option RowsEnd) (from : RowsLeft) : Type 0 where
+  pub is : from.text ≡ []
   pub ends : option_map end_of end ≡ Some from.end

@@ -1,11 +1,10 @@
 -- What becomes of the rows of a dump: the verdict over them, or why there is none. This project's own.
-use Rattle.std.specs.Prelude.{◌≡◌, ◌≢◌, ◌⊎◌, ℕ, ◌+◌, ◌<◌, ◌≤◌, Bool, true, false, nat_lt, if◌then◌else◌, List, [], ◌++◌, length, All, Contains, Option, Some, None, Result, Ok, Err, ⊤}
+use Rattle.std.specs.Prelude.{◌≡◌, ◌⊎◌, ℕ, ◌+◌, ◌<◌, ◌≤◌, Bool, true, false, nat_lt, if◌then◌else◌, List, [], ◌++◌, length, All, Contains, Option, Some, None, Result, Ok, Err, ⊤}
 use Rattle.std.specs.Io.KnownBytes.{Appends}
 use Rattle.tl_streams.specs.Streams.{AppendsPart}
 use Rattle.check_rows.specs.Row.{SeenRow, row_of}
 use Rattle.check_rows.specs.Column.{column_parts}
 use Rattle.check_rows.specs.declared.fault.RowFault.{RowFault}
-use Rattle.check_rows.specs.declared.fault.RowFault.TheVariants.{Cut}
 use Rattle.check_review.specs.Stretches.{Stretches}
 use Rattle.check_review.specs.Covered.{HasCovered, IsCoveredBefore}
 use Rattle.check_review.specs.Order.{HasRowFault, IsLater}
@@ -26,7 +25,7 @@ use Rattle.check_text.specs.Out.{WritesAll, WritesFront, WritesPart, Wrote}
 use Rattle.check_text.specs.Rows.{IsToldBy, OfJudged, TellsBefore, verdict_at_end}
 use Rattle.check_text.specs.declared.fault.Verdict.{Verdict}
 use Rattle.check_text.specs.declared.fault.Verdict.TheVariants.{Incomplete, Lawful, Unlawful}
-use Rattle.check_dump.specs.Lines.{AreRowLines, BeginsWithLine, HasNoLine, HasNoLineEnd, SpellsRow, end_of}
+use Rattle.check_dump.specs.Lines.{AreRowLines, BeginsWithLine, HasNoLine, SpellsRow, end_of}
 use Rattle.check_dump.specs.declared.lines.LineFault.{LineFault}
 use Rattle.check_dump.specs.declared.lines.LineFault.TheVariants as line_fault
 use Rattle.check_dump.specs.declared.kept.RowsEnd.{RowsEnd}
@@ -70,11 +69,10 @@ IsNoRowLine buses rows line why =
     (row_of buses.resets buses.masters buses.ports (line_after rows) (column_parts line) ≡ Err why)
     ⊎ ((row : SeenRow) × SpellsRow buses (line_after rows) line row × HasRowFault rows row why)
 
--- a text begins with a line that is no row after these; or what is left has no line end
+-- a text begins with a line that is no row after these
 abbrev pub BeginsWithNoRow : LinkBuses → List SeenRow → List ℕ → RowFault → Type 0
 BeginsWithNoRow buses rows text why =
-    ((line : List ℕ) × (rest : List ℕ) × BeginsWithLine line rest text × IsNoRowLine buses rows line why)
-    ⊎ ((why ≡ Cut) × HasNoLineEnd text × (text ≢ []))
+    (line : List ℕ) × (rest : List ℕ) × BeginsWithLine line rest text × IsNoRowLine buses rows line why
 
 -- ---- what is answered
 
@@ -164,6 +162,18 @@ LineStops buses number line judge tally text grown (halt.Fault fault.Read) = ⊥
 LineStops buses number line judge tally text grown (halt.Fault fault.Memory) = ⊤
 LineStops buses number line judge tally text grown (halt.Fault fault.Write) = ⊥
 
+-- why a line is not read as a row: it is none, or there was no memory for it
+abbrev pub IsNoDue : LinkBuses → ℕ → List ℕ → Halt → Type 0
+IsNoDue buses number line (halt.Unlawful found) = ⊥
+IsNoDue buses number line (halt.Fault (fault.Row on why)) =
+    (on ≡ number) × (row_of buses.resets buses.masters buses.ports number (column_parts line) ≡ Err why)
+IsNoDue buses number line (halt.Fault (fault.Edges why)) = ⊥
+IsNoDue buses number line (halt.Fault (fault.Unknown unknown)) = ⊥
+IsNoDue buses number line (halt.Fault (fault.Dump at mistake)) = ⊥
+IsNoDue buses number line (halt.Fault fault.Read) = ⊥
+IsNoDue buses number line (halt.Fault fault.Memory) = ⊤
+IsNoDue buses number line (halt.Fault fault.Write) = ⊥
+
 -- why the judge stops at a row on this line
 abbrev pub halt_of : ℕ → Stop → Halt
 halt_of line (stop.Row why) = halt.Fault (fault.Row line why)
@@ -186,10 +196,10 @@ pub record TookLines (buses : LinkBuses) (first now : JudgeView) (place : Place)
 
 -- and then no line was left
 pub record AllTaken (buses : LinkBuses) (first now : JudgeView) (place : Place) (old new : Option (List ℕ)) (text : List ℕ)
-    (rest : List ℕ) (ended : Option RowsEnd) (from : RowsLeft) : Type 0 where
+    (ended : Option RowsEnd) (from : RowsLeft) : Type 0 where
   pub last : RowsLeft
   pub took : TookLines buses first now place old new text from last
-  pub none : HasNoLine rest ended last
+  pub none : HasNoLine ended last
 
 -- the later of two times, of which the first may be none
 abbrev pub later_of : Option ℕ → ℕ → ℕ

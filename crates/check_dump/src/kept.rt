@@ -1,6 +1,6 @@
-//! What is kept of the rows of a dump, as they are read line by line.
+//! What is kept of the rows of a dump, as they are read one after the other.
 
-use check_samples::{EdgeFault, Rows, UnknownBit};
+use check_samples::{DueRows, EdgeFault, Rows, UnknownBit};
 use check_vcd::Mistake;
 use std::io::Read;
 
@@ -17,14 +17,13 @@ pub enum RowsEnd {
     BeforeLine(u64, Mistake),
 }
 
-/// The rows of a dump that are left to come, line by line. The text of the rows that are due is kept until it was read.
+/// The rows of a dump that are left to come, one after the other. Those that are due are kept until they were read.
 #[derive(Drop)]
 pub(crate) struct DumpLines<D: Read + Drop> {
     pub(crate) rows: Rows<D>,
-    pub(crate) text: Vec<u8>,
-    /// Where the line that was read last stands, and where the next one begins.
-    pub(crate) start: usize,
-    pub(crate) end: usize,
+    pub(crate) due: DueRows,
+    /// The place of the row that was read last, and of the next one.
+    pub(crate) at: usize,
     pub(crate) next: usize,
     pub(crate) ended: Option<RowsEnd>,
 }

@@ -1,15 +1,15 @@
-//! The lines of the rows of a dump, one after the other.
-ghost use Rattle.std.specs.Prelude.{◌≡◌, ◌<◌, ◌+◌, [], None, true, false, length, take, get_or, IfOk, IfSome, OnOk};
+//! The rows of a dump, one after the other. What they stand for is the lines of a capture.
+ghost use Rattle.std.specs.Prelude.{◌≡◌, ◌<◌, [], None, true, false, length, IfOk, IfSome, OnOk};
+ghost use Rattle.check_samples.specs.Due.{due_line};
 ghost use Rattle.check_vcd.specs.Words.{Both};
-ghost use Rattle.check_dump.specs.Lines.{HasNoLine, HasNoLineEnd, IsInside, TakesLine, coming, ended_by, line_at_hand, rest_at_hand};
+ghost use Rattle.check_dump.specs.Lines.{HasNoLine, IsInside, TakesLine, coming, ended_by, line_at_hand, rest_at_hand};
 
 use crate::kept::{DumpLines, RowsEnd};
-use check_samples::{Progress, Rows, RowsFault};
-use memchr::memchr;
+use check_samples::{DueRow, DueRows, Progress, Rows, RowsFault};
 use std::alloc::Global;
 use std::io::Read;
 
-/// Why it is not known whether there is a line.
+/// Why it is not known whether there is a row.
 #[derive(Debug, Clone, Copy, PartialEq, Eq)]
 pub enum LineFault {
     Read,
@@ -39,101 +39,64 @@ impl<D: Read + Drop> DumpLines<D> {
     {
         DumpLines {
             rows,
-            text: Vec::new(alloc),
-            start: 0,
-            end: 0,
+            due: DueRows::new(alloc),
+            at: 0,
             next: 0,
             ended: None,
         }
     }
 
-    /// The line that was read last, without its end.
-    pub fn line(&self) -> &[u8]
-        ensures { result.now ≡ line_at_hand self.now }
+    /// The row that was read last.
+    pub fn row(&self) -> DueRow<'_>
+        requires { self.now.at < length self.now.due }
+        ensures { due_line result ≡ line_at_hand self.now }
     {
-        match self.text.get(self.start..self.end) {
-            Some(line) => line,
-            None => &[],
+        match self.due.row(self.at) {
+            Some(row) => row,
+            None => unreachable!(),
         }
     }
 
-    /// Takes out how the rows end, after the last line was read.
+    /// Takes out how the rows end, after the last one was read.
     pub fn take_end(&mut self) -> Option<RowsEnd>
         ensures { result ≡ self.old.ended }
     {
         self.ended.take()
     }
 
-    /// Whether a part of a line is left that has no end.
-    pub fn is_cut(&self) -> bool
-        ensures yes { result ≡ true → 0 < length (rest_at_hand self.now) }
-        ensures no { result ≡ false → rest_at_hand self.now ≡ [] }
-    {
-        self.next < self.text.len()
-    }
-
-    /// How many bytes the next line has, if its end is at hand.
-    fn length(&self) -> Option<usize>
-        requires { IsInside self.now }
-        ensures inside { IfSome result (λ count. self.now.next + count < length self.now.text.items) }
-        ensures one { IfSome result (λ length. HasNoLineEnd (take length (rest_at_hand self.now))) }
-        ensures end { IfSome result (λ length. get_or (rest_at_hand self.now) length 0 ≡ 10) }
-        ensures none { result ≡ None → HasNoLineEnd (rest_at_hand self.now) }
-    {
-        memchr(b'\n', &self.text[self.next..])
-    }
-
-    /// Reads on in the dump. The text of the rows that are then due is at hand, and it is known how they end if no more are
-    /// to come.
+    /// Reads on in the dump, after all rows that are due were read. Those that are due then are at hand, and it is known how they
+    /// end if no more are to come.
     fn read_on(&mut self) -> Result<(), LineFault>
-        requires inside { IsInside self.old }
+        requires none { rest_at_hand self.old ≡ [] }
         requires going { self.old.ended ≡ None }
         ensures coming { OnOk result (Both (coming self.old) (coming self.new) (λ from to. to ≡ from)) }
         ensures inside { OnOk result (IsInside self.new) }
     {
-        let ended = ended_by(self.rows.read(&mut self.text))?;
-        // rows are appended, but no clause of the call says so
-        if self.text.len() < self.next {
-            return Err(LineFault::Read);
-        }
+        self.due.clear();
+        self.next = 0;
+        let ended = ended_by(self.rows.read(&mut self.due))?;
         self.ended = ended;
         Ok(())
     }
 
-    /// Forgets the text at hand, if all of it was read.
-    fn clear(&mut self)
-        requires { IsInside self.old }
-        ensures rest { rest_at_hand self.new ≡ rest_at_hand self.old }
-        ensures rows { self.new.rows ≡ self.old.rows }
-        ensures ended { self.new.ended ≡ self.old.ended }
-        ensures inside { IsInside self.new }
-    {
-        if self.next == self.text.len() {
-            self.next = 0;
-            self.text.clear();
-        }
-    }
-
-    /// Reads the next line; answers whether there is one.
+    /// Reads the next row; answers whether there is one.
     pub fn read(&mut self) -> Result<bool, LineFault>
         requires { IsInside self.old }
         ensures line { IfOk result (λ more. more ≡ true
             → Both (coming self.old) (coming self.new) (TakesLine (line_at_hand self.new))) }
-        ensures none { IfOk result (λ more. more ≡ false
-            → IfSome (coming self.old) (HasNoLine (rest_at_hand self.new) self.new.ended)) }
+        ensures row { IfOk result (λ more. more ≡ true → self.new.at < length self.new.due) }
+        ensures none { IfOk result (λ more. more ≡ false → IfSome (coming self.old) (HasNoLine self.new.ended)) }
         ensures inside { OnOk result (IsInside self.new) }
     {
         for _ in 0..u64::MAX {
-            if let Some(length) = self.length() {
-                self.start = self.next;
-                self.end = self.next + length;
-                self.next = self.end + 1;
+            if self.next < self.due.count() {
+                self.at = self.next;
+                self.next += 1;
                 return Ok(true);
             }
             if self.ended.is_some() {
                 return Ok(false);
             }
-            self.clear();
             self.read_on()?;
         }
         Err(LineFault::Read)

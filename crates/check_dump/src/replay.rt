@@ -1,20 +1,23 @@
 //! The rows of a dump, one after the other, through the judge of captures.
 ghost use Rattle.std.specs.Prelude.{◌≡◌, ◌≤◌, ◌+◌, [], List, None, Some, true, ℕ, is_some, length, OnOk, IfOk, IfErr, IfSome};
-ghost use Rattle.check_rows.specs.Row.{SeenRow};
+ghost use Rattle.check_rows.specs.Buses.{IsLinkOfRow};
+ghost use Rattle.check_rows.specs.Row.{SeenRow, seen_row};
 ghost use Rattle.check_start.specs.Loads.{SystemPlan};
 ghost use Rattle.check_review.specs.View.{Judges, is_asked, is_covered, is_traced};
 ghost use Rattle.check_text.specs.Buses.{HasBuses, link_buses};
 ghost use Rattle.check_text.specs.Rows.{Took};
-ghost use Rattle.check_dump.specs.Lines.{HasNoLine, IsInside, SpellsRow, coming, end_of, rest_at_hand};
-ghost use Rattle.check_dump.specs.Replay.{AllTaken, EndsLater, EndsReplay, IsLatest, IsReplayCovered, IsReplayed, IsReplayedBy, LineStops, ReplayFinishes, answer_at, answer_of, answer_refused, halt_of, is_cut_short, later_of, replay_fault_of};
+ghost use Rattle.check_samples.specs.Due.{due_line};
+ghost use Rattle.check_dump.specs.Lines.{IsInside, SpellsRow, coming, end_of};
+ghost use Rattle.check_dump.specs.Replay.{AllTaken, EndsLater, EndsReplay, IsLatest, IsNoDue, IsReplayCovered, IsReplayed, IsReplayedBy, LineStops, ReplayFinishes, answer_at, answer_of, answer_refused, halt_of, is_cut_short, later_of, replay_fault_of};
 
 use crate::fault::ReplayFault;
 use crate::kept::{DumpLines, RowsEnd};
 use crate::lines::LineFault;
 use check_beats::MAX_LANES;
+use check_due::row_of_due;
 use check_review::{Ending, Judge, Refusal, Stop, Unlawful};
-use check_rows::{Buses, RowFault, read_bare_row};
-use check_samples::{Rows, UnknownBit};
+use check_rows::{Buses, Row, read_bare_row};
+use check_samples::{DueRow, Rows, UnknownBit, push_due};
 use check_text::{Verdict, verdict_at_end, write_long};
 use std::alloc::{AllocError, Global};
 use std::io::{Read, Write};
@@ -59,14 +62,41 @@ fn halt_of(number: u64, stop: Stop) -> Halt
     }
 }
 
-/// Takes the row of a line; answers its time, or notes why it does not. Most rows tell nothing and refuse nothing, and are
-/// taken without room for a fault.
+/// The row of a capture that a row of the dump is on this line. One that is none is read from its line, which has the fault.
+fn read_due(
+    alloc: Global,
+    buses: &Buses<'_>,
+    number: u64,
+    due: &DueRow<'_>,
+    lanes: &mut [u8; MAX_LANES],
+) -> Result<Row, Halt>
+    ensures value { IfOk result (λ row. SpellsRow (link_buses buses.now) number (due_line due.now) (seen_row row lanes.new)) }
+    ensures link { IfOk result (λ row.
+        IsLinkOfRow row.is_reset buses.now.masters.now buses.now.ports.now row.link row.bus) }
+    ensures halt { IfErr result (IsNoDue (link_buses buses.now) number (due_line due.now)) }
+{
+    if let Some(row) = row_of_due(buses, number, due, lanes) {
+        return Ok(row);
+    }
+    let mut line = Vec::new(alloc);
+    match push_due(&mut line, due) {
+        Ok(()) => {}
+        Err(AllocError) => return Err(Halt::Fault(ReplayFault::Memory)),
+    }
+    match read_bare_row(buses, number, &line, lanes) {
+        Ok(row) => Ok(row),
+        Err(why) => Err(Halt::Fault(ReplayFault::Row(number, why))),
+    }
+}
+
+/// Takes a row that is due, on this line; answers its time, or notes why it does not. Most rows tell nothing and refuse nothing,
+/// and are taken without room for a fault.
 fn take_line(
     alloc: Global,
     judge: &mut Judge,
     buses: &Buses<'_>,
     number: u64,
-    line: &[u8],
+    due: &DueRow<'_>,
     lanes: &mut [u8; MAX_LANES],
     told: &mut Vec<u8>,
     halt: &mut Option<Halt>,
@@ -74,18 +104,18 @@ fn take_line(
     requires masters { length buses.now.masters.now ≤ MAX_JUDGED_MASTERS }
     requires ports { length buses.now.ports.now ≤ MAX_JUDGED_PORTS }
     requires buses { HasBuses judge.old.tally.watch.layout (link_buses buses.now) }
-    ensures ok { IfSome result (λ time. (row : SeenRow) × SpellsRow (link_buses buses.now) number line.now row
+    ensures ok { IfSome result (λ time. (row : SeenRow) × SpellsRow (link_buses buses.now) number (due_line due.now) row
         × (row.time ≡ time) × Took judge.old row judge.new told.old.items told.new.items) }
-    ensures halt { result ≡ None → IfSome halt.new (LineStops (link_buses buses.now) number line.now judge.old
+    ensures halt { result ≡ None → IfSome halt.new (LineStops (link_buses buses.now) number (due_line due.now) judge.old
         judge.new.tally told.old.items told.new.items) }
     ensures noted { result ≡ None → is_some halt.new ≡ true }
     ensures layout { judge.new.tally.watch.layout ≡ judge.old.tally.watch.layout }
     ensures covered { is_covered judge.new ≡ is_covered judge.old }
 {
-    let row = match read_bare_row(buses, number, line, lanes) {
+    let row = match read_due(alloc, buses, number, due, lanes) {
         Ok(row) => row,
         Err(why) => {
-            *halt = Some(Halt::Fault(ReplayFault::Row(number, why)));
+            *halt = Some(why);
             return None;
         }
     };
@@ -155,7 +185,7 @@ fn take_lines<D: Read + Drop, W: Write>(
     ensures covered { is_covered judge.new ≡ is_covered judge.old }
     ensures ok { IfOk result (λ place. IfSome (coming lines.old) (AllTaken (link_buses buses.now) judge.old judge.new
         place (W.contents writer.old.writer.now) (W.contents writer.new.writer.now) told.new.items
-        (rest_at_hand lines.new) lines.new.ended)) }
+        lines.new.ended)) }
     ensures halt { IfErr result (λ halt. IfSome (coming lines.old) (IsReplayedBy (link_buses buses.now) judge.old
         judge.new.tally (W.contents writer.old.writer.now) (W.contents writer.new.writer.now) told.new.items
         (answer_of halt))) }
@@ -173,9 +203,9 @@ fn take_lines<D: Read + Drop, W: Write>(
             Err(fault) => return Err(Halt::Fault(fault_of(fault))),
         }
         let number = place.number;
-        let line = lines.line();
+        let due = lines.row();
         let taken = take_line(
-            alloc, judge, buses, number, line, &mut lanes, told, &mut halt,
+            alloc, judge, buses, number, &due, &mut lanes, told, &mut halt,
         );
         let Some(time) = taken else {
             return Err(stopped(halt));
@@ -280,9 +310,6 @@ fn judge_lines<D: Read + Drop, W: Write>(
         Ok(place) => place,
         Err(halt) => return answer_of(halt),
     };
-    if lines.is_cut() {
-        return Err(ReplayFault::Row(place.number, RowFault::Cut));
-    }
     match lines.take_end() {
         Some(end) => end_lines(alloc, judge, end, place.latest, told),
         None => Err(ReplayFault::Read),

@@ -4,3 +4,5 @@ pub mod TakeLemmas
 pub mod LeftLemmas
 pub mod WatchedLemmas
 pub mod BitLemmas
+pub mod Plain
+pub mod DueLemmas

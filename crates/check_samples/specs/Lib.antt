@@ -8,6 +8,7 @@ pub mod Domain
 pub mod EdgeFault
 pub mod Rows
 pub mod Resets
+pub mod Due
 pub mod Sampling
 pub mod Left
 pub mod Faults

@@ -1,5 +1,5 @@
 -- Resets of the whole system, which have rows of their own. This project's own.
-use Rattle.std.specs.Prelude.{ℕ, ◌&&◌, Bool, false, not, List, ◌++◌, codes, Option, None, Some, if◌then◌else◌}
+use Rattle.std.specs.Prelude.{ℕ, ◌&&◌, Bool, false, not, List, [], ◌∷◌, ◌++◌, codes, Option, None, Some, if◌then◌else◌}
 use Rattle.std.specs.Fmt.{decimal}
 use Rattle.check_samples.specs.Domain.{Watched}
 use Rattle.check_samples.specs.EdgeFault.{some_crossed}
@@ -34,8 +34,11 @@ is_reset_due before now watched None = false
 is_reset_due before now watched (Some one) = begins before now one && some_crossed watched
 
 -- the row: its time and the word `reset`. In the other columns nothing stands
+abbrev pub reset_line : ℕ → List ℕ
+reset_line time = decimal time ++ codes ",reset,,,,,,,,,,"
+
 abbrev pub reset_row : ℕ → List ℕ
-reset_row time = decimal time ++ codes ",reset,,,,,,,,,,\n"
+reset_row time = reset_line time ++ (10 ∷ [])
 
 abbrev pub reset_rows : ℕ → Bool → Rows
 reset_rows time is_due = if is_due then record { text = reset_row time; fault = None } else no_rows

@@ -91,9 +91,13 @@ ask_lanes address mask lanes = (44 ∷ digits 16 false address) ++ (44 ∷ hex_t
 abbrev pub ask_flags : AskCells → List ℕ
 ask_flags cells = (44 ∷ []) ++ (44 ∷ mark_text cells.corrupt)
 
-unfoldable pub ask_text : ℕ → Link → AskCells → List ℕ → List ℕ → List ℕ
-ask_text time link cells mask lanes =
-    head_text time link 65 ++ ask_numbers cells ++ ask_lanes cells.address mask lanes ++ ask_flags cells ++ (10 ∷ [])
+-- the line of the row, and its text: the line with its end
+unfoldable pub ask_line : ℕ → Link → AskCells → List ℕ → List ℕ → List ℕ
+ask_line time link cells mask lanes =
+    head_text time link 65 ++ ask_numbers cells ++ ask_lanes cells.address mask lanes ++ ask_flags cells
+
+abbrev pub ask_text : ℕ → Link → AskCells → List ℕ → List ℕ → List ℕ
+ask_text time link cells mask lanes = ask_line time link cells mask lanes ++ (10 ∷ [])
 
 -- the row of a beat of channel D, with the bits of its data
 abbrev pub reply_numbers : ReplyCells → List ℕ
@@ -102,6 +106,8 @@ reply_numbers cells = cell cells.opcode ++ (44 ∷ mark_text cells.param) ++ cel
 abbrev pub reply_lanes : List ℕ → ReplyCells → List ℕ
 reply_lanes lanes cells = (44 ∷ 44 ∷ 44 ∷ hex_text lanes) ++ cell cells.denied ++ (44 ∷ mark_text cells.corrupt)
 
-unfoldable pub reply_text : ℕ → Link → ReplyCells → List ℕ → List ℕ
-reply_text time link cells lanes =
-    head_text time link 68 ++ reply_numbers cells ++ reply_lanes lanes cells ++ (10 ∷ [])
+unfoldable pub reply_line : ℕ → Link → ReplyCells → List ℕ → List ℕ
+reply_line time link cells lanes = head_text time link 68 ++ reply_numbers cells ++ reply_lanes lanes cells
+
+abbrev pub reply_text : ℕ → Link → ReplyCells → List ℕ → List ℕ
+reply_text time link cells lanes = reply_line time link cells lanes ++ (10 ∷ [])

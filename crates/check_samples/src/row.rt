@@ -4,8 +4,8 @@ ghost use Rattle.std.specs.Fmt.{decimal};
 ghost use Rattle.std.specs.Char.{is_digit};
 ghost use Rattle.tl_text.specs.Number.{number_of};
 ghost use Rattle.check_samples.specs.Values.{all_before};
-ghost use Rattle.check_samples.specs.Resets.{reset_row};
-ghost use Rattle.check_samples.specs.Row.{ask_flags, ask_lanes, ask_numbers, ask_text, cells_of_ask, cells_of_reply, digit_of, head_text, hex_text, hexes, known_number, link_text, mark_text, number_if_any, reply_lanes, reply_numbers, reply_text};
+ghost use Rattle.check_samples.specs.Resets.{reset_line};
+ghost use Rattle.check_samples.specs.Row.{ask_flags, ask_lanes, ask_line, ask_numbers, cells_of_ask, cells_of_reply, digit_of, head_text, hex_text, hexes, known_number, link_text, mark_text, number_if_any, reply_lanes, reply_line, reply_numbers};
 
 use crate::channel::{AskTaps, ReplyTaps};
 use crate::signal::Signal;
@@ -20,28 +20,28 @@ pub const MAX_BITS: usize = 64;
 /// The signals of a beat of channel A as numbers, save its data.
 #[derive(Debug, Clone, Copy, PartialEq, Eq)]
 pub struct AskCells {
-    opcode: u64,
-    param: u64,
-    size: u64,
-    source: u64,
-    address: u64,
-    corrupt: Option<u64>,
+    pub opcode: u64,
+    pub param: u64,
+    pub size: u64,
+    pub source: u64,
+    pub address: u64,
+    pub corrupt: Option<u64>,
 }
 
 /// The signals of a beat of channel D as numbers, save its data.
 #[derive(Debug, Clone, Copy, PartialEq, Eq)]
 pub struct ReplyCells {
-    opcode: u64,
-    param: Option<u64>,
-    size: u64,
-    source: u64,
-    denied: u64,
-    corrupt: Option<u64>,
+    pub opcode: u64,
+    pub param: Option<u64>,
+    pub size: u64,
+    pub source: u64,
+    pub denied: u64,
+    pub corrupt: Option<u64>,
 }
 
 /// Whether a digit is a known bit.
 #[inline(always)]
-fn is_known(bit: u8) -> bool
+pub fn is_known(bit: u8) -> bool
     ensures { result ≡ is_digit bit 2 }
 {
     (bit == b'0') | (bit == b'1')
@@ -49,7 +49,7 @@ fn is_known(bit: u8) -> bool
 
 /// The number that one to 64 bits spell, if each is known. No step depends on what the bits are: a processor does not guess
 /// them, and to go on after an unknown one costs less.
-fn read_bits(bits: &[u8]) -> Option<u64>
+pub fn read_bits(bits: &[u8]) -> Option<u64>
     ensures { result ≡ number_of 2 MAX_BITS bits.now }
 {
     if bits.is_empty() || bits.len() > MAX_BITS {
@@ -241,12 +241,12 @@ fn push_head(text: &mut Vec<u8>, time: u64, link: Link, channel: u8) -> Result<(
     text.extend_from_slice(&[b',', channel])
 }
 
-/// Appends the row of a reset of the whole system.
+/// Appends the line of a reset of the whole system, without its end.
 pub(crate) fn push_reset(text: &mut Vec<u8>, time: u64) -> Result<(), AllocError>
-    ensures { OnOk result (text.new.items ≡ text.old.items ++ reset_row time) }
+    ensures { OnOk result (text.new.items ≡ text.old.items ++ reset_line time) }
 {
     push_decimal(text, time)?;
-    text.extend_from_slice(b",reset,,,,,,,,,,\n")
+    text.extend_from_slice(b",reset,,,,,,,,,,")
 }
 
 /// Appends the columns of a beat of channel A that are decimal numbers.
@@ -284,8 +284,8 @@ fn push_ask_flags(text: &mut Vec<u8>, cells: AskCells) -> Result<(), AllocError>
     push_mark(text, cells.corrupt)
 }
 
-/// Appends the row of a beat of channel A.
-#[tactic(auto, unfolding(crate::specs::Row::ask_text))]
+/// Appends the line of a beat of channel A, without its end.
+#[tactic(auto, unfolding(crate::specs::Row::ask_line))]
 pub(crate) fn push_ask(
     text: &mut Vec<u8>,
     time: u64,
@@ -294,13 +294,12 @@ pub(crate) fn push_ask(
     mask: &[u8],
     lanes: &[u8],
 ) -> Result<(), AllocError>
-    ensures { OnOk result (text.new.items ≡ text.old.items ++ ask_text time link cells mask.now lanes.now) }
+    ensures { OnOk result (text.new.items ≡ text.old.items ++ ask_line time link cells mask.now lanes.now) }
 {
     push_head(text, time, link, b'A')?;
     push_ask_numbers(text, cells)?;
     push_ask_lanes(text, cells.address, mask, lanes)?;
-    push_ask_flags(text, cells)?;
-    text.extend_from_slice(b"\n")
+    push_ask_flags(text, cells)
 }
 
 /// Appends the columns of a beat of channel D up to its source.
@@ -323,8 +322,8 @@ fn push_reply_lanes(text: &mut Vec<u8>, lanes: &[u8], cells: ReplyCells) -> Resu
     push_mark(text, cells.corrupt)
 }
 
-/// Appends the row of a beat of channel D.
-#[tactic(auto, unfolding(crate::specs::Row::reply_text))]
+/// Appends the line of a beat of channel D, without its end.
+#[tactic(auto, unfolding(crate::specs::Row::reply_line))]
 pub(crate) fn push_reply(
     text: &mut Vec<u8>,
     time: u64,
@@ -332,10 +331,9 @@ pub(crate) fn push_reply(
     cells: ReplyCells,
     lanes: &[u8],
 ) -> Result<(), AllocError>
-    ensures { OnOk result (text.new.items ≡ text.old.items ++ reply_text time link cells lanes.now) }
+    ensures { OnOk result (text.new.items ≡ text.old.items ++ reply_line time link cells lanes.now) }
 {
     push_head(text, time, link, b'D')?;
     push_reply_numbers(text, cells)?;
-    push_reply_lanes(text, lanes, cells)?;
-    text.extend_from_slice(b"\n")
+    push_reply_lanes(text, lanes, cells)
 }

@@ -1,10 +1,12 @@
 //! The rows of a dump, one thing that happens in it after the other.
 ghost use Rattle.std.specs.Prelude.{◌≡◌, IfErr, IfOk, IfSome, option_map};
 ghost use Rattle.check_vcd.specs.Words.{Both};
+ghost use Rattle.check_samples.specs.Due.{due_text};
 ghost use Rattle.check_samples.specs.EdgeFault.{edge_fault_view};
 ghost use Rattle.check_samples.specs.Left.{IsOver, RowsGoOn, Stops, left_in};
 
 use crate::channel::UnknownBit;
+use crate::due::DueRows;
 use crate::edge_fault::EdgeFault;
 use crate::sampler::{SampleFault, Sampler};
 use check_vcd::{Dump, DumpFault, Event, Mistake};
@@ -108,19 +110,19 @@ impl<R: Read + Drop> Rows<R> {
 
     /// Reads on to the next time, and appends the rows that are then due. Changes are taken on the way. After the end or
     /// a fault it is called no more.
-    pub fn read(&mut self, text: &mut Vec<u8>) -> Result<Progress, RowsFault>
-        ensures ok { IfOk result (λ progress. Both self.old self.new (RowsGoOn progress text.old.items text.new.items)) }
-        ensures fault { IfErr result (λ fault. IfSome self.old (Stops fault text.old.items text.new.items)) }
+    pub fn read(&mut self, due: &mut DueRows) -> Result<Progress, RowsFault>
+        ensures ok { IfOk result (λ progress. Both self.old self.new (RowsGoOn progress (due_text due.old) (due_text due.new))) }
+        ensures fault { IfErr result (λ fault. IfSome self.old (Stops fault (due_text due.old) (due_text due.new))) }
     {
         for _ in 0..u64::MAX {
             match self.dump.read() {
                 Ok(Some(Event::Change(slot))) => self.sampler.change(slot, self.dump.value())?,
                 Ok(Some(event)) => {
-                    self.sampler.take(text, event, self.dump.value())?;
+                    self.sampler.take(due, event, self.dump.value())?;
                     return Ok(Progress::More);
                 }
                 Ok(None) => {
-                    self.sampler.push_rows(text)?;
+                    self.sampler.push_rows(due)?;
                     return over(self.sampler.edge_fault()?);
                 }
                 Err(fault) => return Err(RowsFault::from(fault)),

@@ -1,16 +1,18 @@
 //! The beats that cross, edge by edge.
 ghost use Rattle.std.specs.Prelude.{◌≡◌, ◌∷◌, List, IfOk, OnOk, map, option_map};
+ghost use Rattle.check_samples.specs.Due.{due_text};
 ghost use Rattle.check_samples.specs.Rows.{Appended, Writes, row_at, rows_at, rows_of, view_of};
 ghost use Rattle.check_samples.specs.Values.{all_before, all_now, all_widths};
 ghost use Rattle.check_samples.specs.declared.sampler.SampleFault.TheVariants.{Unknown};
 
 use crate::channel::{BeatTaps, Channel, UnknownBit};
 use crate::domain::Domain;
+use crate::due::DueRows;
 use crate::edge_fault::{EdgeFault, edge_fault, some_crossed};
 use crate::edges::Needs;
 use crate::hands::{crosses, unknown_hand};
 use crate::reset::{SystemReset, WatchedReset};
-use crate::row::{ask_cells, push_ask, push_reply, push_reset, reply_cells};
+use crate::row::{ask_cells, reply_cells};
 use crate::signal::Signal;
 use crate::tap::Tap;
 use crate::values::Values;
@@ -42,12 +44,12 @@ impl From<AllocError> for SampleFault {
 
 /// Appends the row of a channel's beat; answers the signal of it that is no data and has an unknown bit.
 fn push_row(
-    text: &mut Vec<u8>,
+    due: &mut DueRows,
     time: u64,
     values: &Values,
     channel: &Channel,
 ) -> Result<Option<Signal>, AllocError>
-    ensures { IfOk result (Appended text.old.items text.new.items (row_at time (all_before values.now) channel.now)) }
+    ensures { IfOk result (Appended (due_text due.old) (due_text due.new) (row_at time (all_before values.now) channel.now)) }
 {
     match &channel.beat {
         BeatTaps::A(taps) => {
@@ -57,14 +59,14 @@ fn push_row(
             };
             let mask = values.before(taps.mask);
             let lanes = values.before(taps.data);
-            push_ask(text, time, channel.link, cells, mask, lanes)?;
+            due.add_ask(time, channel.link, cells, mask, lanes)?;
         }
         BeatTaps::D(taps) => {
             let cells = match reply_cells(values, taps) {
                 Ok(cells) => cells,
                 Err(signal) => return Ok(Some(signal)),
             };
-            push_reply(text, time, channel.link, cells, values.before(taps.data))?;
+            due.add_reply(time, channel.link, cells, values.before(taps.data))?;
         }
     }
     Ok(None)
@@ -83,16 +85,16 @@ fn unknown_at(time: u64, channel: &Channel, signal: Signal) -> SampleFault
 
 /// Appends the row of a channel, if a beat crosses; if none does, its handshake has to be known.
 fn push_if_crosses(
-    text: &mut Vec<u8>,
+    due: &mut DueRows,
     needs: Needs,
     time: u64,
     values: &Values,
     channel: &Channel,
 ) -> Result<(), SampleFault>
-    ensures { Writes result text.old.items text.new.items (rows_at needs time (all_before values.now) channel.now) }
+    ensures { Writes result (due_text due.old) (due_text due.new) (rows_at needs time (all_before values.now) channel.now) }
 {
     if crosses(values, channel) {
-        return match push_row(text, time, values, channel)? {
+        return match push_row(due, time, values, channel)? {
             None => Ok(()),
             Some(signal) => Err(unknown_at(time, channel, signal)),
         };
@@ -105,18 +107,18 @@ fn push_if_crosses(
 
 /// Appends the rows of a time, up to the first beat that is none.
 fn push_rows(
-    text: &mut Vec<u8>,
+    due: &mut DueRows,
     watched: &[Watched],
     time: u64,
     values: &Values,
     channels: &[Channel],
 ) -> Result<(), SampleFault>
-    ensures { Writes result text.old.items text.new.items
+    ensures { Writes result (due_text due.old) (due_text due.new)
         (rows_of (map (λ one. one.due) watched.now) time (all_before values.now) channels.now) }
 {
     for channel in channels {
         if let Some(needs) = due_at(watched, channel.domain) {
-            push_if_crosses(text, needs, time, values, channel)?;
+            push_if_crosses(due, needs, time, values, channel)?;
         }
     }
     Ok(())
@@ -197,28 +199,28 @@ impl Sampler {
     }
 
     /// Appends the rows of the present time, first that of a reset of the whole system, up to the first beat that is none.
-    pub fn push_rows(&mut self, text: &mut Vec<u8>) -> Result<(), SampleFault>
-        ensures writes { Writes result text.old.items text.new.items (rows_now self.old) }
+    pub fn push_rows(&mut self, due: &mut DueRows) -> Result<(), SampleFault>
+        ensures writes { Writes result (due_text due.old) (due_text due.new) (rows_now self.old) }
         ensures same { self.new ≡ self.old }
     {
         let Some(time) = self.time else {
             return Ok(());
         };
         if is_reset_due(self.resets, &self.values, &self.watched) {
-            push_reset(text, time)?;
+            due.add_reset(time)?;
         }
-        self.push_beats(text, time)
+        self.push_beats(due, time)
     }
 
     /// Appends the rows of the beats at the present time, up to the first that is none.
-    fn push_beats(&mut self, text: &mut Vec<u8>, time: u64) -> Result<(), SampleFault>
-        ensures writes { Writes result text.old.items text.new.items (beat_rows time self.old) }
+    fn push_beats(&mut self, due: &mut DueRows, time: u64) -> Result<(), SampleFault>
+        ensures writes { Writes result (due_text due.old) (due_text due.new) (beat_rows time self.old) }
         ensures same { self.new ≡ self.old }
     {
         if !note_dues(&mut self.watched, &self.values) {
             return Ok(());
         }
-        push_rows(text, &self.watched, time, &self.values, &self.channels)
+        push_rows(due, &self.watched, time, &self.values, &self.channels)
     }
 
     /// Notes what there was at the edges of the present time.
@@ -257,11 +259,11 @@ impl Sampler {
     /// have crossed at an earlier time: else what is missing may be one.
     pub fn take(
         &mut self,
-        text: &mut Vec<u8>,
+        due: &mut DueRows,
         event: Event,
         digits: &[u8],
     ) -> Result<(), SampleFault>
-        ensures rows { (rest : List Happens) → LeadsToRows result text.old.items text.new.items
+        ensures rows { (rest : List Happens) → LeadsToRows result (due_text due.old) (due_text due.new)
             (rows_from (happens_of event digits.now ∷ rest) self.old) (rows_from rest self.new) }
         ensures state { OnOk result (self.new ≡ behind (happens_of event digits.now) self.old) }
         ensures gap { Joins result event self.old }
@@ -275,7 +277,7 @@ impl Sampler {
             }
             Event::Time(time) => {
                 if !self.is_at(time) {
-                    match self.push_rows(text) {
+                    match self.push_rows(due) {
                         Ok(()) => self.begin(time)?,
                         Err(fault) => return Err(fault),
                     }

@@ -1,5 +1,5 @@
 -- The text of a beat is a row.
-use Rattle.std.proofs.Common.{◌≡◌, ◌∙◌, ℕ, ◌+◌, ◌-◌, ◌^◌, ◌<◌, ◌≤◌, ◌==◌, Bool, true, false, List, [], ◌∷◌, length, Option, None, Some, Result, Ok, Err, arith, refl, ap, subst, if◌then◌else◌, ok_or}
+use Rattle.std.proofs.Common.{◌≡◌, ◌∙◌, ℕ, ◌+◌, ◌^◌, ◌<◌, ◌≤◌, ◌==◌, Bool, true, false, List, [], ◌∷◌, length, Option, None, Some, Result, Ok, Err, arith, refl, ap, subst, if◌then◌else◌, ok_or}
 use Rattle.std.specs.Prelude.{⊤}
 use Rattle.std.proofs.lemmas.Bool.Decides.{nat_tests}
 use Rattle.std.specs.Fmt.{decimal, digits}
@@ -12,9 +12,8 @@ use Rattle.check_rows.specs.Buses.{IsLinkOf, bus_of_link}
 use Rattle.check_rows.specs.Columns.{flag_of, flag_or}
 use Rattle.check_rows.specs.Number.{decimal_of, decimal_or_zero}
 use Rattle.check_rows.specs.Row.{ask_of_words, asks_for_mark, reply_of_words, row_of}
-use Rattle.check_rows.specs.declared.columns.RowChannel.TheVariants as channel
 use Rattle.check_samples.specs.Digits.{bits_of}
-use Rattle.check_samples.specs.Row.{ask_text, cells_of_ask, cells_of_reply, hex_text, known_number, link_text, mark_text, number_if_any, reply_text}
+use Rattle.check_samples.specs.Row.{ask_line, ask_text, cells_of_ask, cells_of_reply, hex_text, known_number, link_text, mark_text, number_if_any, reply_line, reply_text}
 use Rattle.tl_text.specs.Reading.{◌>>=◌}
 use Rattle.check_samples.specs.Rows.{row_at, row_by}
 use Rattle.check_samples.specs.declared.channel.AskTaps.{AskTaps}
@@ -28,14 +27,17 @@ use Rattle.check_samples.specs.declared.row.TheConstants.{MAX_BITS}
 use Rattle.check_samples.specs.declared.signal.Signal.{Signal}
 use Rattle.check_samples.specs.declared.signal.Signal.TheVariants as signal
 use Rattle.check_wave_laws.specs.Rows.{IsRow}
-use Rattle.check_wave_laws.specs.Seen.{AskFits, BeatFits, ReplyFits, ask_in, beat_in, flag_by, lanes_in, number_in, reply_in, reset_on_line, row_of_channel, row_on_line as row_shown}
-use Rattle.check_wave_laws.proofs.Buses.{IsBus, bus-of}
-use Rattle.check_wave_laws.proofs.Columns.{ask-line, ask-spelled, ask_words, channel-a, channel-d, link-read, reply-line, reply-spelled, reply_words, reset-line, reset-spelled, reset_words, row-spelled, word-link}
-use Rattle.check_wave_laws.proofs.Lanes.{lanes-read, mask-read}
-use Rattle.check_wave_laws.proofs.Numbers.{HasNumber, address-read, decimal-read, flag-read, given-read, has-number, number-below, zero-read}
-use Rattle.check_wave_laws.proofs.Words.{AreWords, IsWord, joined, parts-joined, plain-joined, word-bits, word-decimal, word-hex}
+use Rattle.check_samples.proofs.Plain.{plain-ask, plain-reply, plain-reset}
+use Rattle.check_due.specs.Rows.{ask_words, reply_words, reset_on_line, row_on_line as row_shown}
+use Rattle.check_due.proofs.Buses.{IsBus, bus-of}
+use Rattle.check_due.proofs.ColumnLemmas.{ask-spelled, reply-spelled}
+use Rattle.check_due.proofs.Lanes.{lanes-read, mask-read}
+use Rattle.check_due.proofs.Numbers.{HasNumber, address-read, decimal-read, flag-read, given-read, has-number, number-below, zero-read}
+use Rattle.check_due.proofs.RowLemmas.{Stands, ask-row, reply-row, reset-row}
+use Rattle.check_wave_laws.specs.Rows.{IsRow}
+use Rattle.check_wave_laws.specs.Seen.{AskFits, BeatFits, ReplyFits, ask_in, beat_in, flag_by, lanes_in, number_in, reply_in, row_of_channel}
 use Rattle.check_rows.specs.Column.{column_parts}
-use Rattle.check_samples.specs.Resets.{reset_row}
+use Rattle.check_samples.specs.Resets.{reset_line, reset_row}
 
 -- ---- the numbers of a beat
 
@@ -204,12 +206,6 @@ mark-of absent (bit ∷ bits) None has fits = elim has [ ]
 mark-of absent (bit ∷ bits) (Some n) has fits =
     flag-given absent (decimal n) (digits_value 2 (bit ∷ bits) == 1) (flag-of (bit ∷ bits) n has fits)
 
-word-mark : (bits : List ℕ) (mark : Option ℕ) → HasMark bits mark → IsWord (mark_text mark)
-word-mark [] None has = tt
-word-mark [] (Some n) has = elim has [ ]
-word-mark (bit ∷ bits) None has = elim has [ ]
-word-mark (bit ∷ bits) (Some n) has = word-decimal n has.small
-
 ask-columns : (bus time : ℕ) (link : Link) (values : List (List ℕ)) (taps : AskTaps) (cells : AskCells)
     → IsBus bus → AskNumbers values taps cells → AskFits bus values taps
     → ask_of_words bus (decimal time ∷ ask_words link cells (bits_of values taps.mask) (bits_of values taps.data))
@@ -250,129 +246,38 @@ reply-columns bus time link values taps cells of has fits =
 
 -- ---- the row of a beat
 
--- a link of such a system, and a time that there is
-record Stands (masters ports : List Bus) (time : ℕ) (link : Link) : Type 0 where
-  few_masters : length masters < 2 ^ 64
-  few_ports : length ports < 2 ^ 64
-  in_time : time < 2 ^ 64
-  has_link : IsLinkOf masters ports link
-
-ask-words : (masters ports : List Bus) (time : ℕ) (link : Link) (values : List (List ℕ)) (taps : AskTaps) (cells : AskCells)
-    → Stands masters ports time link → AskNumbers values taps cells
-    → AreWords (decimal time ∷ ask_words link cells (bits_of values taps.mask) (bits_of values taps.data))
-ask-words masters ports time link values taps cells at has = (
-  word-decimal time at.in_time,
-  (
-    word-link masters ports link at.few_masters at.few_ports at.has_link,
-    (
-      (omega arith, tt),
-      (
-        word-decimal cells.opcode has.opcode.small,
-        (
-          word-decimal cells.param has.param.small,
-          (
-            word-decimal cells.size has.size.small,
-            (
-              word-decimal cells.source has.source.small,
-              (
-                word-hex cells.address has.address.small,
-                (
-                  word-bits (bits_of values taps.mask),
-                  (word-bits (bits_of values taps.data), (tt, (word-mark (bits_of values taps.corrupt) cells.corrupt has.corrupt, tt))),
-                ),
-              ),
-            ),
-          ),
-        ),
-      ),
-    ),
-  ),
-)
-
-reply-words : (masters ports : List Bus) (time : ℕ) (link : Link) (values : List (List ℕ)) (taps : ReplyTaps) (cells : ReplyCells)
-    → Stands masters ports time link → ReplyNumbers values taps cells
-    → AreWords (decimal time ∷ reply_words link cells (bits_of values taps.data))
-reply-words masters ports time link values taps cells at has = (
-  word-decimal time at.in_time,
-  (
-    word-link masters ports link at.few_masters at.few_ports at.has_link,
-    (
-      (omega arith, tt),
-      (
-        word-decimal cells.opcode has.opcode.small,
-        (
-          word-mark (bits_of values taps.param) cells.param has.param,
-          (
-            word-decimal cells.size has.size.small,
-            (
-              word-decimal cells.source has.source.small,
-              (
-                tt,
-                (
-                  tt,
-                  (
-                    word-bits (bits_of values taps.data),
-                    (
-                      word-decimal cells.denied has.denied.small,
-                      (word-mark (bits_of values taps.corrupt) cells.corrupt has.corrupt, tt),
-                    ),
-                  ),
-                ),
-              ),
-            ),
-          ),
-        ),
-      ),
-    ),
-  ),
-)
-
-ask-row : (masters ports : List Bus) (line time : ℕ) (link : Link) (values : List (List ℕ)) (taps : AskTaps)
+ask-is-row : (masters ports : List Bus) (line time : ℕ) (link : Link) (values : List (List ℕ)) (taps : AskTaps)
     (cells : AskCells) → Stands masters ports time link → AskNumbers values taps cells
     → AskFits (bus_of_link masters ports link) values taps
     → IsRow masters ports (row_shown line time link (ask_in (bus_of_link masters ports link) values taps))
     (ask_text time link cells (bits_of values taps.mask) (bits_of values taps.data))
-ask-row masters ports line time link values taps cells at has fits =
+ask-is-row masters ports line time link values taps cells at has fits =
     let bus = bus_of_link masters ports link in
     let mask = bits_of values taps.mask in
     let lanes = bits_of values taps.data in
-    let words = ask_words link cells mask lanes in
-    let are = ask-words masters ports time link values taps cells at has in
     record {
-      line = joined (decimal time) words;
-      ends = ask-line time link cells mask lanes;
-      plain = plain-joined (decimal time) words are;
+      line = ask_line time link cells mask lanes;
+      ends = refl;
+      plain = plain-ask time link cells mask lanes;
       reads = λ resets told.
-          ap (row_of resets masters ports line) (parts-joined (decimal time) words are)
-          ∙ row-spelled resets masters ports line time link channel.A (ask_in bus values taps) (decimal time) (link_text link)
-          (65 ∷ []) (decimal cells.opcode) (decimal cells.param) (decimal cells.size) (decimal cells.source)
-          (digits 16 false cells.address) (hex_text mask) (hex_text lanes) [] (mark_text cells.corrupt)
-          (decimal-read (2 ^ 64 - 1) time at.in_time (omega (arith, at.in_time)))
-          (link-read masters ports link at.few_masters at.few_ports at.has_link) channel-a
+          ask-row resets masters ports line time link cells mask lanes (ask_in bus values taps) at
           (ask-columns bus time link values taps cells (bus-of masters ports link at.has_link) has fits);
     }
 
-reply-row : (masters ports : List Bus) (line time : ℕ) (link : Link) (values : List (List ℕ)) (taps : ReplyTaps)
+reply-is-row : (masters ports : List Bus) (line time : ℕ) (link : Link) (values : List (List ℕ)) (taps : ReplyTaps)
     (cells : ReplyCells) → Stands masters ports time link → ReplyNumbers values taps cells
     → ReplyFits (bus_of_link masters ports link) values taps
     → IsRow masters ports (row_shown line time link (reply_in (bus_of_link masters ports link) values taps))
     (reply_text time link cells (bits_of values taps.data))
-reply-row masters ports line time link values taps cells at has fits =
+reply-is-row masters ports line time link values taps cells at has fits =
     let bus = bus_of_link masters ports link in
     let lanes = bits_of values taps.data in
-    let words = reply_words link cells lanes in
-    let are = reply-words masters ports time link values taps cells at has in
     record {
-      line = joined (decimal time) words;
-      ends = reply-line time link cells lanes;
-      plain = plain-joined (decimal time) words are;
+      line = reply_line time link cells lanes;
+      ends = refl;
+      plain = plain-reply time link cells lanes;
       reads = λ resets told.
-          ap (row_of resets masters ports line) (parts-joined (decimal time) words are)
-          ∙ row-spelled resets masters ports line time link channel.D (reply_in bus values taps) (decimal time)
-          (link_text link) (68 ∷ []) (decimal cells.opcode) (mark_text cells.param) (decimal cells.size) (decimal cells.source) [] []
-          (hex_text lanes) (decimal cells.denied) (mark_text cells.corrupt)
-          (decimal-read (2 ^ 64 - 1) time at.in_time (omega (arith, at.in_time)))
-          (link-read masters ports link at.few_masters at.few_ports at.has_link) channel-d
+          reply-row resets masters ports line time link cells lanes (reply_in bus values taps) at
           (reply-columns bus time link values taps cells (bus-of masters ports link at.has_link) has fits);
     }
 
@@ -394,7 +299,7 @@ row-by masters ports line time values which text (A taps) at fits is = go (cells
     go (Ok cells) e made =
         let same : ask_text time which.link cells (bits_of values taps.mask) (bits_of values taps.data) ≡ text = cc in
         subst (IsRow masters ports (row_shown line time which.link (ask_in bus values taps))) same
-        (ask-row masters ports line time which.link values taps cells at (ask-numbers values taps cells e) fits)
+        (ask-is-row masters ports line time which.link values taps cells at (ask-numbers values taps cells e) fits)
     go (Err signal) e made = absurd (cc)
 row-by masters ports line time values which text (D taps) at fits is = go (cells_of_reply values taps) refl is
   where
@@ -407,7 +312,7 @@ row-by masters ports line time values which text (D taps) at fits is = go (cells
     go (Ok cells) e made =
         let same : reply_text time which.link cells (bits_of values taps.data) ≡ text = cc in
         subst (IsRow masters ports (row_shown line time which.link (reply_in bus values taps))) same
-        (reply-row masters ports line time which.link values taps cells at (reply-numbers values taps cells e) fits)
+        (reply-is-row masters ports line time which.link values taps cells at (reply-numbers values taps cells e) fits)
     go (Err signal) e made = absurd (cc)
 
 pub beat-row : (masters ports : List Bus) (line time : ℕ) (values : List (List ℕ)) (which : Channel) (text : List ℕ)
@@ -422,21 +327,11 @@ beat-row masters ports line time values which text m p t inside fits is =
 
 pub reset-is-row : (masters ports : List Bus) (line time : ℕ) → time < 2 ^ 64
     → IsRow masters ports (reset_on_line line time) (reset_row time)
-reset-is-row masters ports line time small =
-    let words : AreWords (decimal time ∷ reset_words) = (
-      word-decimal time small,
-      (
-        (omega arith, (omega arith, (omega arith, (omega arith, (omega arith, tt))))),
-        (tt, (tt, (tt, (tt, (tt, (tt, (tt, (tt, (tt, (tt, tt)))))))))),
-      ),
-    ) in
-    record {
-      line = joined (decimal time) reset_words;
-      ends = reset-line time;
-      plain = plain-joined (decimal time) reset_words words;
-      reads = λ resets told.
-          ap (λ (r : Bool). row_of r masters ports line (column_parts (joined (decimal time) reset_words))) (told refl)
-          ∙ ap (row_of true masters ports line) (parts-joined (decimal time) reset_words words)
-          ∙ reset-spelled masters ports line time (decimal time)
-          (decimal-read (2 ^ 64 - 1) time small (omega (arith, small)));
-    }
+reset-is-row masters ports line time small = record {
+  line = reset_line time;
+  ends = refl;
+  plain = plain-reset time;
+  reads = λ resets told.
+      ap (λ (r : Bool). row_of r masters ports line (column_parts (reset_line time))) (told refl)
+      ∙ reset-row masters ports line time small;
+}

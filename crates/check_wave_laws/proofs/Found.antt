@@ -30,7 +30,7 @@ use Rattle.check_signals.specs.declared.source.TheConstants.{MAX_WIDTH}
 use Rattle.check_signals.specs.declared.wanted.Wanted.{Wanted}
 use Rattle.check_signals.specs.declared.wanted.Wanted.TheVariants.{Exactly, AtMost, Optional, Extra}
 use Rattle.check_signals.specs.declared.wires.Places.{Places}
-use Rattle.check_wave_laws.proofs.Buses.{link-there}
+use Rattle.check_due.proofs.Buses.{link-there}
 
 -- ---- lists
 

@@ -1,8 +1,3 @@
-pub mod Numbers
-pub mod Buses
-pub mod Words
-pub mod Lanes
-pub mod Columns
 pub mod Beats
 pub mod Text
 pub mod Dumps

@@ -18,10 +18,11 @@ use Rattle.check_samples.specs.declared.channel.UnknownBit.{UnknownBit}
 use Rattle.check_samples.specs.declared.edges.Needs.{Needs}
 use Rattle.check_samples.specs.declared.signal.Signal.{Signal}
 use Rattle.check_samples.specs.declared.tap.Tap.{Tap}
-use Rattle.check_wave_laws.specs.Seen.{BeatFits, row_of_channel, reset_on_line}
+use Rattle.check_due.specs.Rows.{reset_on_line}
+use Rattle.check_wave_laws.specs.Seen.{BeatFits, row_of_channel}
 use Rattle.check_wave_laws.specs.Text.{AllLieWithin, AreRows, BeatTakes, ChannelFits, HappensFit, HasRows, LiesWithin, SamplingFits, TakesBeat, taps_bits, with_joined_width}
 use Rattle.check_wave_laws.proofs.Beats.{beat-row, reset-is-row}
-use Rattle.check_wave_laws.proofs.Buses.{bus-of}
+use Rattle.check_due.proofs.Buses.{bus-of}
 use Rattle.check_samples.specs.Domain.{Watched}
 use Rattle.check_samples.specs.Resets.{is_reset_due, reset_row, reset_rows, watched_reset}
 use Rattle.check_samples.specs.declared.reset.WatchedReset.{WatchedReset}

@@ -1,13 +1,9 @@
 -- Texts that are rows of captures. It is this project's own.
-use Rattle.std.specs.Prelude.{◌≡◌, ℕ, ◌≤◌, ⊤, Bool, true, List, [], ◌∷◌, ◌++◌, Ok}
+use Rattle.std.specs.Prelude.{◌≡◌, ℕ, Bool, true, List, [], ◌∷◌, ◌++◌, Ok}
 use Rattle.check_beats.specs.declared.bus.Bus.{Bus}
 use Rattle.check_rows.specs.Column.{column_parts}
 use Rattle.check_rows.specs.Row.{SeenRow, row_of}
-
--- no byte is below a comma: none is a blank, a quote or the end of a line
-abbrev pub IsPlain : List ℕ → Type 0
-IsPlain [] = ⊤
-IsPlain (byte ∷ text) = (44 ≤ byte) × IsPlain text
+use Rattle.check_samples.specs.Due.{IsPlain}
 
 -- the text is one line, and what stands between its commas is this row, by the definition of captures of a system whose
 -- masters' and ports' links have these buses, whether it has rows of resets or not. The row of a reset needs that it has them

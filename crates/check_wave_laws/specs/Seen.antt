@@ -1,16 +1,12 @@
 -- What the signals of a beat show, in the terms of captures. It is this project's own; the order of bits and lanes is that
 -- of the TileLink specification ("Signal descriptions").
-use Rattle.std.specs.Prelude.{ℕ, ◌-◌, ◌*◌, ◌≡◌, ◌≤◌, ◌==◌, Bool, false, true, List, [], ◌∷◌, drop, length, map, take, Option}
-use Rattle.std.specs.List.{range_with_len}
+use Rattle.std.specs.Prelude.{ℕ, ◌*◌, ◌≡◌, ◌≤◌, ◌==◌, Bool, List, [], ◌∷◌, length}
 use Rattle.std.specs.Str.Parse.{digits_value}
-use Rattle.tl_text.specs.Number.{number_of}
 use Rattle.check_beats.specs.declared.bus.Bus.{Bus}
-use Rattle.check_watch.specs.Plan.{seen_at}
 use Rattle.check_watch.specs.declared.beat.Beat.TheVariants as beat
-use Rattle.check_watch.specs.declared.beat.Link.{Link}
 use Rattle.check_rows.specs.Buses.{bus_of_link}
-use Rattle.check_rows.specs.Lanes.{SeenLanes, seen_of}
-use Rattle.check_rows.specs.Row.{SeenBeat, SeenRow, asks_for_mark, nothing_seen}
+use Rattle.check_rows.specs.Lanes.{SeenLanes}
+use Rattle.check_rows.specs.Row.{SeenBeat, SeenRow, asks_for_mark}
 use Rattle.check_samples.specs.Digits.{bits_of}
 use Rattle.check_samples.specs.declared.channel.AskTaps.{AskTaps}
 use Rattle.check_samples.specs.declared.channel.BeatTaps.{BeatTaps}
@@ -18,17 +14,16 @@ use Rattle.check_samples.specs.declared.channel.BeatTaps.TheVariants.{A, D}
 use Rattle.check_samples.specs.declared.channel.Channel.{Channel}
 use Rattle.check_samples.specs.declared.channel.ReplyTaps.{ReplyTaps}
 use Rattle.check_samples.specs.declared.tap.Tap.{Tap}
+use Rattle.check_due.specs.Lanes.{lanes_of_bits}
+use Rattle.check_due.specs.Rows.{row_on_line}
 
 -- the number that the bits of a signal spell, the highest first
 abbrev pub number_in : List (List ℕ) → Tap → ℕ
 number_in values tap = digits_value 2 (bits_of values tap)
 
--- the byte of a lane of a bus of so many bytes, if each of its bits is known; the bits of lane 0 stand last
-abbrev pub lane_in : ℕ → List ℕ → ℕ → Option ℕ
-lane_in bus bits lane = number_of 2 8 (take 8 (drop (8 * (bus - 1 - lane)) bits))
-
+-- the lanes of a bus of so many bytes that its bits show
 abbrev pub lanes_in : ℕ → List (List ℕ) → Tap → SeenLanes
-lanes_in bus values tap = seen_of (map (lane_in bus (bits_of values tap)) (range_with_len 0 bus))
+lanes_in bus values tap = lanes_of_bits bus (bits_of values tap)
 
 -- the beat of channel A that signals show, with its lanes. If there is no `a_corrupt`, it has no bits: it is not corrupt
 abbrev pub ask_in : ℕ → List (List ℕ) → AskTaps → SeenBeat
@@ -67,19 +62,6 @@ reply_in bus values taps = record {
 abbrev pub beat_in : ℕ → BeatTaps → List (List ℕ) → SeenBeat
 beat_in bus (A taps) values = ask_in bus values taps
 beat_in bus (D taps) values = reply_in bus values taps
-
--- the row of a beat at a link, on this line
-abbrev pub row_on_line : ℕ → ℕ → Link → SeenBeat → SeenRow
-row_on_line line time link seen = record {
-  line = line;
-  time = time;
-  is_reset = false;
-  sighting = seen_at link seen.beat seen.lanes.known seen.lanes.bytes;
-}
-
--- the row of a reset of the whole system, on this line
-abbrev pub reset_on_line : ℕ → ℕ → SeenRow
-reset_on_line line time = record { line = line; time = time; is_reset = true; sighting = nothing_seen }
 
 -- the row of a channel's beat, where the masters' links and the ports' have these buses
 abbrev pub row_of_channel : List Bus → List Bus → ℕ → ℕ → List (List ℕ) → Channel → SeenRow

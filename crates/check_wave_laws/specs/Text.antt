@@ -14,7 +14,8 @@ use Rattle.check_samples.specs.declared.channel.Channel.{Channel}
 use Rattle.check_samples.specs.declared.channel.ReplyTaps.{ReplyTaps}
 use Rattle.check_samples.specs.declared.tap.Tap.{Tap}
 use Rattle.check_wave_laws.specs.Rows.{IsRow}
-use Rattle.check_wave_laws.specs.Seen.{reset_on_line, row_of_channel}
+use Rattle.check_due.specs.Rows.{reset_on_line}
+use Rattle.check_wave_laws.specs.Seen.{row_of_channel}
 
 -- ---- rows of beats and of resets
 

@@ -17,7 +17,8 @@ ghost use Rattle.check_signals.specs.Found.{Found, digits_in, find_of, found_in,
 ghost use Rattle.check_signals.specs.Names.{SignalNames, names_of_file};
 ghost use Rattle.check_wave_laws.specs.Rows.{IsRow};
 ghost use Rattle.check_wave_laws.specs.Sampled.{AreSampled, EndsSampled, HasNoGap, NeverFalls, Wave, cut_after, wave_of};
-ghost use Rattle.check_wave_laws.specs.Seen.{BeatFits, reset_on_line, row_of_channel};
+ghost use Rattle.check_due.specs.Rows.{reset_on_line};
+ghost use Rattle.check_wave_laws.specs.Seen.{BeatFits, row_of_channel};
 ghost use Rattle.check_wave_laws.specs.Text.{FindFits, HasRows, SamplingFits};
 
 /// The text of a beat is a row of a capture: that of its time, its link and its channel, with the numbers that its

@@ -3,7 +3,8 @@ ghost use Rattle.std.specs.Prelude.{◌≡◌, ℕ, List, Option, map, option_ma
 ghost use Rattle.check_vcd.specs.Codes.{find_in};
 ghost use Rattle.check_vcd.specs.Dump.{Opens};
 ghost use Rattle.check_vcd.specs.Header.{var_view};
-ghost use Rattle.check_samples.specs.Left.{left_in};
+ghost use Rattle.check_vcd.specs.Words.{Both};
+ghost use Rattle.check_samples.specs.Left.{RowsGoOn, Stops, left_in};
 ghost use Rattle.check_signals.specs.Found.{slot_one, slots_from};
 ghost use Rattle.check_waves.specs.Capture.{GivesLinks, IsCapture, IsOpened, IsUnopened};
 ghost use Rattle.check_waves.specs.Links.{wave_links_view};
@@ -12,7 +13,7 @@ ghost use Rattle.check_waves.specs.Out.{AppendsFront, EndsCapture, Finishes, IsO
 use crate::fault::WaveFault;
 use crate::system::{WaveLinks, read_links};
 use check_rows::Buses;
-use check_samples::{Progress, Rows, Sampler};
+use check_samples::{DueRows, Progress, Rows, RowsFault, Sampler};
 use check_signals::find_signals;
 use check_vcd::{Dump, Var};
 use std::alloc::{AllocError, Global};
@@ -127,9 +128,25 @@ fn write_long<W: Write>(
     }
 }
 
+/// Appends the lines of the rows that are due next to a text.
+fn append_rows<D: Read + Drop>(
+    rows: &mut Rows<D>,
+    due: &mut DueRows,
+    text: &mut Vec<u8>,
+) -> Result<Progress, RowsFault>
+    ensures ok { IfOk result (λ progress. Both rows.old rows.new (RowsGoOn progress text.old.items text.new.items)) }
+    ensures fault { IfErr result (λ fault. IfSome rows.old (Stops fault text.old.items text.new.items)) }
+{
+    due.clear();
+    let answer = rows.read(due);
+    due.push_text(text)?;
+    answer
+}
+
 /// Appends the rows that are left to a text, and writes that whenever it is long.
 fn push_rows<D: Read + Drop, W: Write>(
     rows: &mut Rows<D>,
+    due: &mut DueRows,
     writer: &mut LimitedWriter<'_, W>,
     text: &mut Vec<u8>,
 ) -> Result<(), WaveFault>
@@ -138,7 +155,7 @@ fn push_rows<D: Read + Drop, W: Write>(
         (W.contents writer.old.writer.now) (W.contents writer.new.writer.now)) }
 {
     for _ in 0..u64::MAX {
-        match rows.read(text) {
+        match append_rows(rows, due, text) {
             Ok(Progress::More) => {}
             Ok(Progress::Over) => return Ok(()),
             Err(fault) => return Err(WaveFault::from(fault)),
@@ -188,7 +205,8 @@ fn write_left<D: Read + Drop, W: Write>(
 {
     let mut text = Vec::with_capacity(alloc, 2 * ROOM)?;
     text.extend_from_slice(HEADER)?;
-    let answer = push_rows(rows, writer, &mut text);
+    let mut due = DueRows::new(alloc);
+    let answer = push_rows(rows, &mut due, writer, &mut text);
     finish(writer, &text, answer)
 }
 

@@ -2,7 +2,8 @@
 use Rattle.std.proofs.Common.{◌∙◌, IfSome, List, ℕ, None, Option, Some, ◌+◌, ap, refl, subst, sym}
 use Rattle.check_vcd.specs.Words.{Both}
 use Rattle.check_text.specs.Buses.{link_buses}
-use Rattle.check_dump.specs.Lines.{SpellsRow, coming, line_at_hand, rest_at_hand}
+use Rattle.check_samples.specs.Due.{due_line}
+use Rattle.check_dump.specs.Lines.{SpellsRow, coming, line_at_hand}
 use Rattle.check_dump.specs.Replay.{LineStops, TookLines, later_of}
 use Rattle.check_dump.specs.declared.replay.Halt.{Halt}
 use Rattle.check_dump.specs.declared.replay.Place.{Place}
@@ -30,7 +31,7 @@ returns-in-Ok-false-clause-ok g c =
     let contents = g.W.Write.contents in
     took_all (link_buses c.args.buses.now) c.args.judge.now (contents c.args.writer.now.writer.now) c.loop.judge.tally
     c.loop.judge c.loop.place (contents c.loop.writer.writer.now) c.loop.told.items (coming c.args.lines.now)
-    (coming c.loop.lines) c.loop.invariant.taken (rest_at_hand c.read.new.self) c.read.new.self.ended
+    (coming c.loop.lines) c.loop.invariant.taken c.read.new.self.ended
     (c.in-Ok-false.ensures.none c.in-Ok-false.field-0-test)
 
 pub returns-in-Err-clause-halt : goal.returns-in-Err-clause-halt
@@ -50,12 +51,12 @@ returns-in_default-clause-halt g c =
     let grown = c.take_line-taken.new.told.items in
     let S : List ℕ → Type 0 = λ line. LineStops buses c.loop.place.number line c.loop.judge tally text grown c.stopped.result in
     let I : Option Halt → Type 0 =
-    λ halt. IfSome halt (LineStops buses c.loop.place.number c.line-line.result.now c.loop.judge tally text grown) in
+    λ halt. IfSome halt (LineStops buses c.loop.place.number (due_line c.row-due.result) c.loop.judge tally text grown) in
     let stops : I (Some c.stopped.result) = subst I c.stopped.ensures (c.in_default.ensures.halt refl) in
     row_halts buses c.args.judge.now (contents c.args.writer.now.writer.now) tally c.loop.judge c.loop.place
     (contents c.loop.writer.writer.now) text (coming c.args.lines.now) (coming c.loop.lines) c.loop.invariant.taken
     (coming c.read.new.self) (line_at_hand c.read.new.self) grown c.stopped.result
-    (c.in-Ok-true.ensures.line c.in-Ok-true.field-0-test) (subst S c.line-line.ensures stops)
+    (c.in-Ok-true.ensures.line c.in-Ok-true.field-0-test) (subst S c.row-due.ensures stops)
 
 pub returns-in-None-clause-halt : goal.returns-in-None-clause-halt
 returns-in-None-clause-halt g c =
@@ -66,7 +67,7 @@ returns-in-None-clause-halt g c =
     c.take_line-taken.new.judge c.loop.place (contents c.loop.writer.writer.now) c.loop.told.items c.take_line-taken.new.told.items
     (line_at_hand c.read.new.self) ok.0 (coming c.args.lines.now) (coming c.loop.lines) (coming c.read.new.self)
     c.loop.invariant.taken (c.in-Ok-true.ensures.line c.in-Ok-true.field-0-test)
-    (subst (λ (line : List ℕ). SpellsRow buses c.loop.place.number line ok.0) c.line-line.ensures ok.1) ok.3
+    (subst (λ (line : List ℕ). SpellsRow buses c.loop.place.number line ok.0) c.row-due.ensures ok.1) ok.3
 
 pub returns-clause-halt : goal.returns-clause-halt
 returns-clause-halt g c =
@@ -87,7 +88,7 @@ returns-in-Err-write_long-clause-halt g c =
     (contents c.write_long.new.writer.writer.now) c.loop.told.items c.take_line-taken.new.told.items c.write_long.new.text.items
     (line_at_hand c.read.new.self) ok.0 (coming c.args.lines.now) (coming c.loop.lines) (coming c.read.new.self)
     c.loop.invariant.taken (c.in-Ok-true.ensures.line c.in-Ok-true.field-0-test)
-    (subst (λ (line : List ℕ). SpellsRow buses c.loop.place.number line ok.0) c.line-line.ensures ok.1) ok.3
+    (subst (λ (line : List ℕ). SpellsRow buses c.loop.place.number line ok.0) c.row-due.ensures ok.1) ok.3
     (c.in-Some-behind.ensures ∙ ap place_at (sym ok.2)) c.in-Err-write_long.ensures.front
 
 pub loop-preserved : goal.loop-preserved
@@ -107,6 +108,6 @@ loop-preserved g c =
           c.loop.told.items c.take_line-taken.new.told.items c.write_long.new.text.items (line_at_hand c.read.new.self) ok.0
           (coming c.args.lines.now) (coming c.loop.lines) (coming c.read.new.self) c.loop.invariant.taken
           (c.in-Ok-true.ensures.line c.in-Ok-true.field-0-test)
-          (subst (λ (line : List ℕ). SpellsRow buses c.loop.place.number line ok.0) c.line-line.ensures ok.1) ok.3
+          (subst (λ (line : List ℕ). SpellsRow buses c.loop.place.number line ok.0) c.row-due.ensures ok.1) ok.3
           (c.in-Some-behind.ensures ∙ ap place_at (sym ok.2)) c.in-Ok.ensures.moves;
     }

@@ -1,5 +1,6 @@
 -- The rows so far stand before those of the other channels.
 use Rattle.std.proofs.Common.{◌≡◌, ◌++◌, drop, map}
+use Rattle.check_samples.specs.Due.{due_text}
 use Rattle.check_samples.specs.Rows.{rows_of}
 use Rattle.check_samples.specs.Values.{all_before}
 use Rattle.check_samples.proofs.sampler.push_rows.Given as goal
@@ -10,6 +11,6 @@ invariant-loop-channel l =
     let rest = rows_of dues l.time (all_before l.values) (drop l.channel-index l.channels) in
     let all = rows_of dues l.time (all_before l.values) l.channels in
     record {
-      text : l.text.items ++ rest.text ≡ l.fn.text.items ++ all.text;
+      text : due_text l.due ++ rest.text ≡ due_text l.fn.due ++ all.text;
       fault : rest.fault ≡ all.fault;
     }

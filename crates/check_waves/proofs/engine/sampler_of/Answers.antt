@@ -1,5 +1,5 @@
 -- The rows are those of what happens after the header.
-use Rattle.std.proofs.Common.{map, option_map, ◌∙◌}
+use Rattle.std.proofs.Common.{map, option_map}
 use Rattle.std.specs.Option.{IfSome}
 use Rattle.check_vcd.specs.Header.{var_view}
 use Rattle.check_waves.specs.Capture.{IsUnopened, found_among}

@@ -1,6 +1,7 @@
 -- No clock has an edge outside of reset.
 use Rattle.std.proofs.Common.{◌≡◌, append-nil, false, is_some, refl, rules, sym}
 use Rattle.std.specs.List.{list_any}
+use Rattle.check_samples.specs.Due.{due_text}
 use Rattle.check_samples.specs.Rows.{no_rows}
 use Rattle.check_samples.specs.Sampling.{beat_rows, dues_of}
 use Rattle.check_samples.proofs.WatchedLemmas.{rows-idle}
@@ -11,4 +12,4 @@ returns-then-not-note_dues-clause-writes c =
     let s = c.args.self.now in
     let none : list_any (λ due. is_some due) (dues_of s.before s.now s.watched) ≡ false = search rules in
     let idle : beat_rows c.args.time s ≡ no_rows = rows-idle s c.args.time none in
-    rw idle (sym (append-nil c.args.text.now.items), refl)
+    rw idle (sym (append-nil (due_text c.args.due.now)), refl)

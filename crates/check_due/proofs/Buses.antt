@@ -8,7 +8,7 @@ use Rattle.check_watch.specs.declared.beat.Link.{Link}
 use Rattle.check_watch.specs.declared.beat.Link.TheVariants.{Master, Port}
 use Rattle.check_rows.specs.Buses.{HasBus, IsLinkOf, bus_of_link}
 
-some-bytes : (bus : Bus) → 0 < bus_bytes bus
+pub some-bytes : (bus : Bus) → 0 < bus_bytes bus
 some-bytes One = omega arith
 some-bytes Two = omega arith
 some-bytes Four = omega arith

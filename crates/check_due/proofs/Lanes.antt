@@ -3,6 +3,7 @@ use Rattle.std.proofs.Common.{◌≡◌, ◌∙◌, ℕ, zero, suc, ◌+◌, ◌
 use Rattle.std.proofs.lemmas.Bool.{and_from, and_parts, cases_Bool, eq-eqb, le-leb, lt-ltb, ne_eqb}
 use Rattle.std.proofs.lemmas.Bool.Decides.{nat_tests}
 use Rattle.std.proofs.lemmas.Int.Digits.{digits_value-lt}
+use Rattle.std.proofs.lemmas.List.Folds.{list_all_at}
 use Rattle.std.specs.Char.{digit_value, is_digit}
 use Rattle.std.specs.Fmt.{digit_glyph}
 use Rattle.std.specs.List.{list_all, range_with_len}
@@ -11,14 +12,15 @@ use Rattle.tl_text.specs.Number.{below_64_bits, number_of, pair_of}
 use Rattle.check_beats.specs.Bus.{bus_bytes}
 use Rattle.check_beats.specs.declared.bus.Bus.{Bus}
 use Rattle.check_beats.specs.declared.bus.Bus.TheVariants.{One, Two, Four, Eight, Sixteen, ThirtyTwo, SixtyFour}
-use Rattle.check_rows.specs.Lanes.{all_of, is_shown, lane_at, lane_of_digits, lanes_of, seen_of, shown_by, zeros}
+use Rattle.check_rows.specs.Lanes.{SeenLanes, all_of, is_shown, lane_at, lane_of_digits, lanes_of, seen_of, shown_by, zeros}
 use Rattle.check_rows.specs.Number.{hex_of, mask_digits, mask_of}
 use Rattle.tl_text.specs.Reading.{◌>>=◌}
 use Rattle.check_rows.specs.declared.fault.RowFault.{RowFault}
 use Rattle.check_rows.specs.declared.fault.RowFault.TheVariants.{Number}
 use Rattle.check_samples.specs.Row.{digit_by, digit_of, hex_text, hexes}
-use Rattle.check_wave_laws.specs.Seen.{lane_in}
-use Rattle.check_wave_laws.proofs.Numbers.{HasNumber, digits-all, number-below}
+use Rattle.check_samples.proofs.BitLemmas.{bit_of}
+use Rattle.check_due.specs.Lanes.{lane_in, lanes_of_bits}
+use Rattle.check_due.proofs.Numbers.{HasNumber, digits-all, has-number, number-below}
 
 -- whether each of the bits is known
 abbrev are_known : List ℕ → Bool
@@ -100,6 +102,91 @@ lane-no-low high digit =
 shown-digit : (c : ℕ) → is_digit c 16 ≡ true → is_shown c ≡ true
 shown-digit c digit =
     ap (λ (t : Bool). t || ((c == 120) || (c == 88) || (c == 122) || (c == 90))) digit
+
+-- ---- eight bits
+
+-- each of eight is known, as they are tested
+abbrev eight_known : List ℕ → Bool
+eight_known bits =
+    (((is_digit (get_or bits 0 0) 2 && is_digit (get_or bits 1 0) 2) && is_digit (get_or bits 2 0) 2)
+    && is_digit (get_or bits 3 0) 2)
+    && (((is_digit (get_or bits 4 0) 2 && is_digit (get_or bits 5 0) 2) && is_digit (get_or bits 6 0) 2)
+    && is_digit (get_or bits 7 0) 2)
+
+all-eight : (a b c d e f g h : Bool)
+    → (a && (b && (c && (d && (e && (f && (g && (h && true)))))))) ≡ ((((a && b) && c) && d) && (((e && f) && g) && h))
+all-eight false b c d e f g h = refl
+all-eight true false c d e f g h = refl
+all-eight true true false d e f g h = refl
+all-eight true true true false e f g h = refl
+all-eight true true true true false f g h = refl
+all-eight true true true true true false g h = refl
+all-eight true true true true true true false h = refl
+all-eight true true true true true true true false = refl
+all-eight true true true true true true true true = refl
+
+same-known : (bits : List ℕ) → length bits ≡ 8 → are_known bits ≡ eight_known bits
+same-known [] eight = absurd (omega (arith, eight))
+same-known (a ∷ []) eight = absurd (omega (arith, eight))
+same-known (a ∷ b ∷ []) eight = absurd (omega (arith, eight))
+same-known (a ∷ b ∷ c ∷ []) eight = absurd (omega (arith, eight))
+same-known (a ∷ b ∷ c ∷ d ∷ []) eight = absurd (omega (arith, eight))
+same-known (a ∷ b ∷ c ∷ d ∷ e ∷ []) eight = absurd (omega (arith, eight))
+same-known (a ∷ b ∷ c ∷ d ∷ e ∷ f ∷ []) eight = absurd (omega (arith, eight))
+same-known (a ∷ b ∷ c ∷ d ∷ e ∷ f ∷ g ∷ []) eight = absurd (omega (arith, eight))
+same-known (a ∷ b ∷ c ∷ d ∷ e ∷ f ∷ g ∷ h ∷ []) eight =
+    all-eight (is_digit a 2) (is_digit b 2) (is_digit c 2) (is_digit d 2) (is_digit e 2) (is_digit f 2) (is_digit g 2)
+    (is_digit h 2)
+same-known (a ∷ b ∷ c ∷ d ∷ e ∷ f ∷ g ∷ h ∷ i ∷ bits) eight = absurd (omega (arith, eight))
+
+-- the number of a bit at a place, if all are known
+bit-at : (bits : List ℕ) (i : ℕ) → i < length bits → are_known bits ≡ true
+    → digit_value (get_or bits i 0) ≡ get_or bits i 0 % 2
+bit-at bits i inside known = bit_of (get_or bits i 0) (go (is_digit (get_or bits i 0) 2) refl)
+  where
+    go : (digit : Bool) → is_digit (get_or bits i 0) 2 ≡ digit → is_digit (get_or bits i 0) 2 ≡ true
+    go true is = is
+    go false is = let none : are_known bits ≡ false = list_all_at (λ c. is_digit c 2) bits i 0 inside is in absurd (cc)
+
+-- the byte that eight bits are, put together
+abbrev byte_by : List ℕ → ℕ
+byte_by bits =
+    16 * (8 * (get_or bits 0 0 % 2) + 4 * (get_or bits 1 0 % 2) + 2 * (get_or bits 2 0 % 2) + get_or bits 3 0 % 2)
+    + 8 * (get_or bits 4 0 % 2) + 4 * (get_or bits 5 0 % 2) + 2 * (get_or bits 6 0 % 2) + get_or bits 7 0 % 2
+
+same-byte : (bits : List ℕ) → length bits ≡ 8 → are_known bits ≡ true → digits_value 2 bits ≡ byte_by bits
+same-byte [] eight known = absurd (omega (arith, eight))
+same-byte (a ∷ []) eight known = absurd (omega (arith, eight))
+same-byte (a ∷ b ∷ []) eight known = absurd (omega (arith, eight))
+same-byte (a ∷ b ∷ c ∷ []) eight known = absurd (omega (arith, eight))
+same-byte (a ∷ b ∷ c ∷ d ∷ []) eight known = absurd (omega (arith, eight))
+same-byte (a ∷ b ∷ c ∷ d ∷ e ∷ []) eight known = absurd (omega (arith, eight))
+same-byte (a ∷ b ∷ c ∷ d ∷ e ∷ f ∷ []) eight known = absurd (omega (arith, eight))
+same-byte (a ∷ b ∷ c ∷ d ∷ e ∷ f ∷ g ∷ []) eight known = absurd (omega (arith, eight))
+same-byte (a ∷ b ∷ c ∷ d ∷ e ∷ f ∷ g ∷ h ∷ []) eight known =
+    let bits : List ℕ = a ∷ b ∷ c ∷ d ∷ e ∷ f ∷ g ∷ h ∷ [] in
+    omega (
+      arith,
+      bit-at bits 0 (omega arith) known,
+      bit-at bits 1 (omega arith) known,
+      bit-at bits 2 (omega arith) known,
+      bit-at bits 3 (omega arith) known,
+      bit-at bits 4 (omega arith) known,
+      bit-at bits 5 (omega arith) known,
+      bit-at bits 6 (omega arith) known,
+      bit-at bits 7 (omega arith) known,
+    )
+same-byte (a ∷ b ∷ c ∷ d ∷ e ∷ f ∷ g ∷ h ∷ i ∷ bits) eight known = absurd (omega (arith, eight))
+
+pub byte-known : (bits : List ℕ) → length bits ≡ 8 → eight_known bits ≡ true → Some (byte_by bits) ≡ number_of 2 8 bits
+byte-known bits eight all =
+    let known : are_known bits ≡ true = same-known bits eight ∙ all in
+    let value : digits_value 2 bits ≡ byte_by bits = same-byte bits eight known in
+    sym (number-known 8 bits known (omega (arith, eight)) (omega (arith, eight)) (omega (arith, value))
+    ∙ ap (λ (n : ℕ). Some n) value)
+
+pub byte-unknown : (bits : List ℕ) → length bits ≡ 8 → eight_known bits ≡ false → None ≡ number_of 2 8 bits
+byte-unknown bits eight some = sym (number-unknown 8 bits (same-known bits eight ∙ some))
 
 -- ---- bits together
 
@@ -342,6 +429,11 @@ pub mask-read : (width : Bus) (bus n : ℕ) (bits : List ℕ) → bus ≡ bus_by
 mask-read width bus n bits is size has =
     ap (λ (b : ℕ). mask_of b (hex_text bits)) is ∙ mask-at width n bits (size ∙ is) has
 
+-- the mask of bits that spell a number
+pub mask-known : (bus : Bus) (bits : List ℕ) (mask : ℕ) → length bits ≡ bus_bytes bus → number_of 2 64 bits ≡ Some mask
+    → mask_of (bus_bytes bus) (hex_text bits) ≡ Ok mask
+mask-known bus bits mask size is = mask-read bus (bus_bytes bus) mask bits refl size (has-number 64 bits mask is)
+
 -- ---- data
 
 -- the digits of a lane of bits, counted from the last lane
@@ -378,7 +470,7 @@ all-shown bus word bits shown first (suc count) inside =
     (all-shown bus word bits shown (first + 1) count (omega (arith, inside)))
 
 pub lanes-read : (bus : ℕ) (bits : List ℕ) → 0 < bus → length bits ≡ 8 * bus
-    → lanes_of bus (hex_text bits) ≡ Ok (seen_of (map (lane_in bus bits) (range_with_len 0 bus)))
+    → lanes_of bus (hex_text bits) ≡ Ok (lanes_of_bits bus bits)
 unfolding lanes_of shown_by
 lanes-read bus bits some size =
     let word = hexes bits in
@@ -391,3 +483,7 @@ lanes-read bus bits some size =
     (ne_eqb (length word) 0 (λ (none : length word ≡ 0). omega (arith, none, long, some)))
     ∙ ap (λ (t : Bool). cond t (ok_or (shown_by bus word) Number) (Err Number)) (eq-eqb (length word) (2 * bus) long)
     ∙ ap (λ (lanes : Option (List (Option ℕ))). ok_or (option_map seen_of lanes) Number) shown
+
+pub lanes-shown : (bus : ℕ) (bits : List ℕ) (seen : SeenLanes) → 0 < bus → length bits ≡ 8 * bus → seen ≡ lanes_of_bits bus bits
+    → lanes_of bus (hex_text bits) ≡ Ok seen
+lanes-shown bus bits seen some size is = lanes-read bus bits some size ∙ ap (λ (lanes : SeenLanes). Ok lanes) (sym is)

@@ -1,5 +1,5 @@
 -- The columns of a row, and the row that they spell.
-use Rattle.std.proofs.Common.{◌≡◌, ◌∙◌, ℕ, ◌-◌, ◌^◌, ◌<◌, ◌==◌, Bool, false, true, List, [], ◌∷◌, ◌++◌, length, codes, Result, Ok, arith, refl, sym, ap, append_assoc}
+use Rattle.std.proofs.Common.{◌≡◌, ℕ, ◌-◌, ◌^◌, ◌<◌, ◌==◌, Bool, false, true, List, [], ◌∷◌, ◌++◌, length, Result, Ok, arith, refl, ap, append_assoc}
 use Rattle.std.specs.Fmt.{decimal, digits}
 use Rattle.csv.specs.Records.{field_at}
 use Rattle.check_beats.specs.declared.bus.Bus.{Bus}
@@ -15,88 +15,57 @@ use Rattle.check_rows.specs.Row.{SeenBeat, ask_of_words, asks_for_mark, beat_of,
 use Rattle.check_rows.specs.declared.columns.RowChannel.{RowChannel}
 use Rattle.check_rows.specs.declared.columns.RowChannel.TheVariants as channel
 use Rattle.check_rows.specs.declared.fault.RowFault.{RowFault}
-use Rattle.check_samples.specs.Row.{ask_text, hex_text, link_text, mark_text, reply_text}
+use Rattle.check_samples.specs.Row.{ask_line, hex_text, link_text, mark_text, reply_line}
 use Rattle.check_samples.specs.declared.row.AskCells.{AskCells}
 use Rattle.check_samples.specs.declared.row.ReplyCells.{ReplyCells}
-use Rattle.check_samples.specs.Resets.{reset_row}
-use Rattle.check_wave_laws.specs.Seen.{reset_on_line, row_on_line}
-use Rattle.check_wave_laws.proofs.Numbers.{index-read}
-use Rattle.check_wave_laws.proofs.Words.{IsWord, joined, word-decimal}
+use Rattle.check_samples.specs.Resets.{reset_line}
+use Rattle.check_due.specs.Rows.{ask_words, reply_words, reset_on_line, reset_words, row_on_line}
+use Rattle.check_due.proofs.Numbers.{index-read}
+use Rattle.check_due.proofs.Words.{joined}
 
 -- ---- the words of a row
 
--- those after the time
-abbrev pub ask_words : Link → AskCells → List ℕ → List ℕ → List (List ℕ)
-ask_words link cells mask lanes =
-    link_text link ∷ (65 ∷ []) ∷ decimal cells.opcode ∷ decimal cells.param ∷ decimal cells.size ∷ decimal cells.source
-    ∷ digits 16 false cells.address ∷ hex_text mask ∷ hex_text lanes ∷ [] ∷ mark_text cells.corrupt ∷ []
-
-abbrev pub reply_words : Link → ReplyCells → List ℕ → List (List ℕ)
-reply_words link cells lanes =
-    link_text link ∷ (68 ∷ []) ∷ decimal cells.opcode ∷ mark_text cells.param ∷ decimal cells.size ∷ decimal cells.source
-    ∷ [] ∷ [] ∷ hex_text lanes ∷ decimal cells.denied ∷ mark_text cells.corrupt ∷ []
-
 -- texts one after the other, and some of them together
-regrouped : (t h i n o p q x y z e : List ℕ)
-    → (t ++ h ++ i) ++ (n ++ o ++ p ++ q) ++ (x ++ y ++ z) ++ e
-    ≡ t ++ (h ++ (i ++ (n ++ (o ++ (p ++ (q ++ (x ++ (y ++ (z ++ e)))))))))
-regrouped t h i n o p q x y z e = simp append_assoc
-
-regrouped-two : (t h i n o p q x y z e f : List ℕ)
-    → (t ++ h ++ i) ++ (n ++ o ++ p ++ q) ++ (x ++ y ++ z) ++ e ++ f
+regrouped : (t h i n o p q x y z e f : List ℕ)
+    → (t ++ h ++ i) ++ (n ++ o ++ p ++ q) ++ (x ++ y ++ z) ++ (e ++ f)
     ≡ t ++ (h ++ (i ++ (n ++ (o ++ (p ++ (q ++ (x ++ (y ++ (z ++ (e ++ f))))))))))
-regrouped-two t h i n o p q x y z e f = simp append_assoc
+regrouped t h i n o p q x y z e f = simp append_assoc
 
-one-more : (t h i n o p q x y z e : List ℕ)
-    → (t ++ (h ++ (i ++ (n ++ (o ++ (p ++ (q ++ (x ++ (y ++ z))))))))) ++ e
-    ≡ t ++ (h ++ (i ++ (n ++ (o ++ (p ++ (q ++ (x ++ (y ++ (z ++ e)))))))))
-one-more t h i n o p q x y z e = simp append_assoc
-
-two-more : (t h i n o p q x y z e f : List ℕ)
-    → (t ++ (h ++ (i ++ (n ++ (o ++ (p ++ (q ++ (x ++ (y ++ (z ++ e)))))))))) ++ f
-    ≡ t ++ (h ++ (i ++ (n ++ (o ++ (p ++ (q ++ (x ++ (y ++ (z ++ (e ++ f))))))))))
-two-more t h i n o p q x y z e f = simp append_assoc
+regrouped-three : (t h i n o p q x y z : List ℕ)
+    → (t ++ h ++ i) ++ (n ++ o ++ p ++ q) ++ (x ++ y ++ z)
+    ≡ t ++ (h ++ (i ++ (n ++ (o ++ (p ++ (q ++ (x ++ (y ++ z))))))))
+regrouped-three t h i n o p q x y z = simp append_assoc
 
 ask-joined : (t l o p z s a m d c : List ℕ)
     → (t ++ (44 ∷ l) ++ (44 ∷ 65 ∷ [])) ++ ((44 ∷ o) ++ (44 ∷ p) ++ (44 ∷ z) ++ (44 ∷ s))
-    ++ ((44 ∷ a) ++ (44 ∷ m) ++ (44 ∷ d)) ++ ((44 ∷ []) ++ (44 ∷ c)) ++ (10 ∷ [])
-    ≡ joined t (l ∷ (65 ∷ []) ∷ o ∷ p ∷ z ∷ s ∷ a ∷ m ∷ d ∷ [] ∷ c ∷ []) ++ (10 ∷ [])
+    ++ ((44 ∷ a) ++ (44 ∷ m) ++ (44 ∷ d)) ++ ((44 ∷ []) ++ (44 ∷ c))
+    ≡ joined t (l ∷ (65 ∷ []) ∷ o ∷ p ∷ z ∷ s ∷ a ∷ m ∷ d ∷ [] ∷ c ∷ [])
 ask-joined t l o p z s a m d c =
-    regrouped-two t (44 ∷ l) (44 ∷ 65 ∷ []) (44 ∷ o) (44 ∷ p) (44 ∷ z) (44 ∷ s) (44 ∷ a) (44 ∷ m) (44 ∷ d)
-    (44 ∷ 44 ∷ c) (10 ∷ [])
-    ∙ sym (two-more t (44 ∷ l) (44 ∷ 65 ∷ []) (44 ∷ o) (44 ∷ p) (44 ∷ z) (44 ∷ s) (44 ∷ a) (44 ∷ m) (44 ∷ d)
-    (44 ∷ 44 ∷ c) (10 ∷ []))
+    regrouped t (44 ∷ l) (44 ∷ 65 ∷ []) (44 ∷ o) (44 ∷ p) (44 ∷ z) (44 ∷ s) (44 ∷ a) (44 ∷ m) (44 ∷ d) (44 ∷ []) (44 ∷ c)
 
-pub ask-line : (time : ℕ) (link : Link) (cells : AskCells) (mask lanes : List ℕ)
-    → ask_text time link cells mask lanes ≡ joined (decimal time) (ask_words link cells mask lanes) ++ (10 ∷ [])
-unfolding ask_text
-ask-line time link cells mask lanes =
+pub ask-words : (time : ℕ) (link : Link) (cells : AskCells) (mask lanes : List ℕ)
+    → ask_line time link cells mask lanes ≡ joined (decimal time) (ask_words link cells mask lanes)
+unfolding ask_line
+ask-words time link cells mask lanes =
     ask-joined (decimal time) (link_text link) (decimal cells.opcode) (decimal cells.param) (decimal cells.size)
     (decimal cells.source) (digits 16 false cells.address) (hex_text mask) (hex_text lanes) (mark_text cells.corrupt)
 
 reply-joined : (t l o p z s d n c : List ℕ)
     → (t ++ (44 ∷ l) ++ (44 ∷ 68 ∷ [])) ++ ((44 ∷ o) ++ (44 ∷ p) ++ (44 ∷ z) ++ (44 ∷ s))
-    ++ ((44 ∷ 44 ∷ 44 ∷ d) ++ (44 ∷ n) ++ (44 ∷ c)) ++ (10 ∷ [])
-    ≡ joined t (l ∷ (68 ∷ []) ∷ o ∷ p ∷ z ∷ s ∷ [] ∷ [] ∷ d ∷ n ∷ c ∷ []) ++ (10 ∷ [])
+    ++ ((44 ∷ 44 ∷ 44 ∷ d) ++ (44 ∷ n) ++ (44 ∷ c))
+    ≡ joined t (l ∷ (68 ∷ []) ∷ o ∷ p ∷ z ∷ s ∷ [] ∷ [] ∷ d ∷ n ∷ c ∷ [])
 reply-joined t l o p z s d n c =
-    regrouped t (44 ∷ l) (44 ∷ 68 ∷ []) (44 ∷ o) (44 ∷ p) (44 ∷ z) (44 ∷ s) (44 ∷ 44 ∷ 44 ∷ d) (44 ∷ n) (44 ∷ c)
-    (10 ∷ [])
-    ∙ sym (one-more t (44 ∷ l) (44 ∷ 68 ∷ []) (44 ∷ o) (44 ∷ p) (44 ∷ z) (44 ∷ s) (44 ∷ 44 ∷ 44 ∷ d) (44 ∷ n) (44 ∷ c)
-    (10 ∷ []))
+    regrouped-three t (44 ∷ l) (44 ∷ 68 ∷ []) (44 ∷ o) (44 ∷ p) (44 ∷ z) (44 ∷ s) (44 ∷ 44 ∷ 44 ∷ d) (44 ∷ n) (44 ∷ c)
 
-pub reply-line : (time : ℕ) (link : Link) (cells : ReplyCells) (lanes : List ℕ)
-    → reply_text time link cells lanes ≡ joined (decimal time) (reply_words link cells lanes) ++ (10 ∷ [])
-unfolding reply_text
-reply-line time link cells lanes =
+pub reply-words : (time : ℕ) (link : Link) (cells : ReplyCells) (lanes : List ℕ)
+    → reply_line time link cells lanes ≡ joined (decimal time) (reply_words link cells lanes)
+unfolding reply_line
+reply-words time link cells lanes =
     reply-joined (decimal time) (link_text link) (decimal cells.opcode) (mark_text cells.param) (decimal cells.size)
     (decimal cells.source) (hex_text lanes) (decimal cells.denied) (mark_text cells.corrupt)
 
--- those of the row of a reset, after its time
-abbrev pub reset_words : List (List ℕ)
-reset_words = codes "reset" ∷ [] ∷ [] ∷ [] ∷ [] ∷ [] ∷ [] ∷ [] ∷ [] ∷ [] ∷ [] ∷ []
-
-pub reset-line : (time : ℕ) → reset_row time ≡ joined (decimal time) reset_words ++ (10 ∷ [])
-reset-line time = sym (append_assoc (decimal time) (codes ",reset,,,,,,,,,,") (10 ∷ []))
+pub reset-words : (time : ℕ) → reset_line time ≡ joined (decimal time) reset_words
+reset-words time = refl
 
 -- ---- links and channels
 
@@ -109,11 +78,6 @@ link-read masters ports (Master number) m p inside =
 link-read masters ports (Port number) m p inside =
     ap (λ (r : Result ℕ RowFault). r >>= (λ n. Ok (Port n)))
     (index-read (length ports) number inside (omega (arith, inside, p)))
-
-pub word-link : (masters ports : List Bus) (link : Link) → length masters < 2 ^ 64 → length ports < 2 ^ 64
-    → IsLinkOf masters ports link → IsWord (link_text link)
-word-link masters ports (Master number) m p inside = (omega arith, word-decimal number (omega (arith, inside, m)))
-word-link masters ports (Port number) m p inside = (omega arith, word-decimal number (omega (arith, inside, p)))
 
 pub channel-a : channel_of (65 ∷ []) ≡ Ok channel.A
 unfolding channel_of

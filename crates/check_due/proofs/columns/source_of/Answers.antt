@@ -1,0 +1,7 @@
+-- A number that the column takes.
+use Rattle.std.proofs.Common.{arith}
+use Rattle.check_due.proofs.Numbers.{decimal-read}
+use Rattle.check_due.proofs.columns.source_of.Goals as goal
+
+pub returns : goal.returns
+returns c = decimal-read 65535 c.args.number (omega arith) (omega arith)
