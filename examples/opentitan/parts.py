@@ -155,27 +155,27 @@ def check_bugs(design, pool, table):
 
 
 def check_long(design, part, requests):
-    """One long run, whose dump goes through a pipe: tlcheck reads it while it is made, and none of it is kept."""
+    """One long run, whose dump goes through a pipe: tlcheck reads it while it is made, and none of it is kept. Standard output has the last words
+    of the simulation, so the dump is written to standard error."""
     judge = next(judge for judge in design.judges if judge.part.name == part)
-    pipe = os.path.join(design.directory, "long.vcd")
-    os.mkfifo(pipe)
     begin = time.monotonic()
-    with subprocess.Popen(design.words(pipe, f"+requests={requests}"), stdout=subprocess.DEVNULL) as bench:
-        verdict = judge.verdict(pipe)
-        bench.wait()
-    os.remove(pipe)
-    told = rtl.LAWFUL.fullmatch(verdict)
-    rtl.tell(f"long run, {part}: {verdict.rstrip()}", rtl.is_whole(verdict) and int(told[1]) >= LONG_ROWS)
-    print(f"long run, {part}: {verdict.rstrip()}, {time.monotonic() - begin:.0f} s")
+    words = design.words("/dev/stderr", f"+requests={requests}")
+    with subprocess.Popen(words, stdout=subprocess.DEVNULL, stderr=subprocess.PIPE) as bench:
+        judged = [rtl.TLCHECK, *judge.words(), judge.system, "-"]
+        done = subprocess.run(judged, stdin=bench.stderr, stdout=subprocess.PIPE, stderr=subprocess.STDOUT, text=True)
+    told = rtl.LAWFUL.fullmatch(done.stdout)
+    rtl.tell(f"long run, {part}: {done.stdout.rstrip()}", rtl.is_whole(done.stdout) and int(told[1]) >= LONG_ROWS)
+    print(f"long run, {part}: {done.stdout.rstrip()}, {time.monotonic() - begin:.0f} s")
 
 
-def main(where, parts, long_part, long_requests, more=None):
+def main(where, parts, long_part, long_requests, more=None, needs=("verilator",)):
     """The check of a folder: its status. The long run is of one part, with so many requests of each host. `more` are checks of this folder
-    alone."""
+    alone, and `needs` the programs that have to be there."""
     arguments = [word for word in sys.argv[1:] if word != "--long"]
-    if shutil.which("verilator") is None:
-        print("verilator is missing; on Debian and Ubuntu: apt-get install verilator", file=sys.stderr)
-        return 69
+    for program in needs:
+        if shutil.which(program) is None:
+            print(f"{program} is missing; on Debian and Ubuntu: apt-get install {program}", file=sys.stderr)
+            return 69
     with tempfile.TemporaryDirectory() as scratch, concurrent.futures.ThreadPoolExecutor(max_workers=os.cpu_count()) as pool:
         directory = os.path.abspath(arguments[0]) if arguments else scratch
         design = Design(where, parts, directory)
