@@ -74,6 +74,7 @@ class Design:
 
     def build(self):
         """Builds the bench, in which each bug is planted by a word of the command line."""
+        os.makedirs(os.path.dirname(self.bench), exist_ok=True)
         words = ["-F", os.path.join(self.folder, "bench.f"), "--Mdir", os.path.dirname(self.bench), "-j", str(os.cpu_count())]
         done = subprocess.run(["verilator", *words], stdout=subprocess.PIPE, stderr=subprocess.STDOUT, text=True)
         if done.returncode != 0:
