@@ -148,7 +148,8 @@ def check_bugs(design, pool, table):
     for (bug, cells), runs in zip(table.items(), found):
         part, row = row_of(design, runs)
         print(f"{bug}: {part} {row}")
-        rtl.tell(f"README.md: {bug}: not {part}, {row}", re.search(rf"^\| `{bug}` \|[^|]*{re.escape(part)} *\| {re.escape(row)} \|$", readme, re.M))
+        has_row = re.search(rf"^\| `{bug}` \|[^|]*{re.escape(part)} *\| {re.escape(row)} \|$", readme, re.M)
+        rtl.tell(f"README.md: {bug}: not {part}, {row}", has_row)
         for n, judge in enumerate(design.judges):
             check_cell(bug, judge, cells[judge.part.name], [(dump, verdicts[n]) for dump, verdicts in runs])
         for dump, _ in runs:
@@ -156,8 +157,8 @@ def check_bugs(design, pool, table):
 
 
 def check_long(design, part, requests):
-    """One long run, whose dump goes through a pipe: tlcheck reads it while it is made, and none of it is kept. Standard output has the last words
-    of the simulation, so the dump is written to standard error."""
+    """One long run, whose dump goes through a pipe: tlcheck reads it while it is made, and none of it is kept. Standard output has the last
+    words of the simulation, so the dump is written to standard error."""
     judge = next(judge for judge in design.judges if judge.part.name == part)
     begin = time.monotonic()
     words = design.words("/dev/stderr", f"+requests={requests}")
