@@ -125,14 +125,14 @@ def told_of(verdict):
     return "lawful" if is_lawful(verdict) else verdict
 
 
-def table_of(path):
-    """The rows of a table of bugs: the name, and a cell for each view."""
+def table_of(path, columns=VIEWS):
+    """The rows of a table of bugs: the name, and a cell for each view, or for each of other columns."""
     rows = {}
     with open(path, encoding="utf-8") as file:
         for line in file:
             if line.strip() and not line.startswith("#"):
                 name, *cells = line.rstrip("\n").split(" | ")
-                rows[name] = dict(zip(VIEWS, cells, strict=True))
+                rows[name] = dict(zip(columns, cells, strict=True))
     return rows
 
 
@@ -190,7 +190,7 @@ def check_scripts(folder, pool, name, defines):
     print(f"{name}: {sum(count for _, count, *_ in runs)} operations of {len(runs)} scripts; {total and total[0]}")
 
 
-def front_is_lawful(folder, capture, verdict, view):
+def front_is_lawful(folder, capture, verdict, view, *options):
     """The row that a verdict names is of that time and link, and all rows of earlier times are lawful."""
     line, time, name, fault = UNLAWFUL.fullmatch(verdict).groups()
     with open(capture, encoding="ascii") as file:
@@ -198,7 +198,7 @@ def front_is_lawful(folder, capture, verdict, view):
     cut = f"{capture}.{view}"
     with open(cut, "w", encoding="ascii") as file:
         file.writelines(rows[:1] + [row for row in rows[1:] if int(row.split(",")[0]) < int(time)])
-    before = rtl.judge_of(folder.system, cut, "--links", view)
+    before = rtl.judge_of(folder.system, cut, "--links", view, *options)
     return rows[int(line) - 1].split(",")[:3] == [time, folder.link_of(name), fault[0]] and rtl.LAWFUL.fullmatch(before) is not None
 
 
@@ -244,7 +244,7 @@ def check_readme(folder, table):
     shown = "".join(f"    {line}\n" for line in commands.splitlines()) + f"\nprints\n\n    {prints}\n"
     rtl.tell(f"{path}: docs/CAPTURE.md has other commands", shown in rtl.read(os.path.join(TOP, "docs", "CAPTURE.md")))
     commands = commands.replace("/tmp/", folder.directory + "/").replace("./tlcheck ", rtl.TLCHECK + " ")
-    for words, expected in ((commands, prints), (re.sub(r"-DBUG=\w+ ", "", commands), without)):
+    for words, expected in ((commands, prints), (re.sub(r"(-D|\+)(?i:bug)=\w+ ", "", commands), without)):
         done = subprocess.run(["bash", "-c", words], cwd=TOP, stdout=subprocess.PIPE, text=True)
         rtl.tell(f"{path}: {done.stdout}", done.stdout.splitlines()[-1:] == [expected])
 
