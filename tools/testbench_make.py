@@ -49,20 +49,25 @@ monitors: obj_monitors/Vtb
 icarus: tb.vvp
 \t@vvp -n $< $(ARGUMENTS) +capture=$@.csv >$@.log; status=$$?; $(SHOW); $(JUDGED); exit $$status
 
-obj_judge/Vtb: $(PARTS) $(HDL)/tl_judge.sv $(HDL)/judge.c $(wildcard $(SOURCES))
+obj_judge/Vtb: $(PARTS) $(HDL)/tl_judge.sv $(HDL)/judge.c $(wildcard $(SOURCES)) words
 \t$(VERILATOR) -DTL_JUDGE -CFLAGS "$(TLX_CFLAGS)" -LDFLAGS "$(TLX_LIBS)" --Mdir obj_judge $(FLAGS) \\
 \t  $(SOURCES) $(PARTS) $(HDL)/tl_judge.sv $(abspath $(HDL))/judge.c $(BUILD)
 
-obj_monitors/Vtb: $(PARTS) $(HDL)/tl_monitor.v $(wildcard $(SOURCES))
+obj_monitors/Vtb: $(PARTS) $(HDL)/tl_monitor.v $(wildcard $(SOURCES)) words
 \t$(VERILATOR) --Mdir obj_monitors $(FLAGS) $(SOURCES) $(PARTS) $(HDL)/tl_monitor.v $(BUILD)
 
-tb.vvp: $(PARTS) $(HDL)/tl_monitor.v $(wildcard $(SOURCES))
+tb.vvp: $(PARTS) $(HDL)/tl_monitor.v $(wildcard $(SOURCES)) words
 \tiverilog -g2012 -s tb -o $@ $(FLAGS) $(SOURCES) $(PARTS) $(HDL)/tl_monitor.v
 
-clean:
-\trm -rf obj_judge obj_monitors tb.vvp obj_judge.log obj_monitors.log judge.log monitors.log icarus.log monitors.csv icarus.csv
+# what a build depends on besides its files
+words: FORCE
+\t@echo '$(SOURCES) $(FLAGS) $(TLX_CFLAGS) $(TLX_LIBS)' | cmp -s - $@ || echo '$(SOURCES) $(FLAGS) $(TLX_CFLAGS) $(TLX_LIBS)' >$@
+FORCE:
 
-.PHONY: verilator judge monitors icarus clean
+clean:
+\trm -rf obj_judge obj_monitors tb.vvp words obj_judge.log obj_monitors.log judge.log monitors.log icarus.log monitors.csv icarus.csv
+
+.PHONY: verilator judge monitors icarus clean FORCE
 """
 
 
