@@ -68,6 +68,9 @@ class Link:
     def bits(self, signal):
         """How many bits a signal has."""
         kind = signal[2:]
+        if signal == "d_param":
+            # the specification has two bits, and some designs have three
+            return wire_bits(self.table, signal) or 2
         fixed = {"opcode": 3, "param": 3, "mask": self.bus, "data": 8 * self.bus}
         return fixed.get(kind) or self.widths.get(kind, 1)
 
