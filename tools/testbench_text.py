@@ -18,7 +18,7 @@ HEAD = """\
 //   +seed=S           what random choices begin with (1)
 //   +random=N         each master sends N requests (200)
 //   +operations=FOLDER  the masters send the requests of its files, and no random ones
-//   +dump=FILE        where all signals are dumped (VCD); without it none is
+//   +dump=FILE        where the links and the crossbar are dumped (VCD); without it nothing is
 //   +images=FOLDER    where the images of the system file lie (the current folder)
 //   +capture=FILE     where the monitors write (capture.csv)
 {reset}//   +clocks=N         after how many clocks the simulation ends, if it did not end before (1000000)
@@ -35,7 +35,8 @@ START = """
 {again}  initial begin
     if ($value$plusargs("dump=%s", dump)) begin
       $dumpfile(dump);
-      $dumpvars(0, tb);
+      $dumpvars(1, tb);
+      $dumpvars(0, tb.dut);
     end
     #22 reset = 0;
 {mid}  end
