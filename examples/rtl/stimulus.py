@@ -13,28 +13,14 @@ import tomllib
 TOP = os.path.dirname(os.path.dirname(os.path.dirname(os.path.abspath(__file__))))
 sys.path.insert(0, os.path.join(TOP, "tools"))
 sys.dont_write_bytecode = True
+import operation_lines  # noqa: E402
 from bus import Bus, bus_of  # noqa: E402
-from capture import bytes_of, widths  # noqa: E402, F401
+from capture import widths  # noqa: E402
 from common import HEADER, OPERATIONS, REPLIES  # noqa: E402, F401
 
 NAMES = {codes: name for name, codes in OPERATIONS.items()}
 ANSWERS = {code: name for name, code in REPLIES.items()}
 CARRIES = 4
-# the kinds of lines of operations_N.hex but operations; an end stands after the last
-WAIT, END = 1, 2
-
-
-def operation_of(line, bus):
-    """A line of a script as a line of operations_N.hex: the mask and the data of a message have 256 bytes, its first beat lowest."""
-    if line.strip() == "wait":
-        return f"{WAIT:02x}{0:0602x}"
-    source, name, address, size, *data = line.split()
-    address, size = int(address, 0), int(size)
-    opcode, param = OPERATIONS[name]
-    beats = list(bus.beats(address, size, bytes_of(data[0]) if data else [0] * (1 << size)))
-    mask = sum(mask << bus.width * beat for beat, (mask, _) in enumerate(beats))
-    lanes = "".join(bus.spell_lanes(lanes) for _, lanes in reversed(beats))
-    return f"00{opcode:02x}{param:02x}{size:02x}{int(source):04x}{address:016x}{mask:064x}{lanes:0>512}"
 
 
 def words_of(port, lanes):
@@ -47,10 +33,7 @@ def words_of(port, lanes):
 
 def write_operations(lines, bus, directory):
     """Writes operations_N.hex for the lines of each master, of links with this bus."""
-    for n, operations in enumerate(lines):
-        with open(os.path.join(directory, f"operations_{n}.hex"), "w", encoding="ascii") as file:
-            file.writelines(operation_of(line, bus) + "\n" for line in operations)
-            file.write(f"{END:02x}{0:0602x}\n")
+    operation_lines.write_operations(lines, [bus.width] * len(lines), directory)
 
 
 def write_stimulus(script, directory):

@@ -44,7 +44,7 @@ class Folder:
         self.folder, self.directory = folder, directory
         self.system = os.path.join(folder, "system.toml")
         self.sources = [os.path.join(folder, name) for name in sources]
-        self.sources += [os.path.join(RTL, name) for name in ("tl_queue.v", "tl_monitor.v")]
+        self.sources += [os.path.join(RTL, "tl_queue.v"), rtl.MONITOR]
         with open(self.system, "rb") as file:
             system = tomllib.load(file)
         self.hosts = [master["name"] for master in system["master"]]
