@@ -12,6 +12,8 @@ from partial_memory import reached_by
 STYLES = ("vectors", "structs", "chisel")
 # Signals that the testbench connects if the system file or the command line names them.
 EXTRAS = ("a_corrupt", "d_param", "d_sink")
+# The widths that differ between designs, with the most bits of each.
+WIDTHS = {"address": 64, "source": 16, "size": 4, "d_param": 8}
 # Those of a master's link that the master drives; the slave drives them at no port's link.
 BY_MASTERS = ("a_valid", "a_opcode", "a_param", "a_size", "a_source", "a_address", "a_mask", "a_data", "a_corrupt", "d_ready")
 # The sizes that a kind of slave serves, by the names of the table of sizes; docs/FORMATS.md, "What is answered".
@@ -67,12 +69,13 @@ class Link:
 
     def bits(self, signal):
         """How many bits a signal has."""
-        kind = signal[2:]
-        if signal == "d_param":
-            # the specification has two bits, and some designs have three
-            return wire_bits(self.table, signal) or 2
+        kind = signal if signal == "d_param" else signal[2:]
         fixed = {"opcode": 3, "param": 3, "mask": self.bus, "data": 8 * self.bus}
         return fixed.get(kind) or self.widths.get(kind, 1)
+
+    def has(self, signal):
+        """Whether the crossbar has a signal, or the system file a constant for it."""
+        return isinstance(self.places.get(signal), (tuple, str))
 
     def is_driven(self, signal):
         """Whether the testbench drives a signal: the other ones are outputs of the crossbar."""
@@ -173,19 +176,19 @@ def wire_bits(table, signal):
 
 
 def set_widths(links, system, given):
-    """How wide address, source and size of each link are: as `extra` of its table says it, else the command line, else the bits of its wires, else
-    as few as the system needs."""
+    """How wide address, source, size and the parameter of replies are at each link: as `extra` of its table says it, else the command line, else
+    the bits of its wires, else as few as the system needs. The specification gives that parameter two bits, and some designs three."""
     ports, masters = system["port"], system["master"]
     last = max((base + length - 1 for port in ports for base, length in ranges_of(port)), default=0)
-    needed = {"address": 32 if last < 1 << 32 else 64, "size": greatest_size(ports).bit_length()}
+    needed = {"address": 32 if last < 1 << 32 else 64, "size": greatest_size(ports).bit_length(), "d_param": 2}
     for link in links:
         greatest = link.table["sources"] - 1 if link.side == "m" else firsts_of(masters)
         extra = link.table.get("extra", {})
-        for kind in ("address", "source", "size"):
+        for kind, most in WIDTHS.items():
             said = extra.get(f"{kind}_bits") if isinstance(extra, dict) else None
             least = max(1, greatest.bit_length()) if kind == "source" else needed[kind]
-            bits = said or given.get(kind) or wire_bits(link.table, f"a_{kind}") or least
-            if type(bits) is not int or not 1 <= bits <= {"address": 64, "source": 16, "size": 4}[kind]:
+            bits = said or given.get(kind) or wire_bits(link.table, kind if kind == "d_param" else f"a_{kind}") or least
+            if type(bits) is not int or not 1 <= bits <= most:
                 link.fail(f"{kind}_bits out of range")
             link.widths[kind] = bits
         if (1 << link.widths["source"]) <= greatest:
@@ -226,14 +229,11 @@ def check_port(link, port):
         link.fail(f"reset has {len(reset)} bytes, and a testbench takes {LONGEST_RESET}: put them into an image")
 
 
-def links_of(system, style, given, extras):
-    """The links of a system, masters first, each with its places and widths."""
+def measured(system, given):
+    """The links of a system, masters first, each with its widths."""
     links = [Link("m", number, master, system) for number, master in enumerate(system["master"])]
     links += [Link("p", number, port, system) for number, port in enumerate(system["port"])]
     for link in links:
-        for key in ("clock", "link_reset", "edge"):
-            if key in link.table:
-                link.fail(f"it has its own {key}, and a testbench has one clock and one reset")
         if link.bus not in BUSES:
             link.fail(f"bus has to be one of {', '.join(map(str, BUSES))}")
         if link.side == "p":
@@ -241,6 +241,21 @@ def links_of(system, style, given, extras):
         elif type(link.table.get("sources")) is not int or not 1 <= link.table["sources"] <= 1 << 16:
             link.fail("sources has to be 1 to 65536")
     set_widths(links, system, given)
+    return links
+
+
+def links_of(system, style, given, extras):
+    """The links of a system, masters first, each with its places and widths."""
+    links = measured(system, given)
+    for link in links:
+        for key in ("clock", "link_reset", "edge"):
+            if key in link.table:
+                link.fail(f"it has its own {key}, and a testbench has one clock and one reset")
     for link in links:
         link.find(system, style, extras)
     return links
+
+
+def vectors_of(links):
+    """The ports of the crossbar of which the system file names bits."""
+    return sorted({place[0] for link in links for place in link.places.values() if isinstance(place, tuple) and place[1] and not link.structs})

@@ -32,8 +32,14 @@ JUDGE = $(if $(strip $(TLX_LIBS)),1)
 PARTS = tb.sv $(HDL)/tl_master.sv $(HDL)/tl_slave.sv
 ARGUMENTS = +seed=$(SEED) +random=$(REQUESTS) +images=$(dir $(SYSTEM)) $(PLUSARGS)
 JOBS = $(shell nproc)
-VERILATOR = verilator --binary -j $(JOBS) --output-split 5000 --timing --trace --top-module tb --timescale 1ns/1ns -Wno-fatal -Wno-lint
-BUILD = >$(@D).log 2>&1 || {{ cat $(@D).log; exit 1; }}
+WORDS = --timing --top-module tb --timescale 1ns/1ns -Wno-fatal -Wno-lint
+VERILATOR = verilator --binary -j $(JOBS) --output-split 5000 --trace $(WORDS)
+LINT = verilator --lint-only $(WORDS) -Wwarn-WIDTH -Wwarn-PINMISSING
+BUILD = >$(LOG) 2>&1 || {{ cat $(LOG); exit 1; }}
+# What does not fit at the crossbar's ports, by the warnings of both simulators: a line for each such port, and no build. Ports of which the
+# system file names bits may be wider than these.
+BITS = {bits}
+FIT = sed -nE -f $(HDL)/fit.sed $(LOG) | grep -vE ' ($(BITS)): ' | sort -u | tee $(LOG).fit; ! grep -q '^tb:' $(LOG).fit
 # A line that begins with `tb:` says what went wrong besides the verdict.
 SHOW = cat $@.log; ! grep -q '^tb:' $@.log || status=3
 JUDGED = $(TLCHECK) --complete --links $(LINKS) --order $(ORDER) $(SYSTEM) $@.csv || status=$$?
@@ -49,15 +55,19 @@ monitors: obj_monitors/Vtb
 icarus: tb.vvp
 \t@vvp -n $< $(ARGUMENTS) +capture=$@.csv >$@.log; status=$$?; $(SHOW); $(JUDGED); exit $$status
 
+obj_judge/Vtb obj_monitors/Vtb: LOG = $(@D).log
 obj_judge/Vtb: $(PARTS) $(HDL)/tl_judge.sv $(HDL)/judge.c $(wildcard $(SOURCES)) words
+\t@$(LINT) -DTL_JUDGE $(FLAGS) $(SOURCES) $(PARTS) $(HDL)/tl_judge.sv $(BUILD); $(FIT)
 \t$(VERILATOR) -DTL_JUDGE -CFLAGS "$(TLX_CFLAGS)" -LDFLAGS "$(TLX_LIBS)" --Mdir obj_judge $(FLAGS) \\
 \t  $(SOURCES) $(PARTS) $(HDL)/tl_judge.sv $(abspath $(HDL))/judge.c $(BUILD)
 
 obj_monitors/Vtb: $(PARTS) $(HDL)/tl_monitor.v $(wildcard $(SOURCES)) words
+\t@$(LINT) $(FLAGS) $(SOURCES) $(PARTS) $(HDL)/tl_monitor.v $(BUILD); $(FIT)
 \t$(VERILATOR) --Mdir obj_monitors $(FLAGS) $(SOURCES) $(PARTS) $(HDL)/tl_monitor.v $(BUILD)
 
+tb.vvp: LOG = tb.log
 tb.vvp: $(PARTS) $(HDL)/tl_monitor.v $(wildcard $(SOURCES)) words
-\tiverilog -g2012 -s tb -o $@ $(FLAGS) $(SOURCES) $(PARTS) $(HDL)/tl_monitor.v
+\tiverilog -g2012 -s tb -Wportbind -o $@ $(FLAGS) $(SOURCES) $(PARTS) $(HDL)/tl_monitor.v $(BUILD); $(FIT)
 
 # what a build depends on besides its files
 words: FORCE
@@ -65,12 +75,14 @@ words: FORCE
 FORCE:
 
 clean:
-\trm -rf obj_judge obj_monitors tb.vvp words obj_judge.log obj_monitors.log judge.log monitors.log icarus.log monitors.csv icarus.csv
+\trm -rf obj_judge obj_monitors tb.vvp words obj_judge.log* obj_monitors.log* tb.log* judge.log monitors.log icarus.log monitors.csv icarus.csv
 
+.DELETE_ON_ERROR:
 .PHONY: verilator judge monitors icarus clean FORCE
 """
 
 
-def make_text(system, top, hdl, tlcheck="tlcheck"):
-    """The Makefile of a testbench of this system file around this crossbar, with the parts of this folder."""
-    return MAKE.format(system=system, top=top, hdl=hdl, tlcheck=tlcheck)
+def make_text(system, top, hdl, tlcheck, vectors):
+    """The Makefile of a testbench of this system file around this crossbar, with the parts of the folder hdl. Vectors are the ports of which the
+    system file names bits."""
+    return MAKE.format(system=system, top=top, hdl=hdl, tlcheck=tlcheck, bits="|".join(vectors) or "-")

@@ -9,11 +9,16 @@ from testbench_links import BY_MASTERS, master_map, own_name, ranges_of, sizes_o
 A_SIGNALS = ("a_valid", "a_ready", "a_opcode", "a_param", "a_size", "a_source", "a_address", "a_mask", "a_data")
 D_SIGNALS = ("d_valid", "d_ready", "d_opcode", "d_size", "d_source", "d_denied", "d_data")
 WATCHED = (*A_SIGNALS, *D_SIGNALS, "d_corrupt")
-DECLARED = (*WATCHED, "a_corrupt", "d_param", "d_sink")
+# Those that are watched if the crossbar has them.
+OPTIONAL = ("a_corrupt", "d_param")
+# What stands at their ports if it has not.
+NOTHING = "1'b0"
+DECLARED = (*WATCHED, *OPTIONAL, "d_sink")
 
 HEAD = """\
 // Made by tools/testbench from {system}, around the crossbar {top}: a master at each master's link, a slave at each port's, and the judge of
 // all links (with TL_JUDGE, by DPI), or a monitor on each, which write a capture for tlcheck. hdl/README.md has the parts and their plusargs.
+// A request of a master has {most} bytes at most, unless a script has greater ones. A period of the clock has 10 units of time.
 //
 //   +seed=S           what random choices begin with (1)
 //   +random=N         each master sends N requests (200)
@@ -60,7 +65,7 @@ END = """
     clocks <= clocks + 1;
     if (!reset && &finished && idle == 20) $finish;
     else if (idle == 10000 || clocks == most) begin
-      if (clocks == most) $display("tb: not all is answered after %0d clocks", clocks);
+      if (clocks == most) $display("tb: not all is answered after %0d clocks; +clocks=N gives more", clocks);
       else $display("tb: nothing has crossed at a master's link for 10000 clocks, and not all is answered");
       $finish;
     end
@@ -142,7 +147,7 @@ def declarations(link):
         if not isinstance(place, tuple) and not link.is_driven(signal):
             yield f"  assign {net(link, signal)} = {is_shown(link, signal) if isinstance(place, str) else 0};"
     if link.side == "p":
-        yield f"  assign {net(link, 'd_sink')} = 0;"
+        yield from (f"  assign {net(link, signal)} = 0;" for signal in ("d_param", "d_sink"))
 
 
 def connected(signals, link):
@@ -177,16 +182,19 @@ def slave_lines(link, system, most, images):
     entries = [f"64'h{base:x}, 64'h{length:x}" for base, length in reversed(ranges)]
     fixed = parameters_of(pairs)[:-1] + ",\n    .MAP({" + ",\n      ".join(entries) + "}))"
     yield f"  tl_slave {fixed}"
-    signals = [*A_SIGNALS, *D_SIGNALS, "d_param", "d_corrupt"]
+    signals = [*A_SIGNALS, *D_SIGNALS, "d_corrupt"]
     yield f"    {link.called} (.clk(clk), .reset(reset),"
-    yield "    " + wrapped(connected(signals, link), "    ") + ");"
+    yield "    " + wrapped([*connected(signals, link), ".d_param()"], "    ") + ");"
 
 
 def watch_lines(link, system):
-    is_corrupt = isinstance(link.places.get("d_corrupt"), (tuple, str))
-    pairs = [("NAME", f'"{link.called}"'), *widths_of(link), *([("HAS_CORRUPT", 0)] * (not is_corrupt))]
-    pairs += [("RESETS", 1)] * (link.called == "m0" and system.get("resets", False))
+    pairs = [("NAME", f'"{link.called}"'), *widths_of(link)]
+    pairs += [(name, value) for name, value, is_said in (
+        ("HAS_CORRUPT", 0, not link.has("d_corrupt")), ("HAS_A_CORRUPT", 1, link.has("a_corrupt")),
+        ("D_PARAM_BITS", link.widths["d_param"], link.has("d_param")),
+        ("RESETS", 1, link.called == "m0" and system.get("resets", False))) if is_said]
     signals = [f".{signal}({is_shown(link, signal)})" for signal in WATCHED]
+    signals += [f".{signal}({is_shown(link, signal) if link.has(signal) else NOTHING})" for signal in OPTIONAL]
     return WATCH.format(parameters=parameters_of(pairs), called=link.called, signals=wrapped(signals, "    ")).rstrip("\n")
 
 
@@ -254,7 +262,7 @@ def testbench_text(links, system, words):
     masters = [link for link in links if link.side == "m"]
     resets = system.get("resets", False)
     name = os.path.basename(words["path"])
-    lines = [HEAD.format(system=name, top=words["top"], reset=RESET_PLUSARG * bool(resets))
+    lines = [HEAD.format(system=name, top=words["top"], most=1 << most, reset=RESET_PLUSARG * bool(resets))
              + START.format(again="  integer again;\n" * bool(resets), mid=MID_RUN * bool(resets)).rstrip("\n"), ""]
     for link in links:
         lines += declarations(link)
