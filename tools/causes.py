@@ -17,7 +17,8 @@ CAUSES = {
     "not this port's address": ["the address decoder of the crossbar", "the ranges of the port in the system file",
                                 "the ports that the master reaches, by `reach` in the system file"],
     "no master sent this request": ["what the crossbar changes on the way: address, size, mask or data of a register stage",
-                                    "a beat that was sent twice, or lost"],
+                                    "a beat that was sent twice, or lost",
+                                    "the number of the host that the crossbar puts into the source: `first` and `stride` of the master"],
     "reply without request": ["a reply that was sent twice", "the source that a slave, an adapter or a bridge gives back"],
     "reply before its request ended": ["a slave that answers with the first beat of a burst"],
     "size of another request": ["replies that were mixed up: which request the reply's source belongs to"],
@@ -28,3 +29,5 @@ CAUSES = {
     "the port gave no such reply": ["the way of the reply through the crossbar: its multiplexer and its register stages",
                                     "an adapter on the way: the source that it gives back, and how it puts beats together"],
 }
+# Of a wrong reply that is denied and should not be, or is not and should be.
+DENIED = ["`sizes`, `kind` and `ranges` of the port in the system file", "what the slave denies, or the crossbar in its place"]

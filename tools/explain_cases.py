@@ -99,6 +99,14 @@ CHANGED = f"""10,m1,A,0,0,3,1,2008,ff,{LOW},,
 10,p1,A,0,0,3,3,2008,f,a3a2a1a0,,
 11,p1,A,0,0,3,3,2008,f,a7a6a5ff,,
 """
+# The port denies what it serves.
+REFUSED = """10,p0,A,4,0,0,0,1000,01,,,
+11,p0,D,1,,0,0,,,0000000000000000,1,1
+"""
+# A get of dma crosses with the source of another master.
+OTHER_HOST = """10,m1,A,4,0,0,1,1000,01,,,
+11,p0,A,4,0,0,1,1000,01,,,
+"""
 BETWEEN = "all beats at the ports' links are lawful up to there, and this reply at core's link is not"
 CASES = (
     ([], OTHER_SOURCE % "7766554433221100", (
@@ -122,10 +130,12 @@ CASES = (
     ([], PASSED, (
         "4 of its 4 bytes here are wrong; it was not answered before this request crossed",
         "with --order reply: lawful: 6 rows, 2 requests, 1 answered", "with --order any: lawful: 6 rows, 2 requests, 1 answered",
+        "the order in which requests take effect: with --order reply all is lawful",
         "in ram: this reply is unlawful by what crossed at its link alone; all requests there are lawful up to there")),
     (["--links=masters"], PASSED, (
         "with --links ports an earlier row is unlawful already: line 6, time 12, ram D: wrong reply: expected AccessAckData a0a1a2a3, "
-        "captured AccessAckData 00000000", "whole replies at dma's link before: none")),
+        "captured AccessAckData 00000000", "whole replies at dma's link before: none",
+        "or the order of requests at ram, which --links masters does not show: with --order reply all is lawful")),
     ([], LANES, (
         "slow gave AccessAckData 44556677, line 4, time 12", "captured here AccessAckData 00000000",
         "the first difference, at 0x2004: 44 at slow's link (line 4, time 12), 00 at core's link (line 5, time 12)",
@@ -152,6 +162,11 @@ CASES = (
     (["--links", "ports"], ALONE, (
         "the request: ram, source 0 (source 0 of core): get 0x1000 of 1 byte, line 3, time 11",
         "in ram: this reply is unlawful by what crossed at its link alone; all requests there are lawful up to there")),
+    (["--links", "ports"], REFUSED, (
+        "ram supports get of 1 byte there, so it is not denied", "`sizes`, `kind` and `ranges` of the port in the system file")),
+    ([], OTHER_HOST, (
+        "nothing is in flight of source 1 of core", "the same fields: dma, source 1: get 0x1000 of 1 byte, line 2, time 10; its source at ram's link is 3",
+        "the number of the host that the crossbar puts into the source: `first` and `stride` of the master, `hosts` or `sources` of the port")),
     ([], NOBODYS, (
         "no port has 1 byte at 0x5000: the error port denies it", f"between the ports and core: {BETWEEN}",
         "the error port answers this request; it has no link")),

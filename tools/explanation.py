@@ -5,7 +5,7 @@ tools/explain; nothing of it is proved.
 import re
 
 from bus import reply_of
-from causes import CAUSES
+from causes import CAUSES, DENIED
 from common import carries_data
 from sides import Sides, Views
 from spelling import bytes_of, counted, hexadecimal, place_of, replied
@@ -305,11 +305,18 @@ class Explainer:
         asked, under = self.asked_by(row), self.story.under.get((row.link, row.channel))
         port = row.link if row.link[0] == "p" else f"p{asked.port}" if asked and under in (None, asked) else None
         other = self.sides.other(asked) if asked else None
-        where = [*self.sides.where(row, asked, port, self.views)]
+        lawful = [order for order, said in orders if said.startswith("lawful:")]
+        where = [*self.sides.where(row, asked, port, self.views, lawful)]
         return {"line": row.line, "time": row.time, "link": found[3], "channel": row.channel, "why": lines, "where": where,
                 "request": self.record(asked) if asked else None, "other_side": self.record(other) if other else None,
-                "bytes": runs, "orders": orders,
-                "in_flight": [self.record(message) for message in self.in_flight()], "look_at": CAUSES[fault.partition(":")[0]]}
+                "bytes": runs, "orders": [f"with --order {order}: {said}" for order, said in orders],
+                "in_flight": [self.record(message) for message in self.in_flight()], "look_at": causes_of(fault, wrong, lawful)}
+
+
+def causes_of(fault, wrong, lawful):
+    """What to look at: first an order of requests with which all is lawful."""
+    first = [f"the order in which requests take effect: with --order {order} all is lawful" for order in lawful[:1]]
+    return first + (DENIED if wrong and bool(wrong[2]) != bool(wrong[5]) else CAUSES[fault.partition(":")[0]])
 
 
 def joined(run, other):

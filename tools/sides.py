@@ -32,12 +32,12 @@ class Views:
         return run.stdout.decode(errors="replace").strip() if run.returncode in (0, 3) else None
 
     def of_orders(self, verdict):
-        """What it says if requests take effect at another moment."""
+        """The other orders, each with what it says if requests take effect so."""
         # what is unlawful with `any` on both sides is so with each order
         for order in ORDERS if self.order not in ("any", "any/any") else ():
             said = self.said(order=order) if order != self.order else None
             if said:
-                yield f"with --order {order}: {'the same line' if said == verdict else said}"
+                yield order, "the same line" if said == verdict else said
 
 
 class Sides:
@@ -174,15 +174,21 @@ class Sides:
 
     # ---- on which side
 
-    def where(self, row, message, port, views):
-        """On which side the fault lies, with what says so; and what crossed that way before."""
+    def where(self, row, message, port, views, lawful):
+        """On which side the fault lies, with what says so; and what crossed that way before. With the orders of `lawful` all is lawful."""
         yield from self.side_of(row, port, views)
+        yield from self.of_order(row, port, lawful)
         if port in self.system.buses:
             yield from self.width_of(row, message, port)
             if port in self.story.most:
                 most, first = self.story.most[port]
                 yield f"in flight at {self.name(port)}'s link: at most {counted(most, 'request')} so far, first at {place_of([first])}"
         yield from self.counts(row)
+
+    def of_order(self, row, port, lawful):
+        """At a master's link, if the view has no order of requests at the port: that it may be this one."""
+        if row.link[0] == "m" and not self.are_compared and port in self.system.buses and lawful:
+            yield f"or the order of requests at {self.name(port)}, which --links {self.view} does not show: with --order {lawful[0]} all is lawful"
 
     def side_of(self, row, port, views):
         name, side = self.name(row.link), row.link[0]
