@@ -1,6 +1,7 @@
 """What the tools share: the paths of the programs, the limits and words of scripts, the codes of messages, and the columns of a capture."""
 
 import os
+import sys
 
 TOP = os.path.dirname(os.path.dirname(os.path.abspath(__file__)))
 # The built programs; the environment names others.
@@ -80,3 +81,14 @@ def with_bits(signal):
 def carries_data(name):
     """Whether requests of this operation carry bytes: the two puts and the atomics do."""
     return OPERATIONS[name][0] < 4
+
+
+def ended(main):
+    """The status of a tool. If nobody reads its output any more, as behind `head`, it ends without a word, with the status of SIGPIPE."""
+    try:
+        status = main()
+        sys.stdout.flush()
+        return status
+    except BrokenPipeError:
+        os.dup2(os.open(os.devnull, os.O_WRONLY), sys.stdout.fileno())
+        return 141
