@@ -103,10 +103,6 @@ CHANGED = f"""10,m1,A,0,0,3,1,2008,ff,{LOW},,
 REFUSED = """10,p0,A,4,0,0,0,1000,01,,,
 11,p0,D,1,,0,0,,,0000000000000000,1,1
 """
-# A get of dma crosses with the source of another master.
-OTHER_HOST = """10,m1,A,4,0,0,1,1000,01,,,
-11,p0,A,4,0,0,1,1000,01,,,
-"""
 BETWEEN = "all beats at the ports' links are lawful up to there, and this reply at core's link is not"
 CASES = (
     ([], OTHER_SOURCE % "7766554433221100", (
@@ -164,9 +160,6 @@ CASES = (
         "in ram: this reply is unlawful by what crossed at its link alone; all requests there are lawful up to there")),
     (["--links", "ports"], REFUSED, (
         "ram supports get of 1 byte there, so it is not denied", "`sizes`, `kind` and `ranges` of the port in the system file")),
-    ([], OTHER_HOST, (
-        "nothing is in flight of source 1 of core", "the same fields: dma, source 1: get 0x1000 of 1 byte, line 2, time 10; its source at ram's link is 3",
-        "the number of the host that the crossbar puts into the source: `first` and `stride` of the master, `hosts` or `sources` of the port")),
     ([], NOBODYS, (
         "no port has 1 byte at 0x5000: the error port denies it", f"between the ports and core: {BETWEEN}",
         "the error port answers this request; it has no link")),
