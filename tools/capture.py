@@ -2,8 +2,9 @@
 """The capture of a script's serial run, as tlcheck reads it: tools/capture.py SCRIPT >CAPTURE.
 
 Each request crosses its master's link, then its port's with the wide source, and its reply comes back the same way; a request of the
-error port has no link there. A script may say how wide the data bus of each link is, as a system file does (docs/FORMATS.md); tlx ignores
-these keys. It needs the built program (./tlx builds it; TLX=path takes another).
+error port has no link there. A script may say how wide the data bus of each link is, and which wide sources its masters have there, as a system
+file does (docs/FORMATS.md); tlx ignores these keys, so each port has to list all masters that ask there. It needs the built program (./tlx builds
+it; TLX=path takes another).
 """
 
 import os
@@ -16,19 +17,9 @@ sys.dont_write_bytecode = True
 sys.path.insert(0, os.path.dirname(os.path.realpath(__file__)))
 from bus import Bus, bus_of  # noqa: E402
 from common import HEADER, TLX  # noqa: E402
+from wide_sources import WideSources  # noqa: E402
 
 LINE = re.compile(r"m(\d+) s(\d+) (\w+) 0x([0-9a-f]+) (\d)(?: ([0-9a-f-]+))? -> (\w+)( denied)?(?: ([0-9a-f]+))? p(\d+) #\d+")
-
-
-def widths(counts):
-    """The first wide source of each master: blocks of powers of two, one after the other, each at a multiple of its length."""
-    firsts, end = [], 0
-    for count in counts:
-        block = 1 << (count - 1).bit_length()
-        first = -(-end // block) * block
-        firsts.append(first)
-        end = first + block
-    return firsts
 
 
 def bytes_of(word):
@@ -37,12 +28,12 @@ def bytes_of(word):
 
 
 class Links:
-    """The links of a system: the bus of each master's and each port's, and the first wide source of each master."""
+    """The links of a system: the bus of each master's and each port's, and the masters' wide sources."""
 
     def __init__(self, system):
         self.masters = [Bus(bus_of(system, master)) for master in system["master"]]
         self.ports = [Bus(bus_of(system, port)) for port in system.get("port", [])]
-        self.firsts = widths([master["sources"] for master in system["master"]])
+        self.sources = WideSources(system)
 
     def rows_of(self, line):
         """The rows of a line of a trace, without their times."""
@@ -50,7 +41,10 @@ class Links:
         master, source, address, size, port = int(master), int(source), int(address, 16), int(size), int(port)
         links = [(f"m{master}", source, self.masters[master])]
         if port < len(self.ports):
-            links.append((f"p{port}", self.firsts[master] + source, self.ports[port]))
+            wide = self.sources.wide(port, master, source)
+            if wide is None:
+                sys.exit(f"tools/capture.py: port {port} does not list master {master}, which asks there")
+            links.append((f"p{port}", wide, self.ports[port]))
         asks = [f"{link},A,{row}" for link, source, bus in links for row in bus.asks(name, size, source, address, bytes_of(data))]
         replies = [f"{link},D,{row}" for link, source, bus in reversed(links)
                    for row in bus.replies(reply, size, source, address, bytes_of(answer), bool(denied))]

@@ -11,14 +11,15 @@ CAUSES = {
     "unknown data": ["a register that nothing initializes", "a memory that the system file does not say is unknown at reset"],
     "wrong corrupt flag": ["d_corrupt: it stands with each beat of a denied reply that has data, and with no other",
                            "`d_corrupt = \"-\"` in the system file, if the design has no such signal"],
-    "no such source": ["the sources of the masters in the system file (sources, first, stride)",
+    "no such source": ["the sources of the masters in the system file (sources, first, stride), or of the port (hosts, sources)",
                        "the bits that the crossbar adds to a source"],
     "source in flight": ["the allocator of sources: it gives one again before its last reply has ended"],
     "not this port's address": ["the address decoder of the crossbar", "the ranges of the port in the system file",
-                                "the ports that the master reaches, by `reach` in the system file"],
+                                "the ports that the master reaches, by `reach`, or by `hosts` or `sources` of the port, in the system file"],
     "no master sent this request": ["what the crossbar changes on the way: address, size, mask or data of a register stage",
                                     "a beat that was sent twice, or lost",
-                                    "the number of the host that the crossbar puts into the source: `first` and `stride` of the master"],
+                                    "the number of the host that the crossbar puts into the source: `first` and `stride` of the master, or `hosts` "
+                                    "or `sources` of the port"],
     "reply without request": ["a reply that was sent twice", "the source that a slave, an adapter or a bridge gives back"],
     "reply before its request ended": ["a slave that answers with the first beat of a burst"],
     "size of another request": ["replies that were mixed up: which request the reply's source belongs to"],
@@ -29,5 +30,7 @@ CAUSES = {
     "the port gave no such reply": ["the way of the reply through the crossbar: its multiplexer and its register stages",
                                     "an adapter on the way: the source that it gives back, and how it puts beats together"],
 }
+# Before these, of a request at a port whose source would be right with another shift.
+SHIFTED = ["how far the socket at the port shifts sources: `hosts` or `sources` of the port, `stride` of the master"]
 # Of a wrong reply that is denied and should not be, or is not and should be.
 DENIED = ["`sizes`, `kind` and `ranges` of the port in the system file", "what the slave denies, or the crossbar in its place"]

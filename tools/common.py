@@ -34,11 +34,13 @@ SYSTEM_KEYS = {"": ("bus", "unaligned", "decode", "resets", "period", "port", "m
                     "slots", "extra"),
                "names": (*SIGNALS, "extra"),
                "port": ("name", "kind", "base", "length", "ranges", "reset", "image", "unknown", "sizes", "order", "bus", "mirror", "volatile",
-                        "on_reset", "signals", "wires", "bits", "clock", "link_reset", "reset_active", "edge", "extra"),
+                        "on_reset", "hosts", "sources", "signals", "wires", "bits", "clock", "link_reset", "reset_active", "edge", "extra"),
                "master": ("name", "sources", "first", "stride", "bus", "reach", "signals", "wires", "bits", "clock", "link_reset", "reset_active",
                           "edge", "ops", "extra"),
                "sizes": ("get", "putfull", "putpart", "arithmetic", "logical", "intent", "extra"),
                "order": (*SIDE_KEYS.values(), "extra"),
+               # of the tables of a port's `sources`; those of a master are a number
+               "sources": ("master", "first", "stride", "extra"),
                "wires": (*SIGNALS, "extra")}
 
 # The signals of a handshake, which stand outside of the bundle `bits` of their channel.

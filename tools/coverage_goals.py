@@ -3,7 +3,8 @@ them no run can hit; each such one has the reason."""
 
 from common import BUS, GROUP_OF
 from coverage_text import AFTER, ERROR, MOST_IN_FLIGHT, NAMES, SHAPES, SIZES
-from partial_memory import SUPPORT, ranges_of, reached_by
+from partial_memory import SUPPORT, ranges_of
+from wide_sources import reached_by
 
 # The shapes of partial puts of one byte and of two; those of more bytes have each shape.
 FEW_SHAPES = {0: ("none", "all"), 1: ("none", "all", "one")}

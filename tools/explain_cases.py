@@ -1,6 +1,9 @@
 """Captures for tools/explain_test whose explanation was worked out by hand: the options, the rows below the header, and lines that have to be
-printed. One system has all: two masters with two sources each, a memory on their bus of 8 bytes, and one behind an adapter, with a bus of 4
+printed. One system has most: two masters with two sources each, a memory on their bus of 8 bytes, and one behind an adapter, with a bus of 4
 bytes. At the ports, core has the sources 0 and 1, and dma 2 and 3. The memories are zero at reset, except for the first 8 bytes of `slow`.
+
+The other system has ports that list masters. At `ram` the sources of dma are even ones, and those of core odd ones. At `slow` core has the sources
+8, 12, 16 and 20, and dma none. At `last`, core has 0 to 3, and dma 4 and 5.
 """
 
 SYSTEM = """[[port]]
@@ -169,4 +172,109 @@ CASES = (
         "bytes: a0a1a2a3a4a5a6a7 at the master's link, a0a1a2a3ffa5a6a7 here",
         "the first difference, at 0x200c: a4 at dma's link (line 2, time 10), ff at slow's link (line 4, time 11)",
         "the bus has 8 bytes at dma's link and 4 bytes at slow's")),
+)
+
+SOCKETS = """[[port]]
+name = "ram"
+kind = "ram"
+base = 0x1000
+length = 64
+hosts = ["dma", "core"]
+[[port]]
+name = "slow"
+kind = "ram"
+base = 0x2000
+length = 64
+sources = [{ master = "core", first = 8, stride = 4 }]
+[[port]]
+name = "last"
+kind = "ram"
+base = 0x3000
+length = 64
+[[master]]
+name = "core"
+sources = 4
+[[master]]
+name = "dma"
+sources = 2
+"""
+# Source 3 of core is 7 at ram with the shift of 1 bit, and 13 with 2 bits.
+FAR_SHIFT = """10,m0,A,4,0,0,3,1000,01,,,
+11,p0,A,4,0,0,13,1000,01,,,
+"""
+# Source 1 of core is 3 at ram, and 2 without a shift; that is source 1 of dma.
+NO_SHIFT = """10,m0,A,4,0,0,1,1000,01,,,
+11,p0,A,4,0,0,2,1000,01,,,
+"""
+# Source 2 of core has a stride of 4 at slow. With the stride of 2 it is 12, which is source 1 of core.
+SHORT_STRIDE = """10,m0,A,4,0,0,2,2000,01,,,
+11,p1,A,4,0,0,12,2000,01,,,
+"""
+# Source 2 of dma: there is none. It is no shift of a source 0.
+NO_SOURCE = """10,m0,A,4,0,0,0,1000,01,,,
+11,p0,A,4,0,0,4,1000,01,,,
+"""
+# ram answers source 13, which nobody has; that it is source 3 of core with the shift of 2 bits says nothing of a reply.
+TO_NOBODY = """10,m0,A,4,0,0,3,1000,01,,,
+11,p0,A,4,0,0,7,1000,01,,,
+12,m0,A,4,0,0,1,1000,01,,,
+13,p0,D,1,,0,13,,,0000000000000000,0,0
+"""
+# Source 0 of core is 1 at ram and 8 at slow.
+AT_TWO_PORTS = """10,p0,A,4,0,0,1,1000,01,,,
+11,p1,A,4,0,0,8,2000,01,,,
+"""
+# dma has no path to slow, and gets there with the source that it has at last.
+NO_PATH = """10,m1,A,4,0,0,0,2000,01,,,
+11,p1,A,4,0,0,4,2000,01,,,
+"""
+# slow answers source 0 of core, and core gets that as the reply of source 1.
+OTHER_HOST = """10,m0,A,4,0,0,0,2000,01,,,
+11,p1,A,4,0,0,8,2000,01,,,
+12,m0,A,4,0,0,1,2000,01,,,
+13,p1,A,4,0,0,12,2000,01,,,
+14,p1,D,1,,0,8,,,0000000000000000,0,0
+15,m0,D,1,,0,1,,,0000000000000000,0,0
+"""
+# dma asks at ram's link for a byte of slow.
+ASTRAY = """10,p0,A,4,0,0,2,2000,01,,,
+"""
+# dma gets a reply of slow that is not denied.
+SERVED = """10,m1,A,4,0,0,0,2000,01,,,
+11,m1,D,1,,0,0,,,0000000000000000,0,0
+"""
+# Of two requests one has crossed at slow with the source that it has there.
+HALF = """10,m0,A,4,0,0,1,2000,01,,,
+11,p1,A,4,0,0,12,2000,01,,,
+12,m0,A,4,0,0,0,3000,01,,,
+"""
+SHIFT = "how far the socket at the port shifts sources: `hosts` or `sources` of the port, `stride` of the master"
+SOCKET_CASES = (
+    ([], FAR_SHIFT, (
+        "source 13 belongs to no master here: ram lists dma, core",
+        "source 13 is 1 + 4 * 3, and 1 + 2 * 3 is wanted of: core, source 3: get 0x1000 of 1 byte, line 2, time 10; not answered yet", SHIFT,
+        "between the masters and ram: all beats at the masters' links are lawful up to there, and this request at ram's link is not")),
+    (["--links", "ports"], FAR_SHIFT, ("source 13 belongs to no master here: ram lists dma, core", f"!{SHIFT}")),
+    ([], NO_SHIFT, (
+        "nothing is in flight of source 1 of dma",
+        "source 2 is 1 + 1 * 1, and 1 + 2 * 1 is wanted of: core, source 1: get 0x1000 of 1 byte, line 2, time 10; not answered yet", SHIFT)),
+    ([], SHORT_STRIDE, (
+        "nothing is in flight of source 1 of core",
+        "source 12 is 8 + 2 * 2, and 8 + 4 * 2 is wanted of: core, source 2: get 0x2000 of 1 byte, line 2, time 10; not answered yet", SHIFT)),
+    ([], NO_SOURCE, ("source 4 belongs to no master here: ram lists dma, core", f"!{SHIFT}")),
+    ([], TO_NOBODY, ("source 13 belongs to no master here: ram lists dma, core", f"!{SHIFT}")),
+    (["--links", "ports"], AT_TWO_PORTS, (
+        "the source is in flight: ram, source 1 (source 0 of core): get 0x1000 of 1 byte, line 2, time 10; not answered yet",
+        "the allocator of sources: it gives one again before its last reply has ended")),
+    ([], NO_PATH, ("source 4 belongs to no master here: slow lists core", f"!{SHIFT}")),
+    (["--links", "ports"], ASTRAY, ("1 byte at 0x2000: the address of slow, and dma has no path there",)),
+    (["--links", "ports"], ASTRAY.replace("2000", "3000"), ("1 byte at 0x3000: the address of last",)),
+    ([], OTHER_HOST, (
+        "the request: core, source 1: get 0x2000 of 1 byte, line 4, time 12", "slow has not answered it; captured AccessAckData 00",
+        "slow gave source 8 (source 0 of core) AccessAckData 00, line 6, time 14; no beat of it crossed at core's link; this beat fits it",
+        "at the other side: slow, source 12 (source 1 of core): get 0x2000 of 1 byte, line 5, time 13; not answered yet")),
+    (["--links", "masters"], SERVED, ("slow has 1 byte at 0x2000, and dma has no path there: the error port denies it",)),
+    (["--complete"], HALF, (
+        "core, source 1: it crossed at slow's link, line 3, time 11; slow has not answered it",
+        "core, source 0: it has not crossed at last's link")),
 )

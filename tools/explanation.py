@@ -5,8 +5,9 @@ tools/explain; nothing of it is proved.
 import re
 
 from bus import reply_of
-from causes import CAUSES, DENIED
+from causes import CAUSES, DENIED, SHIFTED
 from common import carries_data
+from partial_memory import port_of
 from sides import Sides, Views
 from spelling import bytes_of, counted, hexadecimal, place_of, replied
 from story import ANSWERS, NAMES, Story, System, turn_of
@@ -15,6 +16,8 @@ VERDICT = re.compile(r"unlawful: line (\d+), time (\d+), (\S+) ([AD]): (.*)")
 WRONG = re.compile(r"wrong reply: expected (\w+)( denied)?(?: ([0-9a-fx]+))?, captured (\w+)( denied)?(?: ([0-9a-fx]+))?")
 # So many wrong bytes are explained.
 MOST_BYTES = 8
+# The faults of a request at a port that a source with another shift has.
+OF_SHIFTS = ("no such source", "no master sent this request")
 
 
 def value_of(row, column):
@@ -37,7 +40,7 @@ class Explainer:
 
     def whose(self, message):
         """Whose source a request at a port has, if the view says so."""
-        owner = self.system.owners.get(message.source) if message.link[0] == "p" and self.view != "each" else None
+        owner = self.system.owner(message.link, message.source) if message.link[0] == "p" and self.view != "each" else None
         return f" (source {owner[1]} of {self.system.names[f'm{owner[0]}']})" if owner else ""
 
     def name(self, message):
@@ -91,12 +94,32 @@ class Explainer:
             if holder:
                 yield f"the source is in flight: {self.text(holder)}"
         elif fault == "not this port's address":
-            port = system.names.get(f"p{system.port_of(link, row.number(6), row.address(), row.number(5))}", "no port")
-            yield f"{bytes_of(row.number(5))} at {row.address():#x}: the address of {port}"
+            port, pathless = self.with_address(link, row.number(6), row.address(), row.number(5))
+            yield f"{bytes_of(row.number(5))} at {row.address():#x}: the address of {port}{pathless}"
         elif fault == "no master sent this request":
             yield from self.of_stray(row, begun)
         elif fault == "no such source":
-            yield f"source {row.number(6)} belongs to no master here"
+            yield self.of_nobody(row)
+        yield from self.of_shift(row, fault)
+
+    def with_address(self, link, source, address, size):
+        """The port that has the address of a request, and that the master of its source has no path there if it has none."""
+        system, owner = self.system, self.system.owner(link, source)
+        # nobody asks: then the ports' addresses alone decide
+        near = port_of(system.table, None, address, size)
+        is_far = system.port_of(link, source, address, size) != near
+        return system.names.get(f"p{near}", "no port"), f", and {system.names[f'm{owner[0]}']} has no path there" * is_far if owner else ""
+
+    def of_nobody(self, row):
+        """That nobody has the source of a beat, and which masters the port lists, if it lists some."""
+        names, link = self.system.names, row.link
+        listed = self.system.sources.listed[int(link[1:])] if link[0] == "p" else None
+        masters = f": {names[link]} lists {', '.join(names[f'm{master}'] for master in listed)}" if listed else ""
+        return f"source {row.number(6)} belongs to no master here{masters}"
+
+    def of_shift(self, row, fault):
+        """The requests that a beat at a port would fit with another shift of its source."""
+        return self.sides.of_shift(row) if fault in OF_SHIFTS and (row.link[0], row.channel) == ("p", "A") else ()
 
     def of_changed(self, first, row, columns):
         """Which fields a beat changes, and whether the message goes on."""
@@ -104,13 +127,14 @@ class Explainer:
         yield from self.sides.goes_on(row, first, [column for column, _ in columns])
 
     def elsewhere(self, row):
-        """The request in flight of a source of the ports' side at another port."""
+        """The request in flight of the same source of a master at another port."""
+        owner = self.system.owner(row.link, row.number(6))
         return next((message for (link, source), message in self.story.flights.items()
-                     if (link[0], source) == (row.link[0], row.number(6))), None)
+                     if link[0] == row.link[0] and self.system.owner(link, source) == owner), None)
 
     def of_stray(self, row, begun):
         """How a request at a port differs from what its master has in flight."""
-        owner = self.system.owners.get(row.number(6))
+        owner = self.system.owner(row.link, row.number(6))
         sent = owner and self.story.flights.get((f"m{owner[0]}", owner[1]))
         if not sent:
             whose = f"source {owner[1]} of {self.system.names[f'm{owner[0]}']}" if owner else f"source {row.number(6)}"
@@ -157,6 +181,8 @@ class Explainer:
             yield f"the request of this beat's source: {self.text(message)}" if is_mixed else f"the request: {self.name(message)}"
         if fault == "reply without request":
             yield self.last_request(key)
+        elif fault == "no such source":
+            yield self.of_nobody(row)
         elif fault == "size of another request":
             yield f"the request has {bytes_of(message.size)}, the reply {1 << row.number(5)}"
             yield from self.others_of(row, lambda other: other.size == row.number(5))
@@ -235,7 +261,8 @@ class Explainer:
         """Why a request is denied, or is not."""
         ports = self.system.tables["p"]
         if port == len(ports):
-            return f"no port has {bytes_of(message.size)} at {message.address:#x}: the error port denies it"
+            near, pathless = self.with_address(message.link, message.source, message.address, message.size)
+            return f"{near} has {bytes_of(message.size)} at {message.address:#x}{pathless}: the error port denies it"
         slave, name = self.system.slave(port), self.system.names[f"p{port}"]
         if not slave.supports(message.name, message.size):
             return f"{name} supports no {message.name} of {bytes_of(message.size)}, so it is denied"
@@ -306,16 +333,17 @@ class Explainer:
         port = row.link if row.link[0] == "p" else f"p{asked.port}" if asked and under in (None, asked) else None
         other = self.sides.other(asked) if asked else None
         lawful = [order for order, said in orders if said.startswith("lawful:")]
+        is_shifted = any(self.of_shift(row, fault))
         where = [*self.sides.where(row, asked, port, self.views, lawful)]
         return {"line": row.line, "time": row.time, "link": found[3], "channel": row.channel, "why": lines, "where": where,
                 "request": self.record(asked) if asked else None, "other_side": self.record(other) if other else None,
                 "bytes": runs, "orders": [f"with --order {order}: {said}" for order, said in orders],
-                "in_flight": [self.record(message) for message in self.in_flight()], "look_at": causes_of(fault, wrong, lawful)}
+                "in_flight": [self.record(message) for message in self.in_flight()], "look_at": causes_of(fault, wrong, lawful, is_shifted)}
 
 
-def causes_of(fault, wrong, lawful):
-    """What to look at: first an order of requests with which all is lawful."""
-    first = [f"the order in which requests take effect: with --order {order} all is lawful" for order in lawful[:1]]
+def causes_of(fault, wrong, lawful, is_shifted):
+    """What to look at: first an order of requests with which all is lawful, or the shift of a source."""
+    first = [f"the order in which requests take effect: with --order {order} all is lawful" for order in lawful[:1]] + SHIFTED * is_shifted
     return first + (DENIED if wrong and bool(wrong[2]) != bool(wrong[5]) else CAUSES[fault.partition(":")[0]])
 
 

@@ -61,7 +61,7 @@ def of_lines(places):
     for function, lines in (("script_number", places.scripts), ("file_number", places.systems)):
         for said in places.numbers(function):
             words = known.get(said.text)
-            if said.key in ("Map", "Sources", "Missing", "TwoCalled") or words is None:
+            if said.key in ("Map", "Sources", "PortSources", "Missing", "TwoCalled") or words is None:
                 places.tell(words is not None, f"{said.at}: {said.text!r} of {said.key} has no words")
                 continue
             wanted = places.memory.text if said.key == "Memory" else next((one.said.text for one in lines if one.key == (said.key,)), "")

@@ -268,9 +268,10 @@ class Places:
         table = self.files.table("docs/FORMATS.md", "| Line | Such a file |\n|---|---|\n", 0)
         self.said(self.systems, table)
         self.said(self.systems, self.files.alternatives("tools/hostile_systems.py", "SYSTEM_FAULT"), images)
-        self.said(self.systems, self.files.values("tools/system_faults.py", "system: "), [*images, long])
-        lint = self.files.calls("tools/lint_system", "Fault", 1, "system: ")
-        self.said(self.systems, lint + self.files.calls("tools/toml_lines.py", "Fault", 1, "system: "), images)
+        rows = [said for name in ("system_faults", "socket_faults") for said in self.files.values(f"tools/{name}.py", "system: ")]
+        self.said(self.systems, rows, [*images, long])
+        lint = [said for name in ("lint_system", "lint_sockets.py", "toml_lines.py") for said in self.files.calls(f"tools/{name}", "Fault", 1, "system: ")]
+        self.said(self.systems, lint, images)
         self.said(self.systems, words("examples/c/judges.c", C_STRING, "FILES[] = {\n", "\n};", "TLX_"), is_whole=False)
         known = self.scripts + self.systems + self.line_templates
         for path in ("examples/c/check.c", "examples/c/judges.c"):

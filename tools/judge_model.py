@@ -5,9 +5,9 @@ import collections
 import re
 
 from bus import Bus, bus_of, reply_of
-from capture import widths
 from common import HEADER, MAX_SIZE, OPERATIONS, REPLIES, carries_data, order_at
 from partial_memory import ERROR_PORT, Ask, Reply, Slave, fits, port_of
+from wide_sources import WideSources
 
 NAMES = {codes: name for name, codes in OPERATIONS.items()}
 ANSWERS = {code: name for name, code in REPLIES.items()}
@@ -137,23 +137,13 @@ class Rows:
         self.seen.add((row.side, row.number, row.channel))
 
 
-def owners_of(masters):
-    """The master and the own source of each wide source."""
-    firsts = [master.get("first") for master in masters]
-    if None in firsts:
-        firsts = widths([master["sources"] for master in masters])
-        masters = [{**master, "stride": 1} for master in masters]
-    return {first + master.get("stride", 1) * source: (number, source)
-            for number, (first, master) in enumerate(zip(firsts, masters)) for source in range(master["sources"])}
-
-
 class Judge:
     """Watches links of a system, in the views and by the orders that the command line names."""
 
     def __init__(self, system, images, links, order):
         ports, masters = system.get("port", []), system["master"]
         self.system, self.ports, self.masters, self.view, self.order = system, ports, masters, links, order
-        self.owners, self.may_be_unaligned, self.resets = owners_of(masters), system.get("unaligned", False), system.get("resets", False)
+        self.sources, self.may_be_unaligned, self.resets = WideSources(system), system.get("unaligned", False), system.get("resets", False)
         self.links = {(side, number): Link(side, number, table, bus_of(system, table))
                       for side, tables in (("m", masters), ("p", ports)) for number, table in enumerate(tables)}
         self.watched = {"masters": "m", "ports": "p"}.get(links, "mp")
@@ -171,15 +161,16 @@ class Judge:
             (self.ask if row.channel == "A" else self.reply)(link, row)
 
     def owner_of(self, link, source):
-        """Whose a source of a link is: a master's own, or at a port's link that of some master; alone, a port has each source."""
+        """Whose a source of a link is: a master's own, or at a port's link that of the master that has it there; alone, a port has each source."""
         if link.side == "m":
             return (link.number, source) if source < self.masters[link.number]["sources"] else None
-        return (None, source) if self.view == "each" else self.owners.get(source)
+        return (None, source) if self.view == "each" else self.sources.owner(link.number, source)
 
-    def is_in_flight(self, link, source):
+    def is_in_flight(self, link, source, owner):
+        """Whether a source is in flight: at a port's link the owner's own source, which may stand at another port's link with another number."""
         if link.side == "m" or self.view == "each":
             return source in link.flights
-        return any(source in other.flights for other in self.links.values() if other.side == "p")
+        return any(self.sources.wide(other.number, *owner) in other.flights for other in self.links.values() if other.side == "p")
 
     def crosses(self, link, flight):
         """Whether what is asked and answered at a link is compared with the other side."""
@@ -254,7 +245,7 @@ class Judge:
         if owner is None:
             raise Unlawful("no such source")
         port = port_of(self.system, owner[0], row.address, row.size)
-        if self.is_in_flight(link, row.source):
+        if self.is_in_flight(link, row.source, owner):
             raise Unlawful("source in flight")
         if link.side == "p" and port != link.number:
             raise Unlawful("not this port's address")

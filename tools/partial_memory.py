@@ -5,6 +5,7 @@ import collections
 
 from bus import reply_of
 from common import GROUP_OF, MAX_SIZE
+from wide_sources import is_reached
 
 # A request: its operation, and its bytes if it carries some. A reply: whether it is denied, and its bytes if it carries some.
 Ask = collections.namedtuple("Ask", ["name", "address", "size", "data"])
@@ -50,22 +51,13 @@ def holds(ranges, address, size):
     return any(base <= address and address + (1 << size) <= base + length for base, length in ranges)
 
 
-def reached_by(system, master):
-    """The numbers of the ports to which a master has a path: those that its `reach` says by number or by name, or all."""
-    ports = system.get("port", [])
-    if master is None or "reach" not in system["master"][master]:
-        return set(range(len(ports)))
-    names = [port.get("name") for port in ports]
-    return {names.index(said) if isinstance(said, str) else said for said in system["master"][master]["reach"]}
-
-
 def port_of(system, master, address, size):
     """The number of the port to which a master's request goes: the one of whose ranges one holds all its bytes, or with the decode of addresses
     the first of them, if the master has a path to it; else that of the error port. Nobody knows of a port's own link who sends: no master."""
     ports = system.get("port", [])
     decoded = 0 if system.get("decode") == "address" else size
     found = next((number for number, port in enumerate(ports) if holds(ranges_of(port), address, decoded)), len(ports))
-    return found if found in reached_by(system, master) else len(ports)
+    return found if found == len(ports) or master is None or is_reached(system, master, found) else len(ports)
 
 
 ERROR_PORT = {"kind": "error", "base": 0, "length": 0}

@@ -5,12 +5,15 @@ import collections
 
 from bus import Bus, bus_of, reply_of
 from common import BUSES, GROUPS, KINDS, OPERATIONS, ORDERS, SIDE_KEYS, carries_data, order_at
-from judge_model import owners_of
 from partial_memory import ERROR_PORT, Ask, Reply, Slave, port_of, ranges_of
+from wide_sources import WideSources, is_reached
 
 # What a crossbar or a slave of a run may do wrong.
 BUGS = ("byte of a reply at its port", "byte of a reply at its master", "byte of a request", "denial of a reply", "lost put", "sent twice",
-        "sent to another port", "early reply", "reply to another source", "unknown byte of a reply")
+        "sent to another port", "early reply", "reply to another source", "unknown byte of a reply", "source shifted otherwise", "source of another master",
+        "sent without a path", "source sent twice")
+# The greatest source at a port's link.
+MAX_WIDE = 65_535
 
 
 def sizes_of(rng):
@@ -88,6 +91,29 @@ def sources_of(rng, masters):
             end += master["sources"] + rng.randrange(50)
 
 
+def hosts_of(rng, masters, count):
+    """What a port says of the masters that reach it: so many of them in any order, by number or by name, with their places in the list in the low
+    bits of the source. Or each has sources of its own, one after the other or by the low bits, now and then up to the greatest source."""
+    some = rng.sample(range(len(masters)), count)
+    said = [masters[number].get("name", number) if rng.random() < 0.5 else number for number in some]
+    if rng.random() < 0.5:
+        return {"hosts": said}
+    tables, stride, end = [{"master": item} for item in said], len(some) + rng.randrange(4), rng.randrange(50)
+    counts = [masters[number]["sources"] for number in some]
+    if rng.random() < 0.5:
+        lows = rng.sample(range(stride), len(some))
+        front = rng.choice([0, 0, end, MAX_WIDE - max(low + stride * (count - 1) for low, count in zip(lows, counts))])
+        for table, low in zip(tables, lows):
+            table.update(first=front + low, stride=stride)
+    else:
+        for table, count in zip(tables, counts):
+            table["first"] = end
+            if rng.random() < 0.5:
+                table["stride"] = rng.randint(1, 4)
+            end += 1 + table.get("stride", 1) * (count - 1) + rng.randrange(9)
+    return {"sources": tables}
+
+
 def system_of(rng):
     """A random system, and the bytes of each image by its port."""
     images, system = {}, {"bus": rng.choice(BUSES)}
@@ -114,14 +140,23 @@ def system_of(rng):
     for number, master in enumerate(system["master"]):
         if rng.random() < 0.3:
             master["name"] = f"host.{number}"
+    if rng.random() < 0.4:
+        # behind some ports masters have other sources than behind others
+        for port in system["port"]:
+            if rng.random() < 0.6:
+                port.update(hosts_of(rng, system["master"], rng.randint(1, masters)))
+    for number, master in enumerate(system["master"]):
         if rng.random() < 0.3:
-            master["reach"] = reach_of(rng, system["port"])
+            master["reach"] = reach_of(rng, system, number)
     return system, images
 
 
-def reach_of(rng, ports):
-    """Some of the ports, in any order, by number or by name."""
-    some = rng.sample(range(len(ports)), rng.randint(0, len(ports)))
+def reach_of(rng, system, master):
+    """Some of the ports, in any order, by number or by name: of those that list masters the ones that list this one."""
+    ports = system["port"]
+    some = [number for number, port in enumerate(ports)
+            if (is_reached(system, master, number) if "hosts" in port or "sources" in port else rng.random() < 0.5)]
+    rng.shuffle(some)
     return [ports[number].get("name", number) if rng.random() < 0.5 else number for number in some]
 
 
@@ -215,7 +250,7 @@ class Run:
         self.slaves = [*(Slave(port, images.get(number, b"")) for number, port in enumerate(self.ports)), Slave(ERROR_PORT)]
         self.channels = {(side, number, channel): Channel(f"{side}{number},{channel}")
                          for side, channel in (("m", "A"), ("p", "A"), ("p", "D"), ("m", "D")) for number in range(len(self.buses[side]))}
-        self.wides = {owner: wide for wide, owner in owners_of(self.masters).items()}
+        self.sources = WideSources(system)
         self.free = [set(range(master["sources"])) for master in self.masters]
         self.freed, self.used = [], [set() for _ in self.ports]
         # the requests that take effect at a moment of their own
@@ -297,11 +332,17 @@ class Run:
             is_busy = self.is_serial and not self.is_idle()
             if asks and self.free[master] and not channel.message and not channel.waiting and not is_busy:
                 source = self.rng.choice(sorted(self.free[master]))
-                self.free[master].remove(source)
+                if not self.has_bug("source sent twice"):
+                    self.free[master].remove(source)
                 ask = asks.pop()
-                transfer = Transfer(ask, master, source, port_of(self.system, master, ask.address, ask.size))
+                transfer = Transfer(ask, master, source, self.port_to(master, ask))
                 self.transfers.append(transfer)
                 channel.waiting.append(lambda transfer=transfer: self.ask_at_master(transfer))
+
+    def port_to(self, master, ask):
+        """The port to which a request goes. If the master has no path to the port that has its address, a crossbar with a bug sends it there."""
+        right, near = (port_of(self.system, sender, ask.address, ask.size) for sender in (master, None))
+        return near if right != near and self.has_bug("sent without a path") else right
 
     def ask_at_master(self, transfer):
         port = transfer.port
@@ -323,10 +364,23 @@ class Run:
         rows = self.buses[side][number].asks(ask.name, ask.size, source, ask.address, ask.data, self.junk)
         return [row + self.rng.choice(["", "", "0"]) for row in rows]
 
+    def owned_wide(self, transfer, port):
+        """The source at the port's link that its owner has there. With a bug it is another one, also that of a master that the port does not
+        list."""
+        places, own = self.sources.places[port], transfer.source
+        wide = self.sources.wide(port, transfer.master, own)
+        others = [first + stride * own for master, (first, stride) in places.items() if master != transfer.master]
+        if wide is None or others and self.has_bug("source of another master"):
+            return min(self.rng.choice(others), MAX_WIDE)
+        first, stride = places[transfer.master]
+        if own and self.has_bug("source shifted otherwise"):
+            return min(first + self.rng.choice([stride * 2, stride // 2, stride + 1]) * own, MAX_WIDE)
+        return wide
+
     def wide_of(self, transfer, port):
         """The source at the port's link: that of its owner, or a free one of the port's own."""
         if not self.is_renumbering:
-            return self.wides[transfer.master, transfer.source]
+            return self.owned_wide(transfer, port)
         wide = self.rng.choice([number for number in (0, 1, 2, 3, 4, 5, 6, 7, 300, 65535, *range(20, 40)) if number not in self.used[port]])
         self.used[port].add(wide)
         return wide

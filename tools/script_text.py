@@ -3,7 +3,8 @@
 import json
 
 # The keys of a system file and of a script, in the order in which they are written.
-PORT_KEYS = ("name", "kind", "base", "length", "ranges", "reset", "image", "unknown", "sizes", "order", "bus", "mirror", "volatile", "on_reset")
+PORT_KEYS = ("name", "kind", "base", "length", "ranges", "reset", "image", "unknown", "sizes", "order", "bus", "mirror", "volatile", "on_reset", "hosts",
+             "sources")
 MASTER_KEYS = ("name", "sources", "first", "stride", "bus", "reach")
 
 
@@ -17,6 +18,8 @@ def value_of(key, value):
         return "{" + ", ".join(f" {group} = {list(pair)}" for group, pair in value.items()) + " }"
     if isinstance(value, dict):
         return "{" + ", ".join(f" {name} = {json.dumps(word)}" for name, word in value.items()) + " }"
+    if isinstance(value, list) and any(isinstance(item, dict) for item in value):
+        return "[" + ", ".join("{" + ",".join(f" {name} = {json.dumps(word)}" for name, word in item.items()) + " }" for item in value) + "]"
     # a string of JSON in ASCII is one of TOML, and so are numbers and flags
     return json.dumps(value)
 

@@ -19,6 +19,11 @@ def beat_with(rows, place, bus):
     return rows[min(place // bus.width, len(rows) - 1)]
 
 
+def asks_same(row, message):
+    """Whether a beat of a request asks what a message asks."""
+    return (message.size, message.name, message.address) == (row.number(5), NAMES.get((row.number(3), row.number(4))), row.address())
+
+
 class Views:
     """What tlcheck says of the same capture in other views and orders."""
 
@@ -46,7 +51,6 @@ class Sides:
     def __init__(self, explainer):
         self.explainer, self.system, self.story, self.view = explainer, explainer.system, explainer.story, explainer.view
         self.are_compared = self.view == "both"
-        self.wide = {(f"m{master}", own): wide for wide, (master, own) in self.system.owners.items()}
 
     def name(self, link):
         return self.system.names.get(link, link)
@@ -55,7 +59,7 @@ class Sides:
 
     def at_port(self, message):
         """A request of a master as it crossed at its port's link, or None. An adapter may take beats at its port before the master's beat."""
-        key = f"p{message.port}", self.wide.get((message.link, message.source))
+        key = f"p{message.port}", self.system.wide(message.port, self.system.owner(message.link, message.source))
         found = self.story.flights.get(key)
         if found:
             return found
@@ -64,7 +68,7 @@ class Sides:
 
     def at_master(self, message):
         """A request at a port as its master has it in flight, or None."""
-        owner = self.system.owners.get(message.source)
+        owner = self.system.owner(message.link, message.source)
         found = owner and self.story.flights.get((f"m{owner[0]}", owner[1]))
         return found if found and found.port == message.port else None
 
@@ -78,7 +82,7 @@ class Sides:
         """Where the same request stands at the other side."""
         if not self.are_compared or f"p{message.port}" not in self.system.buses:
             return
-        found, owner = self.other(message), self.system.owners.get(message.source)
+        found, owner = self.other(message), self.system.owner(message.link, message.source)
         link = f"p{message.port}" if message.link[0] == "m" else f"m{owner[0]}" if owner else None
         if found:
             yield f"at the other side: {self.explainer.text(found)}"
@@ -87,7 +91,7 @@ class Sides:
 
     def of_sender(self, row):
         """What the owner of the source of a request that begins at a port's link has in flight."""
-        owner = self.system.owners.get(row.number(6)) if self.are_compared else None
+        owner = self.system.owner(row.link, row.number(6)) if self.are_compared else None
         if owner:
             found = self.story.flights.get((f"m{owner[0]}", owner[1]))
             said = self.explainer.text(found) if found else f"nothing is in flight of source {owner[1]} of {self.name(f'm{owner[0]}')}"
@@ -115,8 +119,8 @@ class Sides:
 
     def of_not_had(self, row):
         """These, and whether a beat at the master's link fits them."""
-        own = self.wide.get((row.link, row.number(6)))
-        for given in [given for given in self.not_had(row.link) if given.source != own][:MOST]:
+        own = self.system.owner(row.link, row.number(6))
+        for given in [given for given in self.not_had(row.link) if self.system.owner(given.link, given.source) != own][:MOST]:
             reply = replied(reply_of(given.name), given.denied, given.reply)
             unlike = self.unlike(row, given)
             fits = f"this beat differs from it in {', '.join(unlike)}" if unlike else "this beat fits it"
@@ -147,8 +151,19 @@ class Sides:
 
     def has_fields(self, row, message):
         """Whether a request of a master has the fields of a beat at a port."""
-        return (self.wide[message.link, message.source], message.size, message.name, message.address) == (
-            row.number(6), row.number(5), NAMES.get((row.number(3), row.number(4))), row.address())
+        return self.system.owner(row.link, row.number(6)) == (int(message.link[1:]), message.source) and asks_same(row, message)
+
+    def of_shift(self, row):
+        """The requests of masters that a beat at a port fits but for its source, if that is theirs with another shift."""
+        port, wide = int(row.link[1:]), row.number(6)
+        for message in self.story.flights.values() if self.are_compared else ():
+            # a source 0 is the same with each shift
+            if message.link[0] == "m" and message.source and message.port == port and asks_same(row, message) and self.at_port(message) is None:
+                first, stride = self.system.sources.places[port][int(message.link[1:])]
+                other, rest = divmod(wide - first, message.source)
+                if rest == 0 and other != stride and other.bit_count() == 1:
+                    yield (f"source {wide} is {first} + {other} * {message.source}, and {first} + {stride} * {message.source} is wanted of: "
+                           f"{self.explainer.text(message)}")
 
     def goes_on(self, row, first, columns):
         """Whether a message goes on behind a beat that does not fit it."""
@@ -224,7 +239,7 @@ class Sides:
         """Whether the way has an adapter of widths."""
         link = row.link
         if link[0] == "p":
-            owner = self.system.owners.get(message.source) if message else None
+            owner = self.system.owner(link, message.source) if message else None
             link = f"m{owner[0]}" if owner and self.view != "each" else None
         widths = [self.system.buses[at].width for at in (link, port) if at]
         if len(set(widths)) == 2:

@@ -14,8 +14,8 @@ import tomllib
 
 from bus import Bus, bus_of
 from common import OPERATIONS, REPLIES, carries_data, order_at
-from judge_model import owners_of
 from partial_memory import Ask, Slave, port_of, ranges_of
+from wide_sources import WideSources
 
 NAMES = {codes: name for name, codes in OPERATIONS.items()}
 ANSWERS = {code: name for name, code in REPLIES.items()}
@@ -128,13 +128,21 @@ class System:
         self.buses = {f"{side}{number}": Bus(bus_of(table, it)) for side, tables in self.tables.items() for number, it in enumerate(tables)}
         self.names = {f"{side}{number}": it.get("name", f"{side}{number}") for side, tables in self.tables.items()
                       for number, it in enumerate(tables)}
-        self.owners = owners_of(self.tables["m"])
+        self.sources = WideSources(table)
+
+    def owner(self, link, source):
+        """Whose a source is: the number of the master, and the master's own source; None if it is nobody's at this link of a port."""
+        return (int(link[1:]), source) if link[0] == "m" else self.sources.owner(int(link[1:]), source)
+
+    def wide(self, port, owner):
+        """The source that a master's own source has at the link of a port; None if it has none there, or if the port has no link."""
+        return self.sources.wide(port, *owner) if port < len(self.tables["p"]) else None
 
     def port_of(self, link, source, address, size):
         """The number of the port to which a request of a source at a link goes, by its master's paths; if nobody has the source, by its address
         alone."""
-        master = int(link[1:]) if link[0] == "m" else self.owners.get(source, (None, None))[0]
-        return port_of(self.table, master, address, size)
+        owner = self.owner(link, source)
+        return port_of(self.table, owner and owner[0], address, size)
 
     def port_to(self, message):
         """The number of the port to which a message goes."""

@@ -592,9 +592,9 @@ TABLES = (DOCUMENTS, UNKNOWN_KEYS, NAMES, PLAIN_PORTS, RANGES, DEVICE_RANGES, CO
           NO_RESETS, MASTERS, REACH, TWO_MASTERS, PARTS, SHARED, IMAGES)
 
 
-def rows():
-    """Each file with the line that a program prints for it."""
-    for head, parts in TABLES:
+def rows(given=TABLES):
+    """Each file of these tables with the line that a program prints for it."""
+    for head, parts in given:
         for part, line in parts.items():
             yield f"{head}{part}\n".encode(), line and f"system: {line}"
 

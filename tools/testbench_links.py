@@ -5,9 +5,8 @@ hdl/README.md has the rules ("A testbench around your crossbar").
 import re
 
 from bus import bus_of
-from capture import widths
 from common import BUSES, GROUPS, MAX_SIZE, SIGNALS, SYSTEM_KINDS, with_bits
-from partial_memory import reached_by
+from wide_sources import WideSources, reached_by
 
 STYLES = ("vectors", "structs", "chisel")
 # Signals that the testbench connects if the system file or the command line names them.
@@ -158,14 +157,6 @@ def greatest_size(ports):
     return max(said, default=3)
 
 
-def firsts_of(masters):
-    """The greatest wide source."""
-    firsts = [master.get("first") for master in masters]
-    if None in firsts:
-        return max(first + master["sources"] - 1 for first, master in zip(widths([master["sources"] for master in masters]), masters))
-    return max(first + master.get("stride", 1) * (master["sources"] - 1) for first, master in zip(firsts, masters))
-
-
 def wire_bits(table, signal):
     """How many bits a wire of the system file has, or 0 if it does not say it."""
     said = table.get("wires", {}).get(signal)
@@ -178,11 +169,11 @@ def wire_bits(table, signal):
 def set_widths(links, system, given):
     """How wide address, source, size and the parameter of replies are at each link: as `extra` of its table says it, else the command line, else
     the bits of its wires, else as few as the system needs. The specification gives that parameter two bits, and some designs three."""
-    ports, masters = system["port"], system["master"]
+    ports, sources = system["port"], WideSources(system)
     last = max((base + length - 1 for port in ports for base, length in ranges_of(port)), default=0)
     needed = {"address": 32 if last < 1 << 32 else 64, "size": greatest_size(ports).bit_length(), "d_param": 2}
     for link in links:
-        greatest = link.table["sources"] - 1 if link.side == "m" else firsts_of(masters)
+        greatest = link.table["sources"] - 1 if link.side == "m" else sources.greatest(link.number)
         extra = link.table.get("extra", {})
         for kind, most in WIDTHS.items():
             said = extra.get(f"{kind}_bits") if isinstance(extra, dict) else None

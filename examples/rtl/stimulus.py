@@ -15,7 +15,7 @@ sys.path.insert(0, os.path.join(TOP, "tools"))
 sys.dont_write_bytecode = True
 import operation_lines  # noqa: E402
 from bus import Bus, bus_of  # noqa: E402
-from capture import widths  # noqa: E402
+from wide_sources import widths  # noqa: E402
 from common import HEADER, OPERATIONS, REPLIES  # noqa: E402, F401
 
 NAMES = {codes: name for name, codes in OPERATIONS.items()}

@@ -3,6 +3,8 @@ pub mod NameLemmas
 pub mod BlockLemmas
 pub mod PortRanges
 pub mod OwnerCounts
+pub mod ApartLemmas
+pub mod PlacedLemmas
 pub mod Ends
 pub mod Stores
 pub mod Wholes

@@ -12,16 +12,21 @@ use Rattle.check_keys.specs.declared.fault.SystemFault.TheVariants.{TooLong, Not
 use Rattle.check_description.specs.Rules.{rules_in}
 use Rattle.check_description.specs.Port.{Port, names_of_ports, port_view, ports_of}
 use Rattle.check_description.specs.Master.{Master, master_view, masters_of}
+use Rattle.check_description.specs.Placed.{lists_view, names_of_masters, paths_from, paths_view, placed_of}
+use Rattle.check_description.specs.declared.placed.PlacedMaster.{PlacedMaster}
 use Rattle.check_description.specs.declared.parts.Image as code_image
 use Rattle.check_description.specs.declared.parts.Parts as code_parts
 use Rattle.check_description.specs.declared.read.TheConstants.{MAX_SYSTEM}
 
--- the rules of the links, whether there may be resets of the whole system, the ports and the masters
+-- the rules of the links, whether there may be resets of the whole system, the ports and the masters, the masters that each port
+-- lists, if it lists any, and for each master to which ports it has a path, if not to all
 pub record Parts : Type 0 where
   pub rules : LinkRules
   pub resets : Bool
   pub ports : List Port
   pub masters : List Master
+  pub lists : List (Option (List PlacedMaster))
+  pub paths : List (Option (List Bool))
 
 -- the table of a file, which is a TOML document of at most so many bytes of UTF-8
 unfoldable pub document_of : List ℕ → Result Members SystemFault
@@ -38,7 +43,16 @@ parts_in members = do
   rules ← rules_in members
   ports ← ports_of bus rules.resets members
   masters ← masters_of bus (names_of_ports ports) members
-  Ok (record { rules = rules.links; resets = rules.resets; ports = ports; masters = masters })
+  lists ← placed_of (names_of_masters masters) ports
+  paths ← paths_from lists 0 masters
+  Ok (record {
+    rules = rules.links;
+    resets = rules.resets;
+    ports = ports;
+    masters = masters;
+    lists = lists;
+    paths = paths;
+  })
 
 -- the parts that a file names, or the first fault on the way to them
 abbrev pub parts_of : List ℕ → Result Parts SystemFault
@@ -51,6 +65,8 @@ parts_view parts = record {
   resets = parts.resets;
   ports = map port_view parts.ports.items;
   masters = map master_view parts.masters.items;
+  lists = lists_view parts.lists;
+  paths = paths_view parts.paths;
 }
 
 -- ---- the files of images

@@ -1,6 +1,10 @@
+pub mod Called
+pub mod Listed
 pub mod Master
 pub mod Rules
 pub mod Reach
+pub mod Placed
+pub mod Apart
 pub mod File
 pub mod Unknown
 pub mod Name

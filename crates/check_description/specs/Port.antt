@@ -14,6 +14,7 @@ use Rattle.check_keys.specs.declared.fault.Key.TheVariants.{Port as PortKey}
 use Rattle.check_keys.specs.declared.fault.SystemFault.{SystemFault}
 use Rattle.check_description.specs.Contents.{Contents, contents_at}
 use Rattle.check_description.specs.Kind.{kind_at}
+use Rattle.check_description.specs.Listed.{ListedMasters, list_view, listed_at}
 use Rattle.check_description.specs.Mirror.{mirror_at}
 use Rattle.check_description.specs.OnReset.{on_reset_at}
 use Rattle.check_description.specs.Order.{orders_at}
@@ -29,8 +30,8 @@ use Rattle.check_description.specs.declared.port.PortOrders.{PortOrders}
 
 -- a slave port: its name, what stands there, where its bytes are, what it holds before any request, the sizes that it
 -- supports, when its requests take effect, its data bus, whether its ranges are one memory, the addresses of the bytes
--- that change by themselves, and what a reset of the whole system does to its bytes. No sizes are those of its kind; no
--- order on a side is the command line's
+-- that change by themselves, what a reset of the whole system does to its bytes, and the masters that it lists. No sizes are those
+-- of its kind; no order on a side is the command line's
 pub record Port : Type 0 where
   pub name : Option (List ℕ)
   pub kind : PortKind
@@ -42,6 +43,7 @@ pub record Port : Type 0 where
   pub mirror : Bool
   pub volatile : List Range
   pub on_reset : OnReset
+  pub listed : Option ListedMasters
 
 -- resets leave its bytes, but for those that requests may write which a reset cuts short: nobody knows these afterwards
 abbrev pub keeps_bytes : OnReset → Bool
@@ -67,6 +69,7 @@ port_of bus resets members = do
   mirror ← mirror_at ranges members
   volatile ← volatile_at ranges members
   on_reset ← on_reset_at resets kind members
+  listed ← listed_at members
   Ok (record {
     name = name;
     kind = kind;
@@ -78,6 +81,7 @@ port_of bus resets members = do
     mirror = mirror;
     volatile = volatile;
     on_reset = on_reset;
+    listed = listed;
   })
 
 -- the tables in a value, which may not be there
@@ -118,4 +122,5 @@ port_view port = record {
   mirror = port.mirror;
   volatile = port.volatile.items;
   on_reset = port.on_reset;
+  listed = option_map list_view port.listed;
 }

@@ -4,7 +4,7 @@ use Rattle.toml.specs.Data.{Data, Members, as_array, as_table, get_member}
 use Rattle.tl_script.specs.Value.{list_of}
 use Rattle.check_keys.specs.Known.{first_unknown, near_key}
 use Rattle.check_keys.specs.declared.known.TableKind.{TableKind}
-use Rattle.check_keys.specs.declared.known.TableKind.TheVariants.{Top, Names, Port, Master, Sizes, Orders, Wires}
+use Rattle.check_keys.specs.declared.known.TableKind.TheVariants.{Top, Names, Port, Master, Sizes, Orders, Sources, Wires}
 use Rattle.check_keys.specs.declared.fault.SystemFault.{SystemFault}
 use Rattle.check_keys.specs.declared.fault.SystemFault.TheVariants.{UnknownKey}
 
@@ -32,11 +32,22 @@ stray_in_value kind value = option_and_then (stray_in kind) (option_and_then as_
 abbrev pub stray_at : List ℕ → TableKind → Members → Option Stray
 stray_at name kind members = stray_in_value kind (get_member name members)
 
--- that of a port's or of a master's table: a key of its own, or else of its sizes, of its order, or of its wires
+-- that of the first table of a port's list that has one; what is no table is passed over
+abbrev pub stray_in_tables : List Data → Option Stray
+stray_in_tables [] = None
+stray_in_tables (value ∷ values) = or_else (option_and_then (stray_in Sources) (as_table value)) (stray_in_tables values)
+
+-- the same of the `sources` of a port's table; those of a master are a number, and what is no array is passed over
+abbrev pub stray_in_sources : TableKind → Option Data → Option Stray
+stray_in_sources Port value = option_and_then (λ items. stray_in_tables (list_of items)) (option_and_then as_array value)
+stray_in_sources kind value = None
+
+-- that of a port's or of a master's table: a key of its own, or else of its sizes, of its order, of its sources, or of its wires
 unfoldable pub stray_in_link : TableKind → Members → Option Stray
 stray_in_link kind members =
     or_else (stray_in kind members) (or_else (stray_at (codes "sizes") Sizes members)
-    (or_else (stray_at (codes "order") Orders members) (stray_at (codes "wires") Wires members)))
+    (or_else (stray_at (codes "order") Orders members)
+    (or_else (stray_in_sources kind (get_member (codes "sources") members)) (stray_at (codes "wires") Wires members))))
 
 -- that of the first table of an array that has one; what is no table is passed over
 abbrev pub stray_in_links : TableKind → List Data → Option Stray

@@ -6,10 +6,13 @@ ghost use Rattle.check_description.specs.Port.{port_view};
 ghost use Rattle.check_description.specs.Description.{IsFirstFaultOf, IsOfMap, Makes, described, ranges_of};
 ghost use Rattle.check_description.specs.File.{parts_view};
 ghost use Rattle.check_description.specs.Master.{master_view};
+ghost use Rattle.check_description.specs.Placed.{lists_view, paths_view};
 
+use crate::apart::check_lists;
 use crate::masters::Master;
-use crate::owners::sources_of;
+use crate::owners::{counts_of, sources_of};
 use crate::parts::Parts;
+use crate::placed::PlacedMaster;
 use crate::port::Port;
 use check_beats::LinkRules;
 use check_keys::SystemFault;
@@ -18,7 +21,7 @@ use std::marker::Model;
 use tl_map::{AddressMap, SourceOwners};
 
 /// What a file describes: the rules of the links, whether there may be resets of the whole system, the ports, the masters,
-/// which port has which addresses, and which wide sources are whose.
+/// which port has which addresses, which wide sources are whose, which masters a port lists, and which paths there are.
 #[derive(Drop)]
 pub struct Description {
     rules: LinkRules,
@@ -27,6 +30,9 @@ pub struct Description {
     masters: Vec<Master>,
     addresses: AddressMap,
     sources: SourceOwners,
+    lists: Vec<Option<Vec<PlacedMaster>>>,
+    paths: Vec<Option<Vec<bool>>>,
+    nobody: u16,
 }
 
 /// The parts of a description, each to be taken on its own.
@@ -38,6 +44,12 @@ pub struct Described {
     pub masters: Vec<Master>,
     pub addresses: AddressMap,
     pub sources: SourceOwners,
+    /// By port the masters that it lists, if it lists any.
+    pub lists: Vec<Option<Vec<PlacedMaster>>>,
+    /// By master for each port whether it has a path to it; to each, if there are no flags.
+    pub paths: Vec<Option<Vec<bool>>>,
+    /// A wide source that is nobody's, if some port lists masters.
+    pub nobody: u16,
 }
 
 impl Model for Description {
@@ -47,7 +59,7 @@ impl Model for Description {
 
     ghost Value = { Said };
 
-    ghost view = { λ s. described s.rules s.resets s.ports.items s.masters.items s.sources };
+    ghost view = { λ s. described s.rules s.resets s.ports.items s.masters.items s.sources s.lists s.paths s.nobody };
 
     ghost invariant = { λ s. (s.addresses ≡ ranges_of (map port_view s.ports.items))
         × (length s.sources ≡ length s.masters.items) };
@@ -62,10 +74,13 @@ impl Description {
         masters: Vec<Master>,
         addresses: AddressMap,
         sources: SourceOwners,
+        lists: Vec<Option<Vec<PlacedMaster>>>,
+        paths: Vec<Option<Vec<bool>>>,
+        nobody: u16,
     ) -> Description
         requires addresses { addresses ≡ ranges_of (map port_view ports.items) }
         requires counted { length sources ≡ length masters.items }
-        ensures { result ≡ described rules resets ports.items masters.items sources }
+        ensures { result ≡ described rules resets ports.items masters.items sources lists paths nobody }
     {
         Description {
             rules,
@@ -74,6 +89,9 @@ impl Description {
             masters,
             addresses,
             sources,
+            lists,
+            paths,
+            nobody,
         }
     }
 
@@ -127,6 +145,9 @@ impl Description {
         ensures masters { map master_view result.masters.items ≡ self.masters }
         ensures addresses { result.addresses ≡ ranges_of self.ports }
         ensures sources { result.sources ≡ self.owners }
+        ensures lists { lists_view result.lists ≡ self.lists }
+        ensures paths { paths_view result.paths ≡ self.paths }
+        ensures nobody { result.nobody ≡ self.nobody }
         ensures counted { length result.sources ≡ length result.masters.items }
     {
         Described {
@@ -136,6 +157,9 @@ impl Description {
             masters: self.masters,
             addresses: self.addresses,
             sources: self.sources,
+            lists: self.lists,
+            paths: self.paths,
+            nobody: self.nobody,
         }
     }
 }
@@ -155,14 +179,16 @@ fn map_of(alloc: Global, ports: &[Port]) -> Result<AddressMap, SystemFault>
     Ok(AddressMap::new(alloc, &ranges)?)
 }
 
-/// The description that parts make, or their first fault: of their ranges, or else of their sources. Want of memory may
-/// be answered at any point.
+/// The description that parts make, or their first fault: of their ranges, or else of their sources, or else of the masters that
+/// a port lists. Want of memory may be answered at any point.
 pub fn describe(alloc: Global, parts: Parts) -> Result<Description, SystemFault>
     ensures made { IfOk result (Makes (parts_view parts)) }
     ensures fault { IfErr result (λ fault. fault ≢ Memory → IsFirstFaultOf (parts_view parts) fault) }
 {
     let addresses = map_of(alloc, &parts.ports)?;
     let sources = sources_of(alloc, &parts.masters)?;
+    let counts = counts_of(alloc, &parts.masters)?;
+    let nobody = check_lists(alloc, &counts, &sources, &parts.lists)?;
     Ok(Description::new(
         parts.rules,
         parts.resets,
@@ -170,5 +196,8 @@ pub fn describe(alloc: Global, parts: Parts) -> Result<Description, SystemFault>
         parts.masters,
         addresses,
         sources,
+        parts.lists,
+        parts.paths,
+        nobody,
     ))
 }

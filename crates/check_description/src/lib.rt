@@ -2,7 +2,9 @@
 //! slave that each port is at reset.
 //!
 //! [`read_parts`] answers the [`Parts`] that a file names, no two of them with the same name, if each key of it is known
-//! (`specs/Unknown.antt`), or its first fault on the way to them (`specs/File.antt`, `specs/Name.antt`). [`read_ports`] reads the ports among them, each key in its order (`specs/Port.antt`).
+//! (`specs/Unknown.antt`), or its first fault on the way to them (`specs/File.antt`, `specs/Name.antt`).
+//! [`read_ports`] reads the ports among them, each key in its order (`specs/Port.antt`). A port may list the masters that reach it,
+//! and their sources at its link (`specs/Listed.antt`); which paths there are then is `specs/Placed.antt`.
 //! The files of the ports' images are [`Parts::images`]: the program reads them. [`slave_of`] makes of a port and the bytes
 //! of its image the `PortSlave` that it is before any request (`specs/Slave.antt`), [`kept_at_reset`] what a reset of the whole
 //! system loads into it, if it does (`specs/OnReset.antt`), and [`error_slave`] the slave of the error port. [`describe`] answers the [`Description`] that the parts make, or the first fault of their ranges and of their
@@ -14,10 +16,13 @@
 //! Read on in `docs/MODEL.md`, "Ports of system files" and "Descriptions".
 #![tactic(auto)]
 
+mod apart;
+mod called;
 mod contents;
 mod description;
 mod kind;
 pub mod laws;
+mod listed;
 mod masters;
 mod mirror;
 mod names;
@@ -25,6 +30,7 @@ mod on_reset;
 mod order;
 mod owners;
 mod parts;
+mod placed;
 mod port;
 mod ports;
 mod ranges;
@@ -38,9 +44,11 @@ mod volatile;
 
 pub use description::{Described, Description, describe};
 pub use kind::PortKind;
+pub use listed::{ListedMaster, ListedMasters, MasterWord};
 pub use masters::Master;
 pub use on_reset::OnReset;
 pub use parts::{Image, Parts};
+pub use placed::PlacedMaster;
 pub use port::{Contents, Port, PortOrders};
 pub use ports::{read_port, read_ports};
 pub use ranges::first_length;

@@ -37,7 +37,7 @@ fn read_owners(alloc: Global, masters: &[Master]) -> Result<Option<Vec<Owner>>, 
 }
 
 /// How many sources each master has.
-fn counts_of(alloc: Global, masters: &[Master]) -> Result<Vec<u32>, AllocError>
+pub(crate) fn counts_of(alloc: Global, masters: &[Master]) -> Result<Vec<u32>, AllocError>
     ensures { IfOk result
         (λ counts. counts.items ≡ counts_of_masters (map master_view masters.now)) }
 {

@@ -3,17 +3,22 @@ ghost use Rattle.std.specs.Prelude.{◌≡◌, ◌≤◌, IfOk, length, map};
 ghost use Rattle.tl_map.specs.declared.limits.TheConstants.{MAX_JUDGED_PORTS};
 
 use crate::masters::Master;
+use crate::placed::PlacedMaster;
 use crate::port::Port;
 use check_beats::LinkRules;
 use std::alloc::{AllocError, Global};
 
-/// The rules of the links, whether there may be resets of the whole system, the ports and the masters that a file names.
+/// The rules of the links, whether there may be resets of the whole system, and the ports and the masters that a file names.
 #[derive(Debug, Drop)]
 pub struct Parts {
     pub rules: LinkRules,
     pub resets: bool,
     pub ports: Vec<Port>,
     pub masters: Vec<Master>,
+    /// By port the masters that it lists, if it lists any.
+    pub lists: Vec<Option<Vec<PlacedMaster>>>,
+    /// By master for each port whether it has a path to it; to each, if there are no flags.
+    pub paths: Vec<Option<Vec<bool>>>,
     ghost few_ports: { length ports.items ≤ MAX_JUDGED_PORTS },
 }
 

@@ -3,6 +3,7 @@ ghost use Rattle.std.specs.Prelude.{◌≤◌, length};
 ghost use Rattle.check_description.specs.Ranges.{AreRangesOfPort, first_length};
 
 use crate::kind::PortKind;
+use crate::listed::ListedMasters;
 use crate::on_reset::OnReset;
 use check_beats::Bus;
 use check_flight::Order;
@@ -42,6 +43,8 @@ pub struct Port {
     pub volatile: Vec<Range>,
     /// What a reset of the whole system does to its bytes.
     pub on_reset: OnReset,
+    /// The masters that reach it, and their sources at its link, if it lists them.
+    pub listed: Option<ListedMasters>,
     ghost lawful: { AreRangesOfPort ranges.items },
     ghost given: { length contents.reset.items ≤ first_length ranges.items },
 }

@@ -8,6 +8,7 @@ ghost use Rattle.check_description.specs.Port.{port_of, port_tables, port_view, 
 
 use crate::contents::contents_at;
 use crate::kind::kind_at;
+use crate::listed::listed_at;
 use crate::mirror::mirror_at;
 use crate::on_reset::on_reset_at;
 use crate::order::orders_at;
@@ -36,6 +37,7 @@ pub fn read_port(alloc: Global, bus: Bus, resets: bool, table: &Table) -> Result
     let mirror = mirror_at(&ranges, table)?;
     let volatile = volatile_at(alloc, &ranges, table)?;
     let on_reset = on_reset_at(resets, kind, table)?;
+    let listed = listed_at(alloc, table)?;
     Ok(Port {
         name,
         kind,
@@ -47,6 +49,7 @@ pub fn read_port(alloc: Global, bus: Bus, resets: bool, table: &Table) -> Result
         mirror,
         volatile,
         on_reset,
+        listed,
     })
 }
 

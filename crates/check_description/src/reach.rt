@@ -5,46 +5,27 @@ ghost use Rattle.toml.specs.View.{table_view, view};
 ghost use Rattle.tl_text.specs.Reading.{each};
 ghost use Rattle.check_keys.specs.Reading.{Gives};
 ghost use Rattle.check_keys.specs.Value.{integer_or_text_of, integer_or_text_view};
-ghost use Rattle.check_keys.specs.declared.fault.Key.TheVariants.{Reach};
 ghost use Rattle.check_description.specs.Port.{names_of_ports, port_view};
-ghost use Rattle.check_description.specs.Reach.{count_set, flags_in, flags_of, is_called, port_from, port_numbered, port_of_element, reach_at as reach_of_table, reach_in as reach_of_value};
+ghost use Rattle.check_description.specs.Reach.{are_distinct, count_set, flags_in, flags_of, port_of_element, reach_at as reach_of_table, reach_in as reach_of_value};
+ghost use Rattle.check_description.specs.Called.{called_from};
 
+use crate::called::{is_called, one_numbered};
 use crate::port::Port;
 use check_keys::{IntegerOrText, Key, SystemFault, array_of, find_value, integer_or_text_of};
 use std::alloc::{AllocError, Global};
 use tl_map::MAX_JUDGED_PORTS;
 use toml::{Table, Value};
 
-/// Whether a port has this name.
-fn is_called(port: &Port, name: &str) -> bool
-    ensures { result ≡ is_called name.now (port_view port.now).name }
-{
-    match &port.name {
-        Some(own) => own.as_str() == name,
-        None => false,
-    }
-}
-
 /// The number of the first port of this name.
 fn port_called(ports: &[Port], name: &str) -> Option<usize>
-    ensures { result ≡ port_from 0 name.now (names_of_ports (map port_view ports.now)) }
+    ensures { result ≡ called_from 0 name.now (names_of_ports (map port_view ports.now)) }
 {
     for (number, port) in ports.iter().enumerate() {
-        if is_called(port, name) {
+        if is_called(&port.name, name) {
             return Some(number);
         }
     }
     None
-}
-
-/// The port of this number, if there are more ports than that.
-fn port_numbered(count: usize, number: i64) -> Option<usize>
-    ensures { result ≡ port_numbered count number }
-{
-    match usize::try_from(number) {
-        Ok(number) if number < count => Some(number),
-        _ => None,
-    }
 }
 
 /// The port that an element says.
@@ -53,7 +34,7 @@ fn port_of(ports: &[Port], said: IntegerOrText<'_>) -> Result<usize, SystemFault
         (port_of_element (names_of_ports (map port_view ports.now)) (integer_or_text_view said.entry)) }
 {
     let port = match said {
-        IntegerOrText::Number(number) => port_numbered(ports.len(), number),
+        IntegerOrText::Number(number) => one_numbered(ports.len(), number),
         IntegerOrText::Text(name) => port_called(ports, name),
     };
     port.ok_or(SystemFault::OutOfRange(Key::Reach))
@@ -75,17 +56,18 @@ fn read_each_number(
     Ok(numbers)
 }
 
-/// The integers and texts that values are.
-fn read_each_element<'a>(
+/// The integers and texts that the values at a key are.
+pub(crate) fn read_each_element<'a>(
     alloc: Global,
+    key: Key,
     values: &'a [Value],
 ) -> Result<Vec<IntegerOrText<'a>>, SystemFault>
     ensures { Gives (λ elements. map integer_or_text_view elements.items) result
-        (each (integer_or_text_of Reach) (map view values.now)) }
+        (each (integer_or_text_of key) (map view values.now)) }
 {
     let mut elements = Vec::with_capacity(alloc, values.len())?;
     for value in values {
-        elements.push(integer_or_text_of(value, Key::Reach)?)?;
+        elements.push(integer_or_text_of(value, key)?)?;
     }
     Ok(elements)
 }
@@ -103,7 +85,11 @@ fn is_among(numbers: &[usize], number: usize) -> bool
 }
 
 /// For each of so many ports, whether its number is among these.
-fn flags_of(alloc: Global, count: usize, numbers: &[usize]) -> Result<Vec<bool>, AllocError>
+pub(crate) fn flags_of(
+    alloc: Global,
+    count: usize,
+    numbers: &[usize],
+) -> Result<Vec<bool>, AllocError>
     ensures { IfOk result (λ flags. flags.items ≡ flags_of count numbers.now) }
 {
     let mut flags = Vec::with_capacity(alloc, count)?;
@@ -124,6 +110,18 @@ fn count_set(flags: &[bool]) -> usize
         }
     }
     count
+}
+
+/// Whether each of these numbers below a count is another one.
+pub(crate) fn are_distinct(
+    alloc: Global,
+    count: usize,
+    numbers: &[usize],
+) -> Result<bool, AllocError>
+    ensures { IfOk result (λ distinct. distinct ≡ are_distinct count numbers.now) }
+{
+    let flags = flags_of(alloc, count, numbers)?;
+    Ok(count_set(&flags) == numbers.len())
 }
 
 /// The flags of the ports that elements say, each of them another one.
@@ -150,7 +148,7 @@ fn reach_in(alloc: Global, ports: &[Port], value: &Value) -> Result<Vec<bool>, S
     ensures { Gives (λ flags. flags.items) result
         (reach_of_value (names_of_ports (map port_view ports.now)) (view value.now)) }
 {
-    let elements = read_each_element(alloc, array_of(value, Key::Reach)?)?;
+    let elements = read_each_element(alloc, Key::Reach, array_of(value, Key::Reach)?)?;
     if elements.len() > MAX_JUDGED_PORTS {
         return Err(SystemFault::OutOfRange(Key::Reach));
     }

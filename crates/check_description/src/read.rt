@@ -9,6 +9,7 @@ ghost use Rattle.check_description.specs.Name.{IsFirstPartFault, NamesParts};
 use crate::masters::read_masters;
 use crate::names::check_names;
 use crate::parts::Parts;
+use crate::placed::{find_paths, place_masters};
 use crate::ports::read_ports;
 use crate::rules::read_rules;
 use crate::unknown::check_keys;
@@ -47,11 +48,15 @@ fn read_tables(alloc: Global, table: &Table) -> Result<Parts, SystemFault>
     let rules = read_rules(table)?;
     let ports = read_ports(alloc, bus, rules.resets, table)?;
     let masters = read_masters(alloc, bus, &ports, table)?;
+    let lists = place_masters(alloc, &masters, &ports)?;
+    let paths = find_paths(alloc, &lists, &masters)?;
     Ok(Parts {
         rules: rules.links,
         resets: rules.resets,
         ports,
         masters,
+        lists,
+        paths,
     })
 }
 

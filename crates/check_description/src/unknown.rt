@@ -2,7 +2,7 @@
 ghost use Rattle.std.specs.Prelude.{◌≡◌, ◌≢◌, IfErr, OnOk, None, map, option_map};
 ghost use Rattle.toml.specs.View.{table_view, view};
 ghost use Rattle.check_keys.specs.declared.fault.SystemFault.TheVariants.{Memory};
-ghost use Rattle.check_description.specs.Unknown.{IsUnknownFault, stray_at, stray_in, stray_in_array, stray_in_file, stray_in_link, stray_in_links, stray_of};
+ghost use Rattle.check_description.specs.Unknown.{IsUnknownFault, stray_at, stray_in, stray_in_array, stray_in_file, stray_in_link, stray_in_links, stray_in_sources, stray_in_tables, stray_of};
 
 use check_keys::{Key, SystemFault, TableKind, find_member, find_value};
 use std::alloc::Global;
@@ -32,7 +32,34 @@ fn stray_at<'a>(table: &'a Table, name: &str, kind: TableKind) -> Option<Stray<'
     stray_in(inner, kind)
 }
 
-/// That of a port's or of a master's table, its `sizes`, its `order` and its `wires`.
+/// That of the first table of a port's list that has one.
+fn stray_in_tables(values: &[Value]) -> Option<Stray<'_>>
+    ensures { option_map (λ stray. stray_of stray.kind stray.key.now) result ≡ stray_in_tables (map view values.now) }
+{
+    for item in values {
+        let Some(table) = item.as_table() else {
+            continue;
+        };
+        if let Some(stray) = stray_in(table, TableKind::Sources) {
+            return Some(stray);
+        }
+    }
+    None
+}
+
+/// That of the `sources` of a port's table, if there is an array of them.
+#[tactic(auto, using(check_keys::proofs::Views::array_laws))]
+fn stray_in_sources(value: Option<&Value>, kind: TableKind) -> Option<Stray<'_>>
+    ensures { option_map (λ stray. stray_of stray.kind stray.key.now) result
+        ≡ stray_in_sources kind (option_map (λ value. view value.now) value.entry) }
+{
+    match kind {
+        TableKind::Port => stray_in_tables(value?.as_array()?.as_slice()),
+        _ => None,
+    }
+}
+
+/// That of a port's or of a master's table, its `sizes`, its `order`, a port's `sources`, and its `wires`.
 #[tactic(auto, unfolding(crate::specs::Unknown::stray_in_link))]
 fn stray_in_link(table: &Table, kind: TableKind) -> Option<Stray<'_>>
     ensures { option_map (λ stray. stray_of stray.kind stray.key.now) result
@@ -45,6 +72,9 @@ fn stray_in_link(table: &Table, kind: TableKind) -> Option<Stray<'_>>
         return Some(stray);
     }
     if let Some(stray) = stray_at(table, "order", TableKind::Orders) {
+        return Some(stray);
+    }
+    if let Some(stray) = stray_in_sources(find_member(table, "sources"), kind) {
         return Some(stray);
     }
     stray_at(table, "wires", TableKind::Wires)

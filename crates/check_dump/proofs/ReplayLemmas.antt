@@ -6,7 +6,7 @@ use Rattle.std.specs.Prelude.{nat_lt, if◌then◌else◌}
 use Rattle.std.specs.Io.KnownBytes.{Appends}
 use Rattle.tl_streams.specs.Streams.{AppendsPart}
 use Rattle.check_vcd.specs.Words.{Both}
-use Rattle.check_rows.specs.Row.{SeenRow, row_of}
+use Rattle.check_rows.specs.Row.{SeenRow}
 use Rattle.check_rows.specs.Column.{column_parts}
 use Rattle.check_lines.specs.declared.verdict.VerdictCounts.{VerdictCounts}
 use Rattle.check_unanswered.specs.declared.request.Left.{Left as LeftOver}
@@ -24,7 +24,7 @@ use Rattle.check_review.proofs.Judging.{part_before, part_of_file, told_earlier,
 use Rattle.check_samples.specs.Left.{End, RowsLeft}
 use Rattle.check_samples.specs.declared.channel.UnknownBit.{UnknownBit}
 use Rattle.check_start.specs.Loads.{SystemPlan}
-use Rattle.check_text.specs.Buses.{LinkBuses}
+use Rattle.check_text.specs.Buses.{LinkBuses, row_on}
 use Rattle.check_text.specs.Out.{Moves, WritesPart, Wrote}
 use Rattle.check_text.specs.Rows.{IsToldBy, Took}
 use Rattle.check_text.specs.declared.fault.Verdict.{Verdict}
@@ -472,7 +472,7 @@ module _ (buses : LinkBuses) (first : JudgeView) (old : Option (List ℕ)) where
                   z.text,
                   takes.0,
                   subst (λ n.
-                      (row_of buses.resets buses.masters buses.ports n (column_parts line) ≡ Err why)
+                      (row_on buses n (column_parts line) ≡ Err why)
                       ⊎ ((row : SeenRow) × SpellsRow buses n line row × HasRowFault took.rows row why)) took.number
                       (stops.1 plan took.rows wrote.told wrote.holds).0,
                 ),

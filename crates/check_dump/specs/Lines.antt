@@ -1,12 +1,12 @@
 -- The rows of a dump, one after the other: each stands on one line of the text that `tlvcd` writes of the dump. This project's own.
 use Rattle.std.specs.Prelude.{◌≡◌, ◌≢◌, ℕ, ◌+◌, ◌<◌, ◌≤◌, List, [], ◌∷◌, ◌++◌, drop, get_or, length, slice_index, Option, None, Some, option_map, Result, Ok, Err}
 use Rattle.check_rows.specs.Column.{column_parts}
-use Rattle.check_rows.specs.Row.{SeenRow, row_of}
+use Rattle.check_rows.specs.Row.{SeenRow}
 use Rattle.check_samples.specs.Due.{due_text}
 use Rattle.check_samples.specs.EdgeFault.{edge_fault_view}
 use Rattle.check_samples.specs.Left.{End, RowsLeft}
 use Rattle.check_samples.specs.Left.End.{BeforeBeat, BeforeLine, Whole, WithoutEdges}
-use Rattle.check_text.specs.Buses.{LinkBuses}
+use Rattle.check_text.specs.Buses.{LinkBuses, row_on}
 use Rattle.check_samples.specs.declared.rows.Progress.{Progress}
 use Rattle.check_samples.specs.declared.rows.Progress.TheVariants as progress
 use Rattle.check_samples.specs.declared.rows.RowsFault.{RowsFault}
@@ -28,7 +28,7 @@ pub record BeginsWithLine (line rest text : List ℕ) : Type 0 where
 
 -- the line of this number is this row
 abbrev pub SpellsRow : LinkBuses → ℕ → List ℕ → SeenRow → Type 0
-SpellsRow buses number line row = row_of buses.resets buses.masters buses.ports number (column_parts line) ≡ Ok row
+SpellsRow buses number line row = row_on buses number (column_parts line) ≡ Ok row
 
 -- a text is these rows, one to a line, of which the first has this number
 abbrev pub AreRowLines : LinkBuses → ℕ → List SeenRow → List ℕ → Type 0

@@ -2,7 +2,7 @@
 use Rattle.std.specs.Prelude.{◌≡◌, ◌⊎◌, ℕ, ◌+◌, ◌<◌, ◌≤◌, Bool, true, false, nat_lt, if◌then◌else◌, List, [], ◌++◌, length, All, Contains, Option, Some, None, Result, Ok, Err, ⊤}
 use Rattle.std.specs.Io.KnownBytes.{Appends}
 use Rattle.tl_streams.specs.Streams.{AppendsPart}
-use Rattle.check_rows.specs.Row.{SeenRow, row_of}
+use Rattle.check_rows.specs.Row.{SeenRow}
 use Rattle.check_rows.specs.Column.{column_parts}
 use Rattle.check_rows.specs.declared.fault.RowFault.{RowFault}
 use Rattle.check_review.specs.Stretches.{Stretches}
@@ -20,7 +20,7 @@ use Rattle.check_samples.specs.EdgeFault.{edge_fault_view}
 use Rattle.check_samples.specs.Left.{End, RowsLeft}
 use Rattle.check_samples.specs.Left.End.{BeforeBeat, BeforeLine, Whole, WithoutEdges}
 use Rattle.check_start.specs.Loads.{SystemPlan}
-use Rattle.check_text.specs.Buses.{LinkBuses}
+use Rattle.check_text.specs.Buses.{LinkBuses, row_on}
 use Rattle.check_text.specs.Out.{WritesAll, WritesFront, WritesPart, Wrote}
 use Rattle.check_text.specs.Rows.{IsToldBy, OfJudged, TellsBefore, verdict_at_end}
 use Rattle.check_text.specs.declared.fault.Verdict.{Verdict}
@@ -66,7 +66,7 @@ IsMomentOver buses rows rest end = ((rest ≡ []) × EndsLater end rows) ⊎ Beg
 -- why the line after these rows is no row that may stand there
 abbrev pub IsNoRowLine : LinkBuses → List SeenRow → List ℕ → RowFault → Type 0
 IsNoRowLine buses rows line why =
-    (row_of buses.resets buses.masters buses.ports (line_after rows) (column_parts line) ≡ Err why)
+    (row_on buses (line_after rows) (column_parts line) ≡ Err why)
     ⊎ ((row : SeenRow) × SpellsRow buses (line_after rows) line row × HasRowFault rows row why)
 
 -- a text begins with a line that is no row after these
@@ -153,7 +153,7 @@ LineStops buses number line judge tally text grown (halt.Unlawful found) =
     × TellsBefore (is_traced judge) plan rows so_far text grown found
 LineStops buses number line judge tally text grown (halt.Fault (fault.Row on why)) =
     (on ≡ number) × ((plan : SystemPlan) (rows : List SeenRow) (so_far : List ℕ) → HasTold plan rows judge so_far
-    → ((row_of buses.resets buses.masters buses.ports number (column_parts line) ≡ Err why)
+    → ((row_on buses number (column_parts line) ≡ Err why)
     ⊎ ((row : SeenRow) × SpellsRow buses number line row × HasRowFault rows row why)) × (grown ≡ text))
 LineStops buses number line judge tally text grown (halt.Fault (fault.Edges why)) = ⊥
 LineStops buses number line judge tally text grown (halt.Fault (fault.Unknown unknown)) = ⊥
@@ -166,7 +166,7 @@ LineStops buses number line judge tally text grown (halt.Fault fault.Write) = �
 abbrev pub IsNoDue : LinkBuses → ℕ → List ℕ → Halt → Type 0
 IsNoDue buses number line (halt.Unlawful found) = ⊥
 IsNoDue buses number line (halt.Fault (fault.Row on why)) =
-    (on ≡ number) × (row_of buses.resets buses.masters buses.ports number (column_parts line) ≡ Err why)
+    (on ≡ number) × (row_on buses number (column_parts line) ≡ Err why)
 IsNoDue buses number line (halt.Fault (fault.Edges why)) = ⊥
 IsNoDue buses number line (halt.Fault (fault.Unknown unknown)) = ⊥
 IsNoDue buses number line (halt.Fault (fault.Dump at mistake)) = ⊥

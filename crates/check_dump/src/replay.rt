@@ -1,7 +1,8 @@
 //! The rows of a dump, one after the other, through the judge of captures.
-ghost use Rattle.std.specs.Prelude.{◌≡◌, ◌≤◌, ◌+◌, [], List, None, Some, true, ℕ, is_some, length, OnOk, IfOk, IfErr, IfSome};
+ghost use Rattle.std.specs.Prelude.{◌≡◌, ◌≤◌, ◌+◌, [], List, None, Ok, Some, true, ℕ, is_some, length, OnOk, IfOk, IfErr, IfSome};
 ghost use Rattle.check_rows.specs.Buses.{IsLinkOfRow};
-ghost use Rattle.check_rows.specs.Row.{SeenRow, seen_row};
+ghost use Rattle.check_rows.specs.Column.{column_parts};
+ghost use Rattle.check_rows.specs.Row.{SeenRow, row_of, seen_row};
 ghost use Rattle.check_start.specs.Loads.{SystemPlan};
 ghost use Rattle.check_review.specs.View.{Judges, is_asked, is_covered, is_traced};
 ghost use Rattle.check_text.specs.Buses.{HasBuses, link_buses};
@@ -16,7 +17,7 @@ use crate::lines::LineFault;
 use check_beats::MAX_LANES;
 use check_due::row_of_due;
 use check_review::{Ending, Judge, Refusal, Stop, Unlawful};
-use check_rows::{Buses, Row, read_bare_row};
+use check_rows::{Buses, Row, number_row, read_bare_row};
 use check_samples::{DueRow, Rows, UnknownBit, push_due};
 use check_text::{Verdict, verdict_at_end, write_long};
 use std::alloc::{AllocError, Global};
@@ -62,31 +63,61 @@ fn halt_of(number: u64, stop: Stop) -> Halt
     }
 }
 
-/// The row of a capture that a row of the dump is on this line. One that is none is read from its line, which has the fault.
+/// The row that a row of the dump spells on this line, read from the text of the line. If it spells none, the fault is noted.
+fn read_line(
+    alloc: Global,
+    buses: &Buses<'_>,
+    number: u64,
+    due: &DueRow<'_>,
+    lanes: &mut [u8; MAX_LANES],
+    halt: &mut Option<Halt>,
+) -> Option<Row>
+    ensures value { IfSome result (λ row. row_of buses.now.resets buses.now.masters.now buses.now.ports.now number
+        (column_parts (due_line due.now)) ≡ Ok (seen_row row lanes.new)) }
+    ensures link { IfSome result (λ row.
+        IsLinkOfRow row.is_reset buses.now.masters.now buses.now.ports.now row.link row.bus) }
+    ensures halt { result ≡ None → IfSome halt.new (IsNoDue (link_buses buses.now) number (due_line due.now)) }
+    ensures noted { result ≡ None → is_some halt.new ≡ true }
+{
+    let mut line = Vec::new(alloc);
+    match push_due(&mut line, due) {
+        Ok(()) => {}
+        Err(AllocError) => {
+            *halt = Some(Halt::Fault(ReplayFault::Memory));
+            return None;
+        }
+    }
+    match read_bare_row(buses, number, &line, lanes) {
+        Ok(row) => Some(row),
+        Err(why) => {
+            *halt = Some(Halt::Fault(ReplayFault::Row(number, why)));
+            None
+        }
+    }
+}
+
+/// The row of a capture that a row of the dump is on this line, as it is judged; or it is noted why it is none. Most rows are
+/// rows of a capture, so no room is kept for a fault.
 fn read_due(
     alloc: Global,
     buses: &Buses<'_>,
     number: u64,
     due: &DueRow<'_>,
     lanes: &mut [u8; MAX_LANES],
-) -> Result<Row, Halt>
-    ensures value { IfOk result (λ row. SpellsRow (link_buses buses.now) number (due_line due.now) (seen_row row lanes.new)) }
-    ensures link { IfOk result (λ row.
+    halt: &mut Option<Halt>,
+) -> Option<Row>
+    ensures value { IfSome result (λ row. SpellsRow (link_buses buses.now) number (due_line due.now) (seen_row row lanes.new)) }
+    ensures link { IfSome result (λ row.
         IsLinkOfRow row.is_reset buses.now.masters.now buses.now.ports.now row.link row.bus) }
-    ensures halt { IfErr result (IsNoDue (link_buses buses.now) number (due_line due.now)) }
+    ensures halt { result ≡ None → IfSome halt.new (IsNoDue (link_buses buses.now) number (due_line due.now)) }
+    ensures noted { result ≡ None → is_some halt.new ≡ true }
 {
-    if let Some(row) = row_of_due(buses, number, due, lanes) {
-        return Ok(row);
-    }
-    let mut line = Vec::new(alloc);
-    match push_due(&mut line, due) {
-        Ok(()) => {}
-        Err(AllocError) => return Err(Halt::Fault(ReplayFault::Memory)),
-    }
-    match read_bare_row(buses, number, &line, lanes) {
-        Ok(row) => Ok(row),
-        Err(why) => Err(Halt::Fault(ReplayFault::Row(number, why))),
-    }
+    let mut row = match row_of_due(buses, number, due, lanes) {
+        Some(row) => row,
+        None => read_line(alloc, buses, number, due, lanes, halt)?,
+    };
+    number_row(buses.numbers, &mut row);
+    Some(row)
 }
 
 /// Takes a row that is due, on this line; answers its time, or notes why it does not. Most rows tell nothing and refuse nothing,
@@ -112,13 +143,7 @@ fn take_line(
     ensures layout { judge.new.tally.watch.layout ≡ judge.old.tally.watch.layout }
     ensures covered { is_covered judge.new ≡ is_covered judge.old }
 {
-    let row = match read_due(alloc, buses, number, due, lanes) {
-        Ok(row) => row,
-        Err(why) => {
-            *halt = Some(why);
-            return None;
-        }
-    };
+    let row = read_due(alloc, buses, number, due, lanes, halt)?;
     match judge.take_quietly(alloc, &row, lanes.as_slice()) {
         Ok(true) => return Some(row.time),
         Ok(false) => {}

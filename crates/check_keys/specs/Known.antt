@@ -6,7 +6,7 @@ use Rattle.std.specs.Str.{bytes_eq}
 use Rattle.toml.specs.Data.{Members, no_members, member}
 use Rattle.check_keys.specs.Nearest.{nearest}
 use Rattle.check_keys.specs.declared.known.TableKind.{TableKind}
-use Rattle.check_keys.specs.declared.known.TableKind.TheVariants.{Top, Names, Port, Master, Sizes, Orders, Wires}
+use Rattle.check_keys.specs.declared.known.TableKind.TheVariants.{Top, Names, Port, Master, Sizes, Orders, Sources, Wires}
 
 -- the name is one of these
 abbrev pub is_among : List (List ℕ) → List ℕ → Bool
@@ -29,7 +29,7 @@ known_keys Names = wire_keys
 known_keys Port =
     codes "name" ∷ codes "kind" ∷ codes "base" ∷ codes "length" ∷ codes "ranges" ∷ codes "reset" ∷
     codes "image" ∷ codes "unknown" ∷ codes "sizes" ∷ codes "order" ∷ codes "bus" ∷ codes "mirror" ∷
-    codes "volatile" ∷ codes "on_reset" ∷ codes "signals" ∷ codes "wires" ∷ codes "bits" ∷ codes "clock" ∷
+    codes "volatile" ∷ codes "on_reset" ∷ codes "hosts" ∷ codes "sources" ∷ codes "signals" ∷ codes "wires" ∷ codes "bits" ∷ codes "clock" ∷
     codes "link_reset" ∷ codes "reset_active" ∷ codes "edge" ∷ codes "extra" ∷ []
 known_keys Master =
     codes "name" ∷ codes "sources" ∷ codes "first" ∷ codes "stride" ∷ codes "bus" ∷ codes "reach" ∷ codes "signals" ∷
@@ -39,6 +39,7 @@ known_keys Sizes =
     codes "get" ∷ codes "putfull" ∷ codes "putpart" ∷ codes "arithmetic" ∷ codes "logical" ∷ codes "intent" ∷
     codes "extra" ∷ []
 known_keys Orders = codes "masters" ∷ codes "ports" ∷ codes "extra" ∷ []
+known_keys Sources = codes "master" ∷ codes "first" ∷ codes "stride" ∷ codes "extra" ∷ []
 known_keys Wires = wire_keys
 
 -- the first key of a table that one of this kind may not have; keys stand in the order of bytes

@@ -32,6 +32,7 @@ pub enum Key {
     Mirror,
     Volatile,
     OnReset,
+    Hosts,
     Master,
     Sources,
     First,
@@ -64,6 +65,7 @@ impl Key {
             Key::Mirror => "mirror",
             Key::Volatile => "volatile",
             Key::OnReset => "on_reset",
+            Key::Hosts => "hosts",
             Key::Master => "master",
             Key::Sources => "sources",
             Key::First => "first",
@@ -109,6 +111,9 @@ pub enum SystemFault {
     Map(AddressMapFault),
     #[error("system: {0}")]
     Sources(SourceOwnerFault),
+    /// The sources at a port's link, of the masters that the port lists.
+    #[error("system: port {0}: {1}")]
+    PortSources(usize, SourceOwnerFault),
     #[error("memory refused")]
     Memory,
 }

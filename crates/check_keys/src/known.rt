@@ -21,6 +21,8 @@ pub enum TableKind {
     Sizes,
     /// What a port's `order` has, if it is a table.
     Orders,
+    /// What a table of a port's `sources` has.
+    Sources,
     /// What a link's `wires` has.
     Wires,
 }
@@ -132,6 +134,8 @@ impl TableKind {
                 b"mirror",
                 b"volatile",
                 b"on_reset",
+                b"hosts",
+                b"sources",
                 b"signals",
                 b"wires",
                 b"bits",
@@ -168,6 +172,7 @@ impl TableKind {
                 b"extra",
             ],
             TableKind::Orders => &[b"masters", b"ports", b"extra"],
+            TableKind::Sources => &[b"master", b"first", b"stride", b"extra"],
             TableKind::Names | TableKind::Wires => wire_keys(),
         }
     }

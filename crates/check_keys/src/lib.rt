@@ -25,6 +25,6 @@ pub use name::{MAX_NAME, name_at};
 pub use near::nearest;
 pub use value::{
     IntegerOrText, LAST_INTEGER, array_of, bytes_of, find_member, find_value, flag_at, in_range,
-    integer_or_text_of, number_at, number_if_any, number_in_value, pair_in_value, table_of,
-    tables_of, text_if_any, text_of, value_at,
+    integer_of, integer_or_text_of, number_at, number_if_any, number_in_value, pair_in_value,
+    table_of, tables_of, text_if_any, text_of, value_at,
 };

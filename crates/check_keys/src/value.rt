@@ -43,7 +43,7 @@ pub fn value_at(table: &Table, key: Key) -> Result<&Value, SystemFault>
 }
 
 /// The integer that a value is.
-fn integer_of(value: &Value, key: Key) -> Result<i64, SystemFault>
+pub fn integer_of(value: &Value, key: Key) -> Result<i64, SystemFault>
     ensures { Gives (λ n. n) result (integer_of_value key (view value.now)) }
 {
     match value.as_integer() {

@@ -43,12 +43,12 @@ module _ (asked : Asked) (given : GivenParts) (system : Description) (judge : Ju
   -- something that holds of the rows by each plan of the judge
   of_rows : (Holds : LinkBuses → SystemPlan → RowsLeft → Type 0)
       → ((plan : SystemPlan) → Judges plan [] judge → IfSome rows (λ left. Holds buses plan left))
-      → IfSome given.capture (OfTheRows asked given.file given.images system (λ plan left. Holds (buses_of system) plan left))
+      → IfSome given.capture (OfTheRows asked given.file given.images system (λ plan left. Holds (buses_of asked.terms.links system) plan left))
   of_rows Holds holds = go given.capture opened
     where
       of_text : (text : List ℕ) (known : Option RowsLeft) → IsOpened links known text
           → ((plan : SystemPlan) → Judges plan [] judge → IfSome known (λ left. Holds buses plan left))
-          → OfTheRows asked given.file given.images system (λ plan left. Holds (buses_of system) plan left) text
+          → OfTheRows asked given.file given.images system (λ plan left. Holds (buses_of asked.terms.links system) plan left) text
       of_text text None is holds = absurd is
       of_text text (Some left) is holds = record {
         links = links;
@@ -59,7 +59,7 @@ module _ (asked : Asked) (given : GivenParts) (system : Description) (judge : Ju
       }
 
       go : (capture : Option (List ℕ)) → IfSome capture (IsOpened links rows)
-          → IfSome capture (OfTheRows asked given.file given.images system (λ plan left. Holds (buses_of system) plan left))
+          → IfSome capture (OfTheRows asked given.file given.images system (λ plan left. Holds (buses_of asked.terms.links system) plan left))
       go None is = tt
       go (Some text) is = of_text text rows is holds
 
@@ -69,7 +69,7 @@ module _ (asked : Asked) (given : GivenParts) (system : Description) (judge : Ju
       → IsAnswered asked given system old new answer
   is_answered old new answer replayed =
       let W : Bool → Bool → Type 0 = λ a t. IfSome given.capture (OfTheRows asked given.file given.images system
-      (λ plan left. IsReplayed a t plan (buses_of system) left old new answer)) in
+      (λ plan left. IsReplayed a t plan (buses_of asked.terms.links system) left old new answer)) in
       let is : W (is_asked judge) (is_traced judge) =
       of_rows (λ b plan left. IsReplayed (is_asked judge) (is_traced judge) plan b left old new answer) replayed in
       subst (λ a. W a asked.trace) of_it.complete (subst (λ t. W (is_asked judge) t) of_it.trace is)

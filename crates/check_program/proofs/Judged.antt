@@ -9,7 +9,10 @@ use Rattle.check_review.specs.declared.judge.Judge.{Judge}
 use Rattle.check_review.specs.declared.tally.Tally.{Tally}
 use Rattle.check_rows.specs.Row.{SeenRow}
 use Rattle.check_records.specs.Text.{TextPlace, text_start}
+use Rattle.check_rows.specs.PortNumbers.{PortNumbers}
+use Rattle.check_start.specs.Numbers.{numbers_of}
 use Rattle.check_start.specs.Start.{ByThePlan, master_buses, port_buses}
+use Rattle.check_watch.specs.declared.links.Links.{Links}
 use Rattle.check_text.specs.Buses.{LinkBuses}
 use Rattle.check_text.specs.Capture.{IsCovered, IsFault, IsVerdict, IsWritten, OfCapture, TellsCovered}
 use Rattle.check_text.specs.Rows.{OfJudged}
@@ -35,20 +38,24 @@ pub record IsJudgeOf (asked : Asked) (given : GivenParts) (system : Description)
   pub trace : is_traced judge ≡ asked.trace
   pub complete : is_asked judge ≡ asked.complete
   pub coverage : is_covered judge ≡ asked.coverage
-  pub have : buses ≡ buses_of system
+  pub have : buses ≡ buses_of asked.terms.links system
 
--- the buses of the links are those of the system
-pub buses_are : (masters ports : List Bus) (resets : Bool) (system : Description)
-    → masters ≡ master_buses system.masters → ports ≡ port_buses system.ports → resets ≡ system.resets
-    → ◌≡◌ {A = LinkBuses} (record { masters = masters; ports = ports; resets = resets }) (buses_of system)
-buses_are masters ports resets system of_masters of_ports of_resets =
-    ap (λ (m : List Bus). with_buses m ports resets) of_masters
-    ∙ ap (λ (p : List Bus). with_buses (master_buses system.masters) p resets) of_ports
-    ∙ ap (λ (r : Bool). with_buses (master_buses system.masters) (port_buses system.ports) r) of_resets
+-- the buses and the numbers of the links are those of the system
+pub buses_are : (links : Links) (masters ports : List Bus) (resets : Bool) (numbers : List (Option PortNumbers))
+    (system : Description) → masters ≡ master_buses system.masters → ports ≡ port_buses system.ports → resets ≡ system.resets
+    → numbers ≡ numbers_of links system
+    → ◌≡◌ {A = LinkBuses}
+    (record { masters = masters; ports = ports; resets = resets; numbers = numbers }) (buses_of links system)
+buses_are links masters ports resets numbers system of_masters of_ports of_resets of_numbers =
+    ap (λ (m : List Bus). with_buses m ports resets numbers) of_masters
+    ∙ ap (λ (p : List Bus). with_buses (master_buses system.masters) p resets numbers) of_ports
+    ∙ ap (λ (r : Bool). with_buses (master_buses system.masters) (port_buses system.ports) r numbers) of_resets
+    ∙ ap (λ (n : List (Option PortNumbers)). with_buses (master_buses system.masters) (port_buses system.ports) system.resets n)
+    of_numbers
 
 -- what a judge is that was prepared, with the buses of the system
 pub of_prepared : (asked : Asked) (given : GivenParts) (prepared : Prepared) (buses : LinkBuses)
-    (is : IsPrepared asked given.parts given.images prepared) → buses ≡ buses_of is.system
+    (is : IsPrepared asked given.parts given.images prepared) → buses ≡ buses_of asked.terms.links is.system
     → IsJudgeOf asked given is.system prepared.judge buses
 of_prepared asked given prepared buses is have = record {
   judges = is.judges;
@@ -61,7 +68,7 @@ of_prepared asked given prepared buses is have = record {
 pub by_the_plan : (asked : Asked) (given : GivenParts) (system : Description) (judge : Judge) (buses : LinkBuses)
     (Holds : LinkBuses → SystemPlan → Type 0) → IsJudgeOf asked given system judge buses
     → ((plan : SystemPlan) → Judges plan [] judge → Holds buses plan)
-    → ByThePlan asked.terms system given.images (Holds (buses_of system))
+    → ByThePlan asked.terms system given.images (Holds (buses_of asked.terms.links system))
 by_the_plan asked given system judge buses Holds of_it holds = record {
   some = of_it.judges.some;
   each = λ plan is. subst (λ b. Holds b plan) of_it.have (holds plan (of_it.judges.each plan is));
@@ -75,7 +82,7 @@ by_the_traced_plan : (asked : Asked) (given : GivenParts) (system : Description)
     → IsWrittenByJudge asked given system old new answer
 by_the_traced_plan asked given system judge buses old new answer of_it tells =
     let W : Bool → Bool → Type 0 = λ a t. ByThePlan asked.terms system given.images (λ plan. IfSome given.capture
-    (λ text. IsWritten a t plan (buses_of system) (text_start text) old new answer)) in
+    (λ text. IsWritten a t plan (buses_of asked.terms.links system) (text_start text) old new answer)) in
     let is : W (is_asked judge) (is_traced judge) =
     by_the_plan asked given system judge buses (λ b plan. IfSome given.capture
     (λ text. IsWritten (is_asked judge) (is_traced judge) plan b (text_start text) old new answer)) of_it tells in
@@ -92,7 +99,7 @@ pub has_verdict : (asked : Asked) (given : GivenParts) (system : Description) (j
 has_verdict asked given system judge buses old told verdict of_it made found tells = record {
   made = made;
   is = subst (λ a. ByThePlan asked.terms system given.images
-      (λ plan. IfSome given.capture (λ text. IsVerdict a plan (buses_of system) (text_start text) verdict))) of_it.complete
+      (λ plan. IfSome given.capture (λ text. IsVerdict a plan (buses_of asked.terms.links system) (text_start text) verdict))) of_it.complete
       (by_the_plan asked given system judge buses
       (λ b plan. IfSome given.capture (λ text. IsVerdict (is_asked judge) plan b (text_start text) verdict)) of_it found);
   tells = by_the_traced_plan asked given system judge buses old told (Ok verdict) of_it tells;

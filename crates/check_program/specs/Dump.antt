@@ -78,7 +78,7 @@ abbrev pub IsAnswered : Asked → GivenParts → Description → Option (List �
     → Type 0
 IsAnswered asked given system old new answer =
     IfSome given.capture (OfTheRows asked given.file given.images system
-    (λ plan left. IsReplayed asked.complete asked.trace plan (buses_of system) left old new answer))
+    (λ plan left. IsReplayed asked.complete asked.trace plan (buses_of asked.terms.links system) left old new answer))
 
 -- ---- what is promised
 
@@ -194,7 +194,7 @@ pub record IsDumpCounted (asked : Asked) (given : GivenParts) (old new : List �
   pub verdict : Verdict
   pub answered : lawful ≡ is_lawful asked.complete verdict
   pub covered : IfSome given.capture (OfTheRows asked given.file given.images system (λ plan left.
-      OfReplayed plan (buses_of system) left verdict (λ crossed course. AppendsCoverage asked.coverage plan crossed course old new)))
+      OfReplayed plan (buses_of asked.terms.links system) left verdict (λ crossed course. AppendsCoverage asked.coverage plan crossed course old new)))
 
 abbrev pub IsOutcomeCounted : Asked → GivenParts → List ℕ → List ℕ → Bool → Type 0
 IsOutcomeCounted asked given old new lawful =

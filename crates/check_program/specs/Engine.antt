@@ -13,7 +13,10 @@ use Rattle.check_lines.specs.Verdict.{empty_line, incomplete_line, lawful_line, 
 use Rattle.check_lines.specs.declared.verdict.VerdictCounts.{VerdictCounts}
 use Rattle.check_records.specs.Text.{text_start}
 use Rattle.check_start.specs.Slaves.{shared_slaves}
+use Rattle.check_rows.specs.PortNumbers.{PortNumbers, numbers_in}
+use Rattle.check_start.specs.Numbers.{numbers_of}
 use Rattle.check_start.specs.declared.start.Terms.{Terms}
+use Rattle.check_watch.specs.declared.links.Links.{Links}
 use Rattle.check_start.specs.Start.{ByThePlan, master_buses, system_names, port_buses}
 use Rattle.check_text.specs.Buses.{LinkBuses}
 use Rattle.check_text.specs.Capture.{IsFault, IsVerdict, IsWritten, TellsCovered}
@@ -35,10 +38,14 @@ pub record GivenParts : Type 0 where
   pub images : List (List ℕ)
   pub capture : Option (List ℕ)
 
--- the buses of the system's links
-abbrev pub buses_of : Description → LinkBuses
-buses_of system =
-    record { masters = master_buses system.masters; ports = port_buses system.ports; resets = system.resets }
+-- the buses of the system's links, and the numbers of sources at ports' links, if these links are watched
+abbrev pub buses_of : Links → Description → LinkBuses
+buses_of links system = record {
+  masters = master_buses system.masters;
+  ports = port_buses system.ports;
+  resets = system.resets;
+  numbers = numbers_of links system;
+}
 
 -- by each plan of the system, and there is one: this holds of the text of the capture
 abbrev pub OfTheText : Asked → GivenParts → Description → (SystemPlan → List ℕ → Type 0) → Type 0
@@ -49,19 +56,19 @@ OfTheText asked given system Holds =
 abbrev pub IsVerdictOf : Asked → GivenParts → Description → Verdict → Type 0
 IsVerdictOf asked given system verdict =
     OfTheText asked given system
-    (λ plan text. IsVerdict asked.complete plan (buses_of system) (text_start text) verdict)
+    (λ plan text. IsVerdict asked.complete plan (buses_of asked.terms.links system) (text_start text) verdict)
 
 -- the fault is one of the capture
 abbrev pub IsFaultOf : Asked → GivenParts → Description → CaptureFault → Type 0
 IsFaultOf asked given system fault =
-    OfTheText asked given system (λ plan text. IsFault plan (buses_of system) (text_start text) fault)
+    OfTheText asked given system (λ plan text. IsFault plan (buses_of asked.terms.links system) (text_start text) fault)
 
 -- what is written while the capture is judged, before this answer
 abbrev pub IsWrittenByJudge : Asked → GivenParts → Description → Option (List ℕ) → Option (List ℕ) → Result Verdict CaptureFault
     → Type 0
 IsWrittenByJudge asked given system old new answer =
     OfTheText asked given system
-    (λ plan text. IsWritten asked.complete asked.trace plan (buses_of system) (text_start text) old new answer)
+    (λ plan text. IsWritten asked.complete asked.trace plan (buses_of asked.terms.links system) (text_start text) old new answer)
 
 -- the fault is the first of the parts that make no system, or the first image of the system that is too long
 abbrev pub IsSystemFault : Asked → GivenParts → SystemFault → Type 0
@@ -159,15 +166,16 @@ pub record IsCounted (asked : Asked) (given : GivenParts) (old new : List ℕ) (
   pub is : IsVerdictOf asked given system verdict
   pub answered : lawful ≡ is_lawful asked.complete verdict
   pub covered : OfTheText asked given system
-      (λ plan text. TellsCovered asked.coverage plan (buses_of system) (text_start text) old new verdict)
+      (λ plan text. TellsCovered asked.coverage plan (buses_of asked.terms.links system) (text_start text) old new verdict)
 
 -- ---- for the proofs
 
-abbrev pub with_buses : List Bus → List Bus → Bool → LinkBuses
-with_buses masters ports resets = record { masters = masters; ports = ports; resets = resets }
+abbrev pub with_buses : List Bus → List Bus → Bool → List (Option PortNumbers) → LinkBuses
+with_buses masters ports resets numbers =
+    record { masters = masters; ports = ports; resets = resets; numbers = numbers }
 
--- of the system that the parts make: a judge that has seen no beat and tells what is asked for, and the names and the
--- buses of the links
+-- of the system that the parts make: a judge that has seen no beat and tells what is asked for, and the names, the buses and the
+-- numbers of the links
 pub record IsPrepared (asked : Asked) (parts : Parts) (images : List (List ℕ)) (prepared : Prepared) : Type 0 where
   pub system : Description
   pub made : Makes parts system
@@ -180,6 +188,7 @@ pub record IsPrepared (asked : Asked) (parts : Parts) (images : List (List ℕ))
   pub masters : prepared.master_buses.items ≡ master_buses system.masters
   pub ports : prepared.port_buses.items ≡ port_buses system.ports
   pub resets : prepared.resets ≡ system.resets
+  pub numbers : numbers_in prepared.numbers.items ≡ numbers_of asked.terms.links system
 
 -- why there is none: the first fault of the parts or of the images, or want of memory
 abbrev pub IsUnprepared : Terms → Parts → List (List ℕ) → CheckFault → Type 0

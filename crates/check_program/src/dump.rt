@@ -3,6 +3,7 @@ ghost use Rattle.std.specs.Prelude.{◌≡◌, ◌≤◌, ℕ, List, Option, Non
 ghost use Rattle.check_description.specs.File.{Parts as PartsView};
 ghost use Rattle.check_review.specs.Order.{are_masters_watched, are_ports_watched};
 ghost use Rattle.check_signals.specs.Names.{link_view, names_of_file, names_view};
+ghost use Rattle.check_rows.specs.PortNumbers.{numbers_in};
 ghost use Rattle.check_text.specs.Buses.{HasBuses};
 ghost use Rattle.check_waves.specs.Links.{wave_links_view};
 ghost use Rattle.check_program.specs.declared.asked.Asked.{Asked as AskedFor};
@@ -120,7 +121,8 @@ fn check_linked<D: Read + Drop, W: Write>(
     requires masters { length prepared.old.master_buses.items ≤ MAX_JUDGED_MASTERS }
     requires ports { length prepared.old.port_buses.items ≤ MAX_JUDGED_PORTS }
     requires buses { HasBuses prepared.old.judge.tally.watch.layout
-        (with_buses prepared.old.master_buses.items prepared.old.port_buses.items prepared.old.resets) }
+        (with_buses prepared.old.master_buses.items prepared.old.port_buses.items prepared.old.resets
+        (numbers_in prepared.old.numbers.items)) }
     ensures same_writer { writer.new.writer.ghost_name ≡ writer.old.writer.ghost_name }
     ensures checked { (asked : AskedFor) (file : List ℕ) (parts : PartsView) (images : List (List ℕ))
         (known : Option (List ℕ)) (is : IsPrepared asked parts images prepared.old)
@@ -138,6 +140,7 @@ fn check_linked<D: Read + Drop, W: Write>(
         masters: &prepared.master_buses,
         ports: &prepared.port_buses,
         resets: prepared.resets,
+        numbers: &prepared.numbers,
     };
     let verdict = judge_dump(alloc, rows, writer, &mut prepared.judge, &buses)?;
     prepared.judge.append_coverage(covered)?;
@@ -158,7 +161,8 @@ pub(crate) fn check_dump<D: Read + Drop, W: Write>(
     requires masters { length prepared.old.master_buses.items ≤ MAX_JUDGED_MASTERS }
     requires ports { length prepared.old.port_buses.items ≤ MAX_JUDGED_PORTS }
     requires buses { HasBuses prepared.old.judge.tally.watch.layout
-        (with_buses prepared.old.master_buses.items prepared.old.port_buses.items prepared.old.resets) }
+        (with_buses prepared.old.master_buses.items prepared.old.port_buses.items prepared.old.resets
+        (numbers_in prepared.old.numbers.items)) }
     ensures same_writer { writer.new.writer.ghost_name ≡ writer.old.writer.ghost_name }
     ensures checked { (asked : AskedFor) (parts : PartsView) (images : List (List ℕ)) (known : Option (List ℕ))
         → asked.terms.links ≡ links → IsPrepared asked parts images prepared.old → IsText known (D.remaining dump)

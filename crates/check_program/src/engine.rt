@@ -11,6 +11,7 @@ ghost use Rattle.check_start.specs.declared.start.Terms.{Terms as IsTerms};
 ghost use Rattle.check_coverage.specs.View.{Covers};
 ghost use Rattle.check_review.specs.View.{Judges, is_asked, is_covered, is_traced};
 ghost use Rattle.check_lines.specs.Verdict.{empty_line, lawful_line};
+ghost use Rattle.check_rows.specs.PortNumbers.{numbers_in};
 ghost use Rattle.check_text.specs.Buses.{HasBuses};
 ghost use Rattle.check_program.specs.declared.asked.Asked.{Asked as AskedFor};
 ghost use Rattle.check_program.specs.Dump.{IsOutcome, IsOutcomeCounted, IsText};
@@ -27,7 +28,7 @@ use check_coverage::Coverage;
 use check_description::{Description, Parts, describe};
 use check_lines::{Names, VerdictCounts, push_empty, push_incomplete, push_lawful, push_unlawful};
 use check_review::Judge;
-use check_rows::Buses;
+use check_rows::{Buses, PortNumbers};
 use check_sides::{Links, Watch};
 use check_start::{Loads, begin, pending_of};
 use check_text::{Verdict, judge_capture};
@@ -140,7 +141,7 @@ fn judge_of(
 }
 
 /// What a capture is judged by: a judge that has seen no beat, whether it is asked which requests are left, the names and the
-/// buses of the links of its system, and whether there may be rows of resets.
+/// buses of the links of its system, whether there may be rows of resets, and the numbers of sources at ports' links.
 #[derive(Drop)]
 pub(crate) struct Prepared {
     pub(crate) judge: Judge,
@@ -149,6 +150,7 @@ pub(crate) struct Prepared {
     pub(crate) master_buses: Vec<Bus>,
     pub(crate) port_buses: Vec<Bus>,
     pub(crate) resets: bool,
+    pub(crate) numbers: Vec<Option<PortNumbers>>,
 }
 
 /// What a capture is judged by, of a crossbar that is the system of these parts.
@@ -163,7 +165,8 @@ fn prepare(
     ensures masters { IfOk result (λ prepared. length prepared.master_buses.items ≤ MAX_JUDGED_MASTERS) }
     ensures ports { IfOk result (λ prepared. length prepared.port_buses.items ≤ MAX_JUDGED_PORTS) }
     ensures buses { IfOk result (λ prepared. HasBuses prepared.judge.tally.watch.layout
-        (with_buses prepared.master_buses.items prepared.port_buses.items prepared.resets)) }
+        (with_buses prepared.master_buses.items prepared.port_buses.items prepared.resets
+        (numbers_in prepared.numbers.items))) }
     ensures fault { IfErr result
         (IsUnprepared asked.terms (parts_view parts) (map (λ image. image.items) images.now)) }
 {
@@ -178,6 +181,7 @@ fn prepare(
         master_buses: begun.master_buses,
         port_buses: begun.port_buses,
         resets: begun.resets,
+        numbers: begun.numbers,
     })
 }
 
@@ -212,7 +216,8 @@ fn check_prepared<C: Read + Drop, W: Write>(
     requires masters { length prepared.old.master_buses.items ≤ MAX_JUDGED_MASTERS }
     requires ports { length prepared.old.port_buses.items ≤ MAX_JUDGED_PORTS }
     requires buses { HasBuses prepared.old.judge.tally.watch.layout
-        (with_buses prepared.old.master_buses.items prepared.old.port_buses.items prepared.old.resets) }
+        (with_buses prepared.old.master_buses.items prepared.old.port_buses.items prepared.old.resets
+        (numbers_in prepared.old.numbers.items)) }
     ensures same_writer { writer.new.writer.ghost_name ≡ writer.old.writer.ghost_name }
     ensures checked { (asked : AskedFor) (file : List ℕ) (parts : PartsView) (images : List (List ℕ))
         (known : Option (List ℕ)) → IsPrepared asked parts images prepared.old → IsText known (C.remaining capture)
@@ -227,6 +232,7 @@ fn check_prepared<C: Read + Drop, W: Write>(
         masters: &prepared.master_buses,
         ports: &prepared.port_buses,
         resets: prepared.resets,
+        numbers: &prepared.numbers,
     };
     let verdict = judge_capture(alloc, capture, writer, &mut prepared.judge, &buses)?;
     prepared.judge.append_coverage(covered)?;
@@ -317,7 +323,8 @@ fn check_read<C: Read + Drop, W: Write>(
     requires masters { length prepared.old.master_buses.items ≤ MAX_JUDGED_MASTERS }
     requires ports { length prepared.old.port_buses.items ≤ MAX_JUDGED_PORTS }
     requires buses { HasBuses prepared.old.judge.tally.watch.layout
-        (with_buses prepared.old.master_buses.items prepared.old.port_buses.items prepared.old.resets) }
+        (with_buses prepared.old.master_buses.items prepared.old.port_buses.items prepared.old.resets
+        (numbers_in prepared.old.numbers.items)) }
     ensures same_writer { writer.new.writer.ghost_name ≡ writer.old.writer.ghost_name }
     ensures checked { (asked : AskedFor) (parts : PartsView) (images : List (List ℕ)) → asked.terms.links ≡ links
         → IsPrepared asked parts images prepared.old → IsOutcome asked (record {

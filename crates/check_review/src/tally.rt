@@ -411,9 +411,28 @@ impl Tally {
         Ok(true)
     }
 
+    /// Takes the beat of a row after the rows before it, if it is no reset, nothing is told of it, and it is lawful or its link is
+    /// not watched: whether it did. Nothing changes if it did not. It costs less than [`Tally::judge_row`], which has room for a
+    /// fault.
+    fn pass(&mut self, alloc: Global, row: &Row, lanes: &[u8]) -> Result<bool, AllocError>
+        requires { row.now.is_reset ≡ false → bus_of self.old.watch.layout row.now.link ≤ length lanes.now }
+        ensures same { SameAsked self.old self.new }
+        ensures keeps { (system : SystemPlan) (before : List SeenRow) (course : Stretches system before) (text : List ℕ)
+            → KeptIn system before course self.old → IfOk result (λ passed. passed ≡ true
+            → KeepsOn system before course (row_with row.now lanes.now ∷ before) self.old.trace self.new text text) }
+        ensures refused { IfOk result (λ passed. passed ≡ false → self.new ≡ self.old) }
+        ensures memory { (system : SystemPlan) (before : List SeenRow) (course : Stretches system before)
+            → KeptIn system before course self.old
+            → IfErr result (λ _. MayWantAfter (wants self.old) course.now (row_with row.now lanes.now)) }
+    {
+        if self.trace || row.is_reset {
+            return Ok(false);
+        }
+        self.pass_row(alloc, row, lanes)
+    }
+
     /// Takes the beats of the rows of a moment after those before them, if nothing is told of them, they are lawful,
-    /// and there is but one, and no reset: whether it did. Nothing changes if it did not. It costs less than
-    /// [`Tally::judge_rows`], which has room for a fault.
+    /// and there is but one, and no reset: whether it did. Nothing changes if it did not.
     pub fn pass_rows(&mut self, alloc: Global, moment: &Moment) -> Result<bool, AllocError>
         requires { All (HasLanes self.old.watch.layout) moment.now.rows }
         ensures same { SameAsked self.old self.new }
@@ -425,14 +444,11 @@ impl Tally {
             → KeptIn system before course self.old
             → IfErr result (λ _. MayWantAmong (wants self.old) system moment.now.rows before) }
     {
-        if self.trace || moment.len() != 1 {
+        if moment.len() != 1 {
             return Ok(false);
         }
         let (row, lanes) = moment.get(0);
-        if row.is_reset {
-            return Ok(false);
-        }
-        self.pass_row(alloc, row, lanes)
+        self.pass(alloc, row, lanes)
     }
 
     /// Judges the rows of a moment after those before them, in the order in which they cross, up to the first that is not
@@ -461,6 +477,12 @@ impl Tally {
     {
         for place in 0..moment.len() {
             let (row, lanes) = moment.get(place);
+            match self.pass(alloc, row, lanes) {
+                Ok(true) => continue,
+                // it is judged again for its fault, or for what is told of it
+                Ok(false) => {}
+                Err(AllocError) => return Err(Refusal::Memory),
+            }
             if let Err(refusal) = self.judge_row(alloc, row, lanes, text) {
                 return Err(refusal);
             }

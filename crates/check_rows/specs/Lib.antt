@@ -5,5 +5,6 @@ pub mod Buses
 pub mod Column
 pub mod Columns
 pub mod Row
+pub mod PortNumbers
 pub mod Moment
 pub mod Front

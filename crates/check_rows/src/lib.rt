@@ -8,7 +8,8 @@
 //! rows of one time with their lanes, and has them in the order in which they cross: a reset first. It refuses a row whose
 //! time falls, a second beat of one channel of one link, and a second reset (`specs/Moment.antt`).
 //!
-//! The columns and their names stand once (`specs/Column.antt`).
+//! The columns and their names stand once (`specs/Column.antt`). At a port's link sources may have numbers of the link's own:
+//! [`number_row`] gives a row the system's (`specs/PortNumbers.antt`).
 //!
 //! Read on in `docs/CAPTURE.md`, which has the format with examples.
 #![tactic(auto)]
@@ -22,6 +23,7 @@ mod front;
 mod lanes;
 mod moment;
 mod number;
+mod port_numbers;
 mod quick;
 mod row;
 
@@ -29,4 +31,5 @@ pub use buses::Buses;
 pub use column::{COLUMNS, column_name};
 pub use fault::RowFault;
 pub use moment::Moment;
+pub use port_numbers::{PortNumbers, SourcePlace, number_row};
 pub use row::{Row, read_bare_row, read_row};

@@ -26,6 +26,7 @@ use Rattle.check_scripts.specs.Instance.{ArePortsOf, IsPlainPort, IsPortOf}
 use Rattle.check_keys.specs.Name.{name_at}
 use Rattle.check_description.specs.Contents.{contents_at, image_name_at, reset_at, reset_of}
 use Rattle.check_description.specs.Kind.{kind_at, port_kind_of as new_kind_of}
+use Rattle.check_description.specs.Listed.{listed_at}
 use Rattle.check_description.specs.OnReset.{on_reset_at, said_on_reset}
 use Rattle.check_description.specs.Order.{no_orders, orders_at}
 use Rattle.check_description.specs.Port.{Port, port_of}
@@ -274,7 +275,7 @@ pub record ReadsPort (members : Members) (store : Store) : Type 0 where
 
 pub port_same : (members : Members) (store : Store) → IsPlainPort members → (IsEmpty (range_of store) → ⊥)
     → old_port_of members ≡ Ok store → ReadsPort members store
-unfolding old_port_of port_of name_at ranges_at plain_ranges contents_at image_name_at flag_at sizes_at orders_at bus_in_table mirror_at volatile_at on_reset_at said_on_reset text_if_any number_if_any
+unfolding old_port_of port_of name_at ranges_at plain_ranges contents_at image_name_at flag_at sizes_at orders_at bus_in_table mirror_at volatile_at on_reset_at said_on_reset listed_at text_if_any number_if_any
 port_same members store plain some is =
     let read = read_keys (old_kind_at members) (old_number_at OldBase 0 last_base members)
     (old_number_at OldLength 0 MAX_LENGTH members) (λ count. old_reset_at count members) store is in
@@ -308,6 +309,7 @@ port_same members store plain some is =
         mirror = false;
         volatile = [];
         on_reset = Never;
+        listed = None;
       };
       reads = rw (
         plain.name,
@@ -324,6 +326,8 @@ port_same members store plain some is =
         plain.mirror,
         plain.volatile,
         plain.on_reset,
+        plain.hosts,
+        plain.sources,
       ) refl;
       is = record {
         plain = record {
@@ -339,6 +343,7 @@ port_same members store plain some is =
         orders = refl;
         bus = refl;
         on_reset = refl;
+        listed = refl;
       };
     }
 

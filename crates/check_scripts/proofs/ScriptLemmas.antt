@@ -1,6 +1,6 @@
 -- The tables of a script, and its masters, read as those of a system file.
 use Rattle.std.proofs.Common.{◌≡◌, ◌∙◌, ℕ, suc, ◌<◌, ◌≤◌, nat_lt, Bool, true, false, List, [], ◌∷◌, length, map, Option, Some, None, Result, Ok, Err, ok_or, refl, sym, ap, arith}
-use Rattle.std.specs.Prelude.{if◌then◌else◌}
+use Rattle.std.specs.Prelude.{if◌then◌else◌, ◌+◌, is_some}
 use Rattle.std.specs.List.{AllByRecursion, filter_map, list_any}
 use Rattle.std.specs.Str.{is_utf8}
 use Rattle.std.proofs.lemmas.Bool.{le-ltb, ltb-false}
@@ -27,10 +27,12 @@ use Rattle.tl_script.specs.declared.fault.ScriptKey.TheVariants.{Slots as OldSlo
 use Rattle.tl_script.specs.declared.fault.ScriptFault.{ScriptFault}
 use Rattle.tl_script.specs.declared.fault.ScriptFault.TheVariants.{Missing as OldMissing, WrongType as OldWrongType, NotToml as OldNotToml, TooLong as OldTooLong}
 use Rattle.check_description.specs.File.{Parts, document_of, parts_in, parts_of}
+use Rattle.check_description.specs.Placed.{names_of_masters, paths_at, paths_from, placed_of}
 use Rattle.check_description.specs.Reach.{reach_at}
+use Rattle.check_description.specs.declared.placed.PlacedMaster.{PlacedMaster}
 use Rattle.check_description.specs.Rules.{by_address_in, rules_in}
 use Rattle.check_description.specs.declared.rules.SystemRules.{SystemRules}
-use Rattle.check_scripts.specs.Instance.{ArePortsOf, DescribesTheSame, IsAbsent, IsPlainMaster, IsPlainPort, NamesTheSame, SaysNothingNew, plain_master, strict_rules}
+use Rattle.check_scripts.specs.Instance.{ArePortsOf, DescribesTheSame, IsAbsent, IsPlainMaster, IsPlainPort, NamesTheSame, SaysNothingNew, nothing_said, plain_master, strict_rules}
 use Rattle.check_keys.specs.Key.{key_name}
 use Rattle.tl_map.specs.declared.owners.Owner.{Owner}
 use Rattle.check_description.specs.Master.{HasOwners, IsInBlocks, Master, counts_of, said_owners, first_at, has_first, master_of, master_tables, masters_of, stride_at}
@@ -279,13 +281,42 @@ rules_read : (members : Members) → IsAbsent Unaligned members → IsAbsent Dec
 unfolding rules_in flag_at number_if_any
 rules_read members aligned decode resets period = rw (aligned, decode_read members decode, resets, period) refl
 
-parts_read : (members : Members) (ports : List Port) (masters : List Master) → bus_in_table Eight members ≡ Ok Eight
+-- no port of a script lists masters
+lists_read : (names : List (Option (List ℕ))) (stores : List Store) (ports : List Port) → ArePortsOf stores ports
+    → placed_of names ports ≡ Ok (nothing_said ports)
+lists_read names [] [] are = refl
+lists_read names [] (port ∷ ports) are = absurd are
+lists_read names (store ∷ stores) [] are = absurd are
+lists_read names (store ∷ stores) (port ∷ ports) are = rw (are.0.listed, lists_read names stores ports are.1) refl
+
+none_listed : (ports : List Port)
+    → list_any is_some (nothing_said {A = Port} {B = List PlacedMaster} ports) ≡ false
+none_listed [] = refl
+none_listed (port ∷ ports) = none_listed ports
+
+-- so its masters have paths to all ports
+paths_read : (lists : List (Option (List PlacedMaster))) → list_any is_some lists ≡ false → (number : ℕ) (counts : List ℕ)
+    → paths_from lists number (map plain_master counts) ≡ Ok (nothing_said (map plain_master counts))
+unfolding paths_at
+paths_read lists none number [] = refl
+paths_read lists none number (count ∷ counts) = rw (none, paths_read lists none (number + 1) counts) refl
+
+parts_read : (members : Members) (ports : List Port) (masters : List Master) (lists : List (Option (List PlacedMaster)))
+    (paths : List (Option (List Bool))) → bus_in_table Eight members ≡ Ok Eight
     → rules_in members ≡ Ok script_rules
     → ports_of Eight false members ≡ Ok ports → masters_of Eight (names_of_ports ports) members ≡ Ok masters
-    → parts_in members ≡ Ok (record { rules = strict_rules; resets = false; ports = ports; masters = masters })
+    → placed_of (names_of_masters masters) ports ≡ Ok lists → paths_from lists 0 masters ≡ Ok paths
+    → parts_in members ≡ Ok (record {
+      rules = strict_rules;
+      resets = false;
+      ports = ports;
+      masters = masters;
+      lists = lists;
+      paths = paths;
+    })
 unfolding parts_in
-parts_read fields ports masters bus_is rules_are ports_are masters_are =
-    rw (bus_is, rules_are, ports_are, masters_are) refl
+parts_read fields ports masters lists paths bus_is rules_are ports_are masters_are lists_are paths_are =
+    rw (bus_is, rules_are, ports_are, masters_are, lists_are, paths_are) refl
 
 ports_read : (members : Members) (stores : List Store)
     (read : ReadsValue (get_member (key_name PortKey) members) stores)
@@ -329,11 +360,21 @@ no_names : (counts : List ℕ) → filter_map (λ (master : Master). master.name
 no_names [] = refl
 no_names (count ∷ counts) = no_names counts
 
+-- the parts of a script with these ports and with masters of so many sources
+abbrev script_parts : List Port → List ℕ → Parts
+script_parts ports counts = record {
+  rules = strict_rules;
+  resets = false;
+  ports = ports;
+  masters = map plain_master counts;
+  lists = nothing_said ports;
+  paths = nothing_said (map plain_master counts);
+}
+
 -- the parts of a script as those of a system file
 record ReadsScript (bytes : List ℕ) (parts : OldParts) : Type 0 where
   pub ports : List Port
-  pub read : parts_of bytes
-      ≡ Ok (record { rules = strict_rules; resets = false; ports = ports; masters = map plain_master (old_counts_of parts) })
+  pub read : parts_of bytes ≡ Ok (script_parts ports (old_counts_of parts))
   pub slaves : ArePortsOf parts.stores ports
   pub names : filter_map (λ (port : Port). port.name) ports ≡ []
   pub some : 0 < length (old_counts_of parts)
@@ -359,9 +400,12 @@ parts_of_same bytes parts plain ranges counts is =
     record {
       ports = ports.same.ports;
       read = rw document_is (parts_read members ports.same.ports (map plain_master (old_counts_of parts))
+          (nothing_said ports.same.ports) (nothing_said (map plain_master (old_counts_of parts)))
           (bus_read members (plain.bus members document_is)) (rules_read members (plain.unaligned members document_is) (plain.decode members document_is)
           (plain.resets members document_is) (plain.period members document_is))
-          (ports_read members parts.stores ports) masters);
+          (ports_read members parts.stores ports) masters
+          (lists_read (names_of_masters (map plain_master (old_counts_of parts))) parts.stores ports.same.ports ports.same.are)
+          (paths_read (nothing_said ports.same.ports) (none_listed ports.same.ports) 0 (old_counts_of parts)));
       slaves = ports.same.are;
       names = ports.same.names;
       some = omega (
@@ -382,12 +426,14 @@ names_same bytes script spelled plain =
     let some = read.some in
     let counted = spelled.makes.blocks.counted in
     record {
-      parts = record { rules = strict_rules; resets = false; ports = read.ports; masters = map plain_master (old_counts_of parts) };
+      parts = script_parts read.ports (old_counts_of parts);
       named = read.read;
       rules = refl;
       resets = refl;
       slaves = rw stores read.slaves;
       masters = ap (λ counts. map plain_master counts) (sym counts);
+      lists = refl;
+      paths = refl;
       names = rw (read.names, no_names (old_counts_of parts)) refl;
       some = omega (arith, some, counted);
     }
@@ -431,4 +477,7 @@ system_same bytes script parts system spelled plain read makes =
       masters = makes.masters ∙ masters;
       owners = one_list (counts_in script.owners) system.owners script.owners blocks.blocks
           (rw counts spelled.makes.blocks);
+      lists = makes.lists ∙ ap (λ (p : Parts). p.lists) same ∙ named.lists ∙ ap (λ ports. nothing_said ports) (sym ports);
+      paths = makes.paths ∙ ap (λ (p : Parts). p.paths) same ∙ named.paths
+          ∙ ap (λ masters. nothing_said masters) (sym (makes.masters ∙ ap (λ (p : Parts). p.masters) same));
     }

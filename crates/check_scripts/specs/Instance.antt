@@ -1,5 +1,5 @@
 -- What a script of tlx is as a system file. This project's own.
-use Rattle.std.specs.Prelude.{◌≡◌, false, ◌<◌, ℕ, List, [], ◌∷◌, length, map, None, Ok}
+use Rattle.std.specs.Prelude.{◌≡◌, false, ◌<◌, ℕ, List, [], ◌∷◌, length, map, None, Ok, Option}
 use Rattle.std.specs.List.{AllByRecursion}
 use Rattle.toml.specs.Data.{Members, get_member}
 use Rattle.tl_map.specs.Blocks.{counts_in}
@@ -10,7 +10,7 @@ use Rattle.check_beats.specs.declared.bus.Bus.TheVariants.{Eight}
 use Rattle.check_beats.specs.declared.rules.LinkRules.{LinkRules}
 use Rattle.check_keys.specs.Key.{key_name}
 use Rattle.check_keys.specs.declared.fault.Key.{Key}
-use Rattle.check_keys.specs.declared.fault.Key.TheVariants.{Bus, Unaligned, Decode, Resets, Period, Name, Ranges, Image, Unknown, Sizes, Order, Mirror, Volatile, OnReset, First, Stride, Reach}
+use Rattle.check_keys.specs.declared.fault.Key.TheVariants.{Bus, Unaligned, Decode, Resets, Period, Name, Ranges, Image, Unknown, Sizes, Order, Mirror, Volatile, OnReset, Hosts, Sources, First, Stride, Reach}
 use Rattle.check_description.specs.Laws.{IsPlainMemory, store_at_reset}
 use Rattle.check_description.specs.Order.{no_orders}
 use Rattle.check_description.specs.declared.on_reset.OnReset.TheVariants.{Never}
@@ -37,6 +37,8 @@ pub record IsPlainPort (members : Members) : Type 0 where
   pub mirror : IsAbsent Mirror members
   pub volatile : IsAbsent Volatile members
   pub on_reset : IsAbsent OnReset members
+  pub hosts : IsAbsent Hosts members
+  pub sources : IsAbsent Sources members
 
 -- a master's table has no such key
 pub record IsPlainMaster (members : Members) : Type 0 where
@@ -70,6 +72,7 @@ pub record IsPortOf (store : Store) (port : Port) : Type 0 where
   pub orders : port.orders ≡ no_orders
   pub bus : port.bus ≡ Eight
   pub on_reset : port.on_reset ≡ Never
+  pub listed : port.listed ≡ None
 
 -- a port for each store, in order
 abbrev pub ArePortsOf : List Store → List Port → Type 0
@@ -86,10 +89,14 @@ plain_master count = record { name = None; sources = count; first = None; stride
 abbrev pub strict_rules : LinkRules
 strict_rules = record { unaligned = false; by_address = false; period = 1 }
 
+-- nothing is said of each of these
+abbrev pub nothing_said : {A B : Type 0} → List A → List (Option B)
+nothing_said xs = map (λ x. None) xs
+
 -- ---- what is said of them
 
 -- the file names these parts: a port for each slave of the script, and a master for each count of sources, of which there
--- is one
+-- is one; no port lists masters, and each master has a path to each port
 pub record NamesSame (script : System) (bytes : List ℕ) : Type 0 where
   pub parts : Parts
   pub named : parts_of bytes ≡ Ok parts
@@ -97,6 +104,8 @@ pub record NamesSame (script : System) (bytes : List ℕ) : Type 0 where
   pub resets : parts.resets ≡ false
   pub slaves : ArePortsOf script.stores parts.ports
   pub masters : parts.masters ≡ map plain_master (counts_in script.owners)
+  pub lists : parts.lists ≡ nothing_said parts.ports
+  pub paths : parts.paths ≡ nothing_said parts.masters
   pub names : names_of parts ≡ []
   pub some : 0 < length script.owners
 
@@ -110,6 +119,8 @@ pub record IsSameSystem (script : System) (system : Description) : Type 0 where
   pub slaves : ArePortsOf script.stores system.ports
   pub masters : system.masters ≡ map plain_master (counts_in script.owners)
   pub owners : system.owners ≡ script.owners
+  pub lists : system.lists ≡ nothing_said system.ports
+  pub paths : system.paths ≡ nothing_said system.masters
 
 abbrev pub DescribesTheSame : Type 0
 DescribesTheSame =

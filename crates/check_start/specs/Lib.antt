@@ -1,3 +1,4 @@
 pub mod Slaves
+pub mod Numbers
 pub mod Start
 pub mod Loads

@@ -1,5 +1,5 @@
 -- How the judge of a system begins. This project's own.
-use Rattle.std.specs.Prelude.{◌≡◌, ℕ, Bool, List, map, Option, Ok}
+use Rattle.std.specs.Prelude.{◌≡◌, ℕ, List, map, Ok}
 use Rattle.check_beats.specs.declared.bus.Bus.{Bus}
 use Rattle.check_description.specs.Port.{Port}
 use Rattle.check_description.specs.Description.{Description, ranges_of}
@@ -17,10 +17,6 @@ master_buses masters = map (λ (master : Master). master.bus) masters
 abbrev pub port_buses : List Port → List Bus
 port_buses ports = map (λ (port : Port). port.bus) ports
 
--- the ports to which each master has a path
-abbrev pub master_paths : List Master → List (Option (List Bool))
-master_paths masters = map (λ (master : Master). master.reach) masters
-
 -- what a judge knows of the system ahead
 abbrev pub layout_of : Terms → Description → Layout
 layout_of terms system = record {
@@ -28,7 +24,7 @@ layout_of terms system = record {
   rules = system.rules;
   owners = system.owners;
   ports = ranges_of system.ports;
-  paths = master_paths system.masters;
+  paths = system.paths;
   master_buses = master_buses system.masters;
   port_buses = port_buses system.ports;
 }

@@ -6,11 +6,12 @@
 //! bus that the file gives it. An image that is longer than its range is refused. The only other refusal is want of memory.
 //!
 //! A [`Beginning`] has the names and buses of the links beside the judge, and whether there may be resets of the whole
-//! system. Its [`Loads`] make what a reset loads into the slaves, anew for each reset (`specs/Loads.antt`). [`pending_of`]
+//! system. Of a port that lists masters it has the numbers of sources at its link (`specs/Numbers.antt`). Its [`Loads`] make what a reset loads into the slaves, anew for each reset (`specs/Loads.antt`). [`pending_of`]
 //! makes the requests in flight of such a judge: none yet. Read on in `docs/MODEL.md`, "How a judge begins".
 #![tactic(auto)]
 
 mod loads;
+mod numbers;
 mod slaves;
 mod start;
 

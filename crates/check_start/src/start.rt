@@ -8,17 +8,21 @@ ghost use Rattle.check_sides.specs.Plan.{Plan};
 ghost use Rattle.check_sides.specs.View.{Keeps};
 ghost use Rattle.check_unanswered.specs.View.{Holds};
 ghost use Rattle.check_lines.specs.Names.{texts_of};
+ghost use Rattle.check_rows.specs.PortNumbers.{numbers_in};
 ghost use Rattle.check_start.specs.Loads.{AreLoadsOf};
+ghost use Rattle.check_start.specs.Numbers.{numbers_of};
 ghost use Rattle.check_start.specs.Slaves.{own_slaves as slaves_of_links, shared_slaves};
-ghost use Rattle.check_start.specs.Start.{ByThePlan, layout_of, master_buses as buses_of_masters, master_paths as paths_of_masters, system_names, port_buses as buses_of_ports};
+ghost use Rattle.check_start.specs.Start.{ByThePlan, layout_of, master_buses as buses_of_masters, system_names, port_buses as buses_of_ports};
 
 use crate::loads::Loads;
+use crate::numbers::numbers_by;
 use crate::slaves::{SlaveSide, shared_side, slaves_of};
 use check_beats::Bus;
 use check_description::{Described, Description, Master, Port};
 use check_flight::{PortSlave, SideOrders};
 use check_keys::SystemFault;
 use check_lines::Names;
+use check_rows::PortNumbers;
 use check_sides::{Links, Paths, Watch};
 use check_unanswered::Pending;
 use std::alloc::{AllocError, Global};
@@ -32,7 +36,7 @@ pub struct Terms {
     pub orders: SideOrders,
 }
 
-/// The judge of a system's beats, the names and buses of its links, and what a reset loads.
+/// The judge of a system's beats, the names and buses of its links, what a reset loads, and the numbers of sources at ports' links.
 #[derive(Drop)]
 pub struct Beginning {
     pub watch: Watch,
@@ -42,6 +46,8 @@ pub struct Beginning {
     /// Whether there may be resets of the whole system, and what they load.
     pub resets: bool,
     pub loads: Loads,
+    /// By port the numbers of sources at its link, if it has any of its own.
+    pub numbers: Vec<Option<PortNumbers>>,
 }
 
 /// A copy of a name, if there is one.
@@ -117,28 +123,6 @@ fn master_buses(
     Ok(buses)
 }
 
-/// A copy of a master's flags, if it has any.
-fn copy_flags(alloc: Global, flags: &Option<Vec<bool>>) -> Result<Option<Vec<bool>>, AllocError>
-    ensures { IfOk result (λ copy. option_map (λ flags. flags.items) copy
-        ≡ option_map (λ flags. flags.items) flags.now) }
-{
-    match flags {
-        Some(flags) => Ok(Some(Vec::from_slice(alloc, flags)?)),
-        None => Ok(None),
-    }
-}
-
-/// The ports to which the masters have paths.
-fn master_paths(alloc: Global, masters: &[Master]) -> Result<Paths, AllocError>
-    ensures { IfOk result (λ paths. paths ≡ paths_of_masters (map master_view masters.now)) }
-{
-    let mut flags = Vec::with_capacity(alloc, masters.len())?;
-    for master in masters {
-        flags.push(copy_flags(alloc, &master.reach)?)?;
-    }
-    Ok(Paths::new(flags))
-}
-
 /// The buses of the links of a system's masters and ports, by their numbers.
 #[derive(Drop)]
 struct LinkBuses {
@@ -207,7 +191,8 @@ fn reset_slaves(
     Ok(Slaves { shared, own })
 }
 
-/// The judge of a crossbar that is this system, before any beat, the names and buses of its links, and what a reset loads.
+/// The judge of a crossbar that is this system, before any beat, the names and buses of its links, what a reset loads, and the numbers
+/// of sources at ports' links.
 /// Images has the bytes of the image of each port by its number, none of a port that names no image. An image that is
 /// longer than its range is refused; beside that only memory is.
 pub fn begin(
@@ -222,6 +207,7 @@ pub fn begin(
     ensures resets { IfOk result (λ begun. begun.resets ≡ system.resets) }
     ensures loads { IfOk result (λ begun.
         ByThePlan terms system (map (λ image. image.items) images.now) (λ plan. AreLoadsOf plan begun.loads)) }
+    ensures numbers { IfOk result (λ begun. numbers_in begun.numbers.items ≡ numbers_of terms.links system) }
     ensures names { IfOk result (λ begun. begun.names ≡ system_names system) }
     ensures masters { IfOk result (λ begun. begun.master_buses.items ≡ buses_of_masters system.masters) }
     ensures ports { IfOk result (λ begun. begun.port_buses.items ≡ buses_of_ports system.ports) }
@@ -236,7 +222,8 @@ pub fn begin(
     // one for the judge, and one for the reader of rows
     let buses = buses_of(alloc, &parts)?;
     let told = buses_of(alloc, &parts)?;
-    let paths = master_paths(alloc, &parts.masters)?;
+    let numbers = numbers_by(alloc, terms.links, &parts)?;
+    let paths = Paths::new(parts.paths);
     let loads = Loads::of(alloc, parts.ports, images)?;
     let watch = Watch::new(
         alloc,
@@ -257,6 +244,7 @@ pub fn begin(
         port_buses: told.ports,
         resets: parts.resets,
         loads,
+        numbers,
     })
 }
 

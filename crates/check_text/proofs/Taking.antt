@@ -2,7 +2,6 @@
 use Rattle.std.proofs.KnownBytes.{Appends-nil}
 use Rattle.std.proofs.Common.{◌≡◌, ◌∙◌, ℕ, inl, inr, true, false, List, [], ◌∷◌, ◌++◌, Option, Some, None, Err, IfSome, refl, sym, subst}
 use Rattle.check_rows.specs.Row.{SeenRow}
-use Rattle.check_rows.specs.Row.{row_of}
 use Rattle.check_rows.specs.declared.fault.RowFault.{RowFault}
 use Rattle.check_review.specs.Order.{HasRowFault, IsLater}
 use Rattle.check_review.specs.Verdict.{IsFirstUnlawful, IsStop, IsToldBefore, IsToldEarlier, IsToldPart}
@@ -30,7 +29,7 @@ use Rattle.check_text.specs.Rows.{AllTaken, GivesRow, HasNoRow, HasRows, IsJudge
 use Rattle.check_text.specs.declared.fault.CaptureFault.TheVariants as fault
 use Rattle.check_text.specs.declared.rows.Halt.{Halt}
 use Rattle.check_text.specs.declared.rows.Halt.TheVariants as halt
-use Rattle.check_text.specs.Buses.{LinkBuses}
+use Rattle.check_text.specs.Buses.{LinkBuses, row_on}
 use Rattle.check_text.proofs.OutLemmas.{wrote_as, wrote_more, wrote_moved, wrote_none, wrote_part, wrote_so_far}
 
 spell_more : (buses : LinkBuses) (records : List Record) (rows : List SeenRow) (r : Record) (row : SeenRow)
@@ -161,7 +160,7 @@ module _ (buses : LinkBuses) (r : Record) (row : SeenRow) (spells : SpellsCaptur
 -- a record that spells no row
 pub no_row : (buses : LinkBuses) (r : Record) (why : RowFault) (a b : TextLeft) (judge : JudgeView) (tally : Tally) (text : List ℕ)
     → Between a b (λ from to. GivesRecord from r to)
-    → row_of buses.resets buses.masters buses.ports r.line r.fields ≡ Err why
+    → row_on buses r.line r.fields ≡ Err why
     → StopsAt buses judge tally text text a b (halt.Fault (fault.Row r.line why))
 no_row buses r why a b judge tally text gives is =
     between_map a b (λ from to. GivesRecord from r to)

@@ -1,7 +1,6 @@
 -- One row of a capture after another, as a judge takes them. This project's own.
 use Rattle.std.specs.Prelude.{◌≡◌, ◌⊎◌, ℕ, List, [], ◌∷◌, ◌++◌, Option, Some, None, Result, Ok, Err, ⊤, Bool, true, false, IfSome}
 use Rattle.check_rows.specs.Moment.{IsLink}
-use Rattle.check_rows.specs.Row.{row_of}
 use Rattle.check_rows.specs.declared.fault.RowFault.{RowFault}
 use Rattle.check_rows.specs.Buses.{HasBus}
 use Rattle.check_rows.specs.Row.{SeenRow, seen_row}
@@ -35,11 +34,11 @@ use Rattle.check_text.specs.declared.rows.Halt.{Halt}
 use Rattle.check_text.specs.declared.rows.Halt.TheVariants as halt
 use Rattle.check_text.specs.declared.rows.Next.{Next}
 use Rattle.check_text.specs.declared.rows.Next.TheVariants as next
-use Rattle.check_text.specs.Buses.{LinkBuses}
+use Rattle.check_text.specs.Buses.{LinkBuses, row_on}
 
 -- a record spells a row
 abbrev pub SpellsCapture : LinkBuses → Record → SeenRow → Type 0
-SpellsCapture buses r row = row_of buses.resets buses.masters buses.ports r.line r.fields ≡ Ok row
+SpellsCapture buses r row = row_on buses r.line r.fields ≡ Ok row
 
 -- records spell rows, one for one
 abbrev pub SpellAll : LinkBuses → List Record → List SeenRow → Type 0
@@ -63,7 +62,7 @@ pub record HasRows (buses : LinkBuses) (rows : List SeenRow) (from to : TextPlac
 -- why the next record is no row after these
 abbrev pub IsNoRow : LinkBuses → List SeenRow → Record → RowFault → Type 0
 IsNoRow buses rows r fault =
-    (row_of buses.resets buses.masters buses.ports r.line r.fields ≡ Err fault)
+    (row_on buses r.line r.fields ≡ Err fault)
     ⊎ ((row : SeenRow) × SpellsCapture buses r row × HasRowFault rows row fault)
 
 -- the record on this line, the next one after these rows, is no row there

@@ -1,9 +1,9 @@
 //! The rows of a capture, one after the other.
 ghost use Rattle.std.specs.Prelude.{◌≡◌, ◌≤◌, [], None, length, OnOk, IfOk, IfErr};
 ghost use Rattle.check_records.specs.Source.{Between};
-ghost use Rattle.check_rows.specs.Row.{row_in, row_of};
+ghost use Rattle.check_rows.specs.Row.{row_in};
 ghost use Rattle.check_review.specs.View.{is_covered};
-ghost use Rattle.check_text.specs.Buses.{HasBuses, link_buses};
+ghost use Rattle.check_text.specs.Buses.{HasBuses, link_buses, row_on};
 ghost use Rattle.check_text.specs.Rows.{AllTaken, GoesOn, IsJudged, IsNext, IsTakable, answer_of, verdict_at_end, halt_of, verdict_refused};
 
 use crate::fault::{CaptureFault, Verdict};
@@ -11,7 +11,7 @@ use crate::out::write_long;
 use check_beats::MAX_LANES;
 use check_records::Records;
 use check_review::{Ending, Judge, Refusal, Stop, Unlawful};
-use check_rows::{Buses, Row, RowFault, read_bare_row, read_row};
+use check_rows::{Buses, Row, RowFault, number_row, read_bare_row, read_row};
 use std::alloc::{AllocError, Global};
 use std::io::{Read, Write};
 use tl_map::{MAX_JUDGED_MASTERS, MAX_JUDGED_PORTS};
@@ -36,7 +36,7 @@ enum Next {
     Fault(CaptureFault),
 }
 
-/// The row that the record spells that was read last. Its lanes stand in the first places of the buffer then.
+/// The row that the record spells that was read last, as it is judged. Its lanes stand in the first places of the buffer then.
 fn row_at_hand<R: Read + Drop>(
     records: &Records<R>,
     buses: &Buses<'_>,
@@ -44,15 +44,17 @@ fn row_at_hand<R: Read + Drop>(
 ) -> Result<Row, RowFault>
     requires masters { length buses.now.masters.now ≤ MAX_JUDGED_MASTERS }
     requires ports { length buses.now.ports.now ≤ MAX_JUDGED_PORTS }
-    ensures value { row_in lanes.new result ≡ row_of buses.now.resets buses.now.masters.now buses.now.ports.now
-        records.now.row.line records.now.row.fields }
+    ensures value { row_in lanes.new result
+        ≡ row_on (link_buses buses.now) records.now.row.line records.now.row.fields }
     ensures takable { IfOk result (IsTakable (link_buses buses.now)) }
 {
     let line = records.line();
-    match records.bare() {
-        Some(text) => read_bare_row(buses, line, text, lanes),
-        None => read_row(buses, line, records.columns(), lanes),
-    }
+    let mut row = match records.bare() {
+        Some(text) => read_bare_row(buses, line, text, lanes)?,
+        None => read_row(buses, line, records.columns(), lanes)?,
+    };
+    number_row(buses.numbers, &mut row);
+    Ok(row)
 }
 
 /// Reads the next row, and takes it if that tells nothing and no row is refused. The lanes of one that is left stand in the

@@ -17,6 +17,8 @@ use Rattle.check_rows.specs.declared.columns.RowChannel.TheVariants as channel
 use Rattle.check_rows.specs.declared.column.Column.TheVariants as named
 use Rattle.check_rows.specs.declared.fault.RowFault.{RowFault}
 use Rattle.check_rows.specs.declared.fault.RowFault.TheVariants.{Number}
+use Rattle.check_rows.specs.PortNumbers.{numbered_row}
+use Rattle.check_text.specs.Buses.{LinkBuses, as_judged, row_on}
 use Rattle.check_watch.specs.declared.beat.Link.{Link}
 
 -- an answer that is no fault
@@ -150,7 +152,7 @@ at_link masters ports line time columns (Some link) row is beat =
 at_link masters ports line time columns None row is beat =
     absurd (no_reset (are_empty (drop 2 columns)) line time row is beat)
 
-pub lanes_of_row_are : (resets : Bool) (masters ports : List Bus) (line : ℕ) (columns : List (List ℕ)) (row : SeenRow)
+lanes_of_row_are : (resets : Bool) (masters ports : List Bus) (line : ℕ) (columns : List (List ℕ)) (row : SeenRow)
     → row_of resets masters ports line columns ≡ Ok row → row.is_reset ≡ false → HasItsLanes masters ports row
 unfolding row_of
 lanes_of_row_are resets masters ports line columns row is beat =
@@ -159,3 +161,18 @@ lanes_of_row_are resets masters ports line columns row is beat =
     let link = step (or_reset resets (column columns named.Link) (link_of masters ports (column columns named.Link))) _ row
     time.2 in
     at_link masters ports line time.0 columns link.0 row link.2 beat
+
+-- the same of a row as it is judged: only its source may be another one
+pub lanes_of_judged_are : (buses : LinkBuses) (line : ℕ) (columns : List (List ℕ)) (row : SeenRow)
+    → row_on buses line columns ≡ Ok row → row.is_reset ≡ false → HasItsLanes buses.masters buses.ports row
+lanes_of_judged_are buses line columns row is beat =
+    go (row_of buses.resets buses.masters buses.ports line columns) refl is
+  where
+    go : (read : Result SeenRow RowFault) → row_of buses.resets buses.masters buses.ports line columns ≡ read
+        → as_judged buses.numbers read ≡ Ok row → HasItsLanes buses.masters buses.ports row
+    go (Err fault) read_is is = absurd (cc)
+    go (Ok said) read_is is =
+        let same : numbered_row buses.numbers said ≡ row = cc in
+        subst (HasItsLanes buses.masters buses.ports) same
+        (lanes_of_row_are buses.resets buses.masters buses.ports line columns said read_is
+        (ap (λ (r : SeenRow). r.is_reset) same ∙ beat))

@@ -28,7 +28,7 @@ use Rattle.check_text.specs.declared.fault.Verdict.TheVariants.{Incomplete, Lawf
 use Rattle.check_text_laws.specs.Groups.{AreAllWatched}
 use Rattle.check_text_laws.proofs.Across.{Fits, each_fits, ended_lawful}
 use Rattle.check_text_laws.proofs.GroupRules.{always_keeps, rules_make_lawful, all_compliant}
-use Rattle.check_text_laws.proofs.Lanes.{lanes_of_row_are}
+use Rattle.check_text_laws.proofs.Lanes.{lanes_of_judged_are}
 use Rattle.check_text_laws.specs.Rules.{FileKeepsRules, BreaksRules, CaptureKeepsRules, CaptureBreaksRules, CaptureLeaves, HaveLanes, StretchKeepsRules}
 
 less : (m n : ℕ) → nat_lt m n ≡ true → m < n
@@ -184,7 +184,7 @@ all_have layout buses (r ∷ records) [] same spell = absurd spell
 all_have layout buses (r ∷ records) (row ∷ rows) same spell =
     let bus = bus_same layout buses row.sighting.link same in (
       λ beat.
-          let lanes = lanes_of_row_are buses.resets buses.masters buses.ports r.line r.fields row spell.0 beat in
+          let lanes = lanes_of_judged_are buses r.line r.fields row spell.0 beat in
           omega (arith, lanes, bus),
       all_have layout buses records rows same spell.1,
     )

@@ -28,6 +28,8 @@ use Rattle.check_description.specs.Description.{Description, Makes}
 use Rattle.check_description.specs.File.{Parts, document_of, parts_in, parts_of}
 use Rattle.check_description.specs.Rules.{by_address_in, rules_in}
 use Rattle.check_description.specs.Master.{Master, has_first, master_of, master_tables, masters_of}
+use Rattle.check_description.specs.Placed.{names_of_masters, paths_from, placed_of}
+use Rattle.check_description.specs.declared.placed.PlacedMaster.{PlacedMaster}
 use Rattle.check_description.specs.declared.read.TheConstants.{MAX_SYSTEM}
 
 -- ---- each of a list
@@ -118,6 +120,16 @@ links-are members names is = go (common_in members) (resets_in members) refl is
     go (Ok top) (Ok told) x w =
         by top told (links_in top key.Port members) (links_in top key.Master members) x refl refl w
 
+abbrev made_of : SystemRules → List Port → List Master → List (Option (List PlacedMaster)) → List (Option (List Bool)) → Parts
+made_of rules ports masters lists paths = record {
+  rules = rules.links;
+  resets = rules.resets;
+  ports = ports;
+  masters = masters;
+  lists = lists;
+  paths = paths;
+}
+
 -- the parts of each kind
 record Divided (members : Members) (parts : Parts) : Type 0 where
   bus : Bus
@@ -134,34 +146,46 @@ parts-are members parts is = go (bus_in_table Eight members) (rules_in members) 
     by : (bus : Bus) (rules : SystemRules) (p : Result (List Port) SystemFault) → rules_in members ≡ Ok rules
         → ports_of bus rules.resets members ≡ p
         → (p >>= (λ of_ports. masters_of bus (names_of_ports of_ports) members
-        >>= (λ of_masters.
-        Ok (record { rules = rules.links; resets = rules.resets; ports = of_ports; masters = of_masters })))) ≡ Ok parts
+        >>= (λ of_masters. placed_of (names_of_masters of_masters) of_ports
+        >>= (λ of_lists. paths_from of_lists 0 of_masters >>= (λ of_paths.
+        Ok (made_of rules of_ports of_masters of_lists of_paths)))))) ≡ Ok parts
         → Divided members parts
     by bus rules (Err e) r x w = absurd (cc)
     by bus rules (Ok p) r x w = then (masters_of bus (names_of_ports p) members) refl w
       where
         then : (m : Result (List Master) SystemFault) → masters_of bus (names_of_ports p) members ≡ m
-            → (m >>= (λ of_masters.
-            Ok (record { rules = rules.links; resets = rules.resets; ports = p; masters = of_masters }))) ≡ Ok parts
-            → Divided members parts
+            → (m >>= (λ of_masters. placed_of (names_of_masters of_masters) p
+            >>= (λ of_lists. paths_from of_lists 0 of_masters >>= (λ of_paths.
+            Ok (made_of rules p of_masters of_lists of_paths))))) ≡ Ok parts → Divided members parts
         then (Err e) y z = absurd (cc)
-        then (Ok m) y z =
-            let made : Parts = record { rules = rules.links; resets = rules.resets; ports = p; masters = m } in
-            let same : made ≡ parts = cc in
-            record {
-              bus = bus;
-              rules = rules;
-              ruled = r;
-              resets = ap (λ (n : Parts). n.resets) same;
-              ports = x ∙ ap (λ (n : Parts). Ok n.ports) same;
-              masters = subst (λ (n : Parts). masters_of bus (names_of_ports n.ports) members ≡ Ok n.masters) same y;
-            }
+        then (Ok m) y z = placed (placed_of (names_of_masters m) p) z
+          where
+            pathed : (lists : List (Option (List PlacedMaster))) (q : Result (List (Option (List Bool))) SystemFault)
+                → (q >>= (λ of_paths. Ok (made_of rules p m lists of_paths))) ≡ Ok parts → Divided members parts
+            pathed lists (Err e) v = absurd (cc)
+            pathed lists (Ok paths) v =
+                let same : made_of rules p m lists paths ≡ parts = cc in
+                record {
+                  bus = bus;
+                  rules = rules;
+                  ruled = r;
+                  resets = ap (λ (n : Parts). n.resets) same;
+                  ports = x ∙ ap (λ (n : Parts). Ok n.ports) same;
+                  masters = subst (λ (n : Parts). masters_of bus (names_of_ports n.ports) members ≡ Ok n.masters) same y;
+                }
+
+            placed : (l : Result (List (Option (List PlacedMaster))) SystemFault)
+                → (l >>= (λ of_lists. paths_from of_lists 0 m >>= (λ of_paths. Ok (made_of rules p m of_lists of_paths)))) ≡ Ok parts
+                → Divided members parts
+            placed (Err e) v = absurd (cc)
+            placed (Ok lists) v = pathed lists (paths_from lists 0 m) v
 
     go : (b : Result Bus SystemFault) (r : Result SystemRules SystemFault) → rules_in members ≡ r
         → (b >>= (λ bus. r >>= (λ rules. ports_of bus rules.resets members >>= (λ of_ports.
         masters_of bus (names_of_ports of_ports) members
-        >>= (λ of_masters.
-        Ok (record { rules = rules.links; resets = rules.resets; ports = of_ports; masters = of_masters }))))))
+        >>= (λ of_masters. placed_of (names_of_masters of_masters) of_ports
+        >>= (λ of_lists. paths_from of_lists 0 of_masters >>= (λ of_paths.
+        Ok (made_of rules of_ports of_masters of_lists of_paths))))))))
         ≡ Ok parts
         → Divided members parts
     go (Err e) r x w = absurd (cc)

@@ -82,6 +82,7 @@ fn sampler_of<D: Read + Drop>(
         masters: &links.master_buses,
         ports: &links.port_buses,
         resets: false,
+        numbers: &[],
     };
     let resolved = find_signals(alloc, &buses, &links.names, vars)?;
     keep_all(alloc, dump, &resolved.codes)?;

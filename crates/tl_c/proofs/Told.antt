@@ -7,7 +7,7 @@ use Rattle.check_start.specs.declared.start.Terms.{Terms}
 use Rattle.check_description.specs.Description.{IsFirstFaultOf}
 use Rattle.check_description.specs.Name.{IsFirstPartFault}
 use Rattle.check_keys.specs.declared.fault.SystemFault.{SystemFault}
-use Rattle.check_keys.specs.declared.fault.SystemFault.TheVariants.{TooLong, NotToml, Missing, WrongType, OutOfRange, UnknownKey, TwoCalled, ImageUnreadable, ImageTooLong, Map, Sources, Memory}
+use Rattle.check_keys.specs.declared.fault.SystemFault.TheVariants.{TooLong, NotToml, Missing, WrongType, OutOfRange, UnknownKey, TwoCalled, ImageUnreadable, ImageTooLong, Map, Sources, PortSources, Memory}
 use Rattle.tl_c.specs.Calls.{IsFaultOfDraft, IsFileAnswer, IsPartsAnswer}
 use Rattle.tl_c.specs.Draft.{DraftView, IsDraftFault, IsFirstFileFault, LacksNone}
 use Rattle.tl_c.specs.Judging.{ByTerms, links_of, order_of}
@@ -72,6 +72,7 @@ parts_fault draft (ImageUnreadable port) none first = absurd first
 parts_fault draft (ImageTooLong port) none first = absurd first
 parts_fault draft (Map fault) none first = (none, first)
 parts_fault draft (Sources fault) none first = (none, first)
+parts_fault draft (PortSources port fault) none first = (none, first)
 parts_fault draft Memory none first = absurd first
 
 pub of_draft : (draft : DraftView) (fault : SystemFault) (number : ℕ) → number ≡ file_number fault → LacksNone draft

@@ -12,6 +12,7 @@ use Rattle.check_sides.specs.View.{Keeps}
 use Rattle.check_watch.specs.declared.links.Links.{Links}
 use Rattle.check_watch.specs.declared.links.Links.TheVariants.{Both, Masters, Ports, Each}
 use Rattle.check_rows.specs.Row.{SeenRow}
+use Rattle.check_rows.specs.PortNumbers.{numbered, numbers_in}
 use Rattle.check_rows.specs.declared.row.Row.{Row}
 use Rattle.check_unanswered.specs.Began.{IsLeft, row_with}
 use Rattle.check_unanswered.specs.View.{Holds}
@@ -22,6 +23,7 @@ use Rattle.check_coverage.specs.Flights.{is_counted}
 use Rattle.check_review.specs.Count.{is_whole_ask, is_whole_reply, one_more}
 use Rattle.check_description.specs.Description.{Description, Makes}
 use Rattle.check_start.specs.Loads.{AreLoadsOf}
+use Rattle.check_start.specs.Numbers.{numbers_of}
 use Rattle.check_start.specs.Start.{ByThePlan, layout_of, system_names}
 use Rattle.check_start.specs.declared.start.Terms.{Terms}
 use Rattle.tl_c.specs.Draft.{DraftView, IsDraftOf, LacksNone, image_bytes}
@@ -36,6 +38,10 @@ use Rattle.tl_c.specs.declared.making.TheConstants.{LINE_ROOM}
 abbrev pub on_bus : Layout → Sighting → Sighting
 on_bus layout x =
     seen_at x.link x.beat (x.known % 2 ^ bus_of layout x.link) (take (bus_of layout x.link) x.lanes)
+
+-- the same as it is judged: at a port's link that has numbers of its own with the system's source
+abbrev pub judged : HeldJudge → Sighting → Sighting
+judged judge x = numbered (numbers_in judge.numbers.items) (on_bus judge.watch.layout x)
 
 -- the judge was shown this, after these beats by this plan, and has answered this number
 pub record IsStep (plan : Plan) (past : List Sighting) (shown : Sighting) (old : HeldJudge) (number : ℕ)
@@ -52,6 +58,7 @@ pub record IsStep (plan : Plan) (past : List Sighting) (shown : Sighting) (old :
   pub names : number ≡ OK → new.names ≡ old.names
   pub resets : number ≡ OK → new.resets ≡ old.resets
   pub loads : number ≡ OK → new.loads ≡ old.loads
+  pub numbers : number ≡ OK → new.numbers ≡ old.numbers
 
 -- the text is the line of this fault, with these names of links; or it is empty, if there was no room for the line
 abbrev pub IsLineOf : NamesView → Row → Fault → ℕ → List ℕ → Type 0
@@ -79,6 +86,7 @@ pub record KeepsAllButText (old new : HeldJudge) : Type 0 where
   pub names : new.names ≡ old.names
   pub resets : new.resets ≡ old.resets
   pub loads : new.loads ≡ old.loads
+  pub numbers : new.numbers ≡ old.numbers
   pub requests : new.requests ≡ old.requests
   pub answered : new.answered ≡ old.answered
   pub pending : new.pending ≡ old.pending
@@ -114,6 +122,7 @@ pub record KeepsAtReset (old new : HeldJudge) : Type 0 where
   pub names : new.names ≡ old.names
   pub resets : new.resets ≡ old.resets
   pub loads : new.loads ≡ old.loads
+  pub numbers : new.numbers ≡ old.numbers
   pub requests : new.requests ≡ old.requests
   pub answered : new.answered ≡ old.answered
   pub text : new.text ≡ old.text
@@ -121,7 +130,7 @@ pub record KeepsAtReset (old new : HeldJudge) : Type 0 where
 -- ---- judges before any beat
 
 -- a judge of this system with these bytes of its images, before any beat: it keeps no beat by each plan of the system, of
--- which there is one, has what a reset loads, has counted none, and no request is in flight; its text is empty, with room
+-- which there is one, has what a reset loads and the numbers of ports' links, has counted none, and no request is in flight; its text is empty, with room
 -- for a line
 pub record BeginsBy (terms : Terms) (system : Description) (images : List (List ℕ)) (judge : HeldJudge) : Type 0 where
   pub layout : judge.watch.layout ≡ layout_of terms system
@@ -129,6 +138,7 @@ pub record BeginsBy (terms : Terms) (system : Description) (images : List (List 
   pub pending : ByThePlan terms system images (λ plan. Holds plan.begins [] judge.pending)
   pub resets : judge.resets ≡ system.resets
   pub loads : ByThePlan terms system images (λ plan. AreLoadsOf plan judge.loads)
+  pub numbers : numbers_in judge.numbers.items ≡ numbers_of terms.links system
   pub names : judge.names ≡ system_names system
   pub requests : judge.requests ≡ 0
   pub answered : judge.answered ≡ 0

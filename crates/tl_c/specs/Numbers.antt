@@ -32,6 +32,7 @@ file_number (file.WrongType key) = 12
 file_number (file.OutOfRange key) = 13
 file_number (file.Map fault) = 15
 file_number (file.Sources fault) = 16
+file_number (file.PortSources port fault) = 16
 file_number file.TooLong = 17
 file_number (file.TwoCalled name) = 18
 file_number (file.UnknownKey unknown) = 19

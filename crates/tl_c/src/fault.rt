@@ -74,6 +74,7 @@ pub(crate) fn file_number(fault: &SystemFault) -> u32
         SystemFault::OutOfRange(_) => 13,
         SystemFault::Map(_) => 15,
         SystemFault::Sources(_) => 16,
+        SystemFault::PortSources(_, _) => 16,
         SystemFault::TooLong => 17,
         SystemFault::TwoCalled(_) => 18,
         SystemFault::UnknownKey(_) => 19,

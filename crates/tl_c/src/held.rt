@@ -3,6 +3,7 @@ ghost use Rattle.std.specs.Prelude.{◌≡◌, ◌+◌, length};
 
 use crate::draft::Draft;
 use check_lines::Names;
+use check_rows::PortNumbers;
 use check_sides::Watch;
 use check_start::Loads;
 use check_unanswered::Pending;
@@ -28,14 +29,15 @@ impl Model for Server {
     ghost view = { λ s. s.crossbar };
 }
 
-/// A judge of beats, with the names of links, whether there may be resets of the whole system and what they load, the
-/// requests in flight, how many whole requests and replies it has seen, and the line of the last fault.
+/// A judge of beats, with the names of links, whether there may be resets of the whole system and what they load, the numbers of
+/// sources at ports' links, the requests in flight, how many whole requests and replies it has seen, and the line of the last fault.
 #[derive(Drop)]
 pub struct HeldJudge {
     pub watch: Watch,
     pub names: Names,
     pub resets: bool,
     pub loads: Loads,
+    pub numbers: Vec<Option<PortNumbers>>,
     pub pending: Pending,
     pub requests: u64,
     pub answered: u64,

@@ -1,7 +1,7 @@
 //! Judges of beats.
 ghost use Rattle.std.specs.Prelude.{◌≡◌, ◌≢◌, ◌%◌, ◌^◌, ◌<◌, ◌≤◌, ◌↔◌, ◌&&◌, ◌⊎◌, ℕ, List, ◌∷◌, IsSome, None, Some, false, length, vec_capacity};
 ghost use Rattle.tl_c.specs.Calls.{HoldsJudge, IsJudge};
-ghost use Rattle.tl_c.specs.Judging.{IsEndOf, IsFaultOfBeat, IsLineOf, IsLineOfLeft, IsStep, KeepsAllButText, on_bus, shown_row};
+ghost use Rattle.tl_c.specs.Judging.{IsEndOf, IsFaultOfBeat, IsLineOf, IsLineOfLeft, IsStep, KeepsAllButText, judged, shown_row};
 ghost use Rattle.tl_c.specs.Text.{IsTextOf, IsWritten};
 ghost use Rattle.tl_c.specs.Wire.{shown_by_struct};
 ghost use Rattle.tl_c.specs.declared.held.HeldJudge.{HeldJudge};
@@ -26,7 +26,7 @@ use crate::wire::{WireBeat, seen_in};
 use check_beats::{Bus, MAX_LANES};
 use check_lines::{Names, push_incomplete, push_unlawful};
 use check_review::count_end;
-use check_rows::Row;
+use check_rows::{Row, number_row};
 use check_sides::{Beat, Change, Ended, Fault, Link, StepError};
 use check_unanswered::Left;
 use std::alloc::Global;
@@ -38,6 +38,7 @@ fn count(judge: &mut HeldJudge, link: Link, end: Ended)
     ensures names { judge.new.names ≡ judge.old.names }
     ensures resets { judge.new.resets ≡ judge.old.resets }
     ensures loads { judge.new.loads ≡ judge.old.loads }
+    ensures numbers { judge.new.numbers ≡ judge.old.numbers }
     ensures pending { judge.new.pending ≡ judge.old.pending }
     ensures requests { judge.new.requests
         ≡ one_more (is_counted judge.old.watch.layout.links link && ends_an_ask end) judge.old.requests }
@@ -124,6 +125,7 @@ fn note(judge: &mut HeldJudge, change: Change, row: &Row)
     ensures names { judge.new.names ≡ judge.old.names }
     ensures resets { judge.new.resets ≡ judge.old.resets }
     ensures loads { judge.new.loads ≡ judge.old.loads }
+    ensures numbers { judge.new.numbers ≡ judge.old.numbers }
     ensures requests { judge.new.requests ≡ judge.old.requests }
     ensures answered { judge.new.answered ≡ judge.old.answered }
     ensures text { judge.new.text ≡ judge.old.text }
@@ -166,18 +168,18 @@ fn known_on(bus: Bus, known: u64) -> u64
     known & (u64::MAX >> (MAX_LANES - bus.bytes()))
 }
 
-/// Judges one beat more, with as many lanes of its struct as the bus of its link has.
+/// Judges one beat more, with as many lanes of its struct as the bus of its link has, and with the system's source.
 fn step(alloc: Global, judge: &mut HeldJudge, link: Link, beat: Beat, wire: &WireBeat) -> u32
     ensures step { (plan : Plan) (past : List Sighting) → Keeps plan past judge.old.watch → result ≢ NO_LINK
-        → IsStep plan past (on_bus judge.old.watch.layout (seen_at link beat wire.now.known wire.now.lanes))
+        → IsStep plan past (judged judge.old (seen_at link beat wire.now.known wire.now.lanes))
         judge.old result judge.new }
     ensures fault { (plan : Plan) (past : List Sighting) → Keeps plan past judge.old.watch → NO_LINK < result
-        → IsFaultOfBeat plan past (on_bus judge.old.watch.layout (seen_at link beat wire.now.known wire.now.lanes))
+        → IsFaultOfBeat plan past (judged judge.old (seen_at link beat wire.now.known wire.now.lanes))
         wire.now.line wire.now.time judge.old result judge.new }
     ensures pending { (plan : Plan) (rows : List SeenRow) → Keeps plan (beats_of rows) judge.old.watch
         → Holds plan rows judge.old.pending → result ≡ OK
         → Holds plan (shown_row wire.now.line wire.now.time
-        (on_bus judge.old.watch.layout (seen_at link beat wire.now.known wire.now.lanes)) ∷ rows) judge.new.pending }
+        (judged judge.old (seen_at link beat wire.now.known wire.now.lanes)) ∷ rows) judge.new.pending }
     ensures link { result ≡ NO_LINK ↔ ((HasLink judge.old.watch.layout link
         × IsWatched judge.old.watch.layout.links link) → ⊥) }
     ensures first { result ≢ OK → result ≢ MEMORY → NO_LINK ≤ result }
@@ -188,7 +190,7 @@ fn step(alloc: Global, judge: &mut HeldJudge, link: Link, beat: Beat, wire: &Wir
         return NO_LINK;
     }
     let bus = judge.watch.bus(link);
-    let row = Row {
+    let mut row = Row {
         line: wire.line,
         time: wire.time,
         is_reset: false,
@@ -197,6 +199,7 @@ fn step(alloc: Global, judge: &mut HeldJudge, link: Link, beat: Beat, wire: &Wir
         beat,
         known: known_on(bus, wire.known),
     };
+    number_row(&judge.numbers, &mut row);
     judge_row(alloc, judge, &row, &wire.lanes[..bus.bytes()])
 }
 
@@ -209,15 +212,15 @@ pub extern "C" fn tlx_judge_step_at(alloc: Global, judge: &mut Handle, beat: &Wi
         → (result ≡ NO_LINK ↔ ((HasLink j.watch.layout shown.link × IsWatched j.watch.layout.links shown.link) → ⊥)) }
     ensures step { (plan : Plan) (past : List Sighting) (j : HeldJudge) (shown : Sighting) → judge.old.value ≡ Some (held.Judge j) → shown_by_struct beat.now ≡ Some shown
         → Keeps plan past j.watch → result ≢ NO_LINK
-        → HoldsJudge (IsStep plan past (on_bus j.watch.layout shown) j result) judge.new.value }
+        → HoldsJudge (IsStep plan past (judged j shown) j result) judge.new.value }
     ensures fault { (plan : Plan) (past : List Sighting) (j : HeldJudge) (shown : Sighting) → judge.old.value ≡ Some (held.Judge j) → shown_by_struct beat.now ≡ Some shown
         → Keeps plan past j.watch → NO_LINK < result
-        → HoldsJudge (IsFaultOfBeat plan past (on_bus j.watch.layout shown) beat.now.line beat.now.time j result)
+        → HoldsJudge (IsFaultOfBeat plan past (judged j shown) beat.now.line beat.now.time j result)
         judge.new.value }
     ensures pending { (plan : Plan) (rows : List SeenRow) (j : HeldJudge) (shown : Sighting)
         → judge.old.value ≡ Some (held.Judge j) → shown_by_struct beat.now ≡ Some shown → Keeps plan (beats_of rows) j.watch
         → Holds plan rows j.pending → result ≡ OK
-        → HoldsJudge (λ new. Holds plan (shown_row beat.now.line beat.now.time (on_bus j.watch.layout shown) ∷ rows)
+        → HoldsJudge (λ new. Holds plan (shown_row beat.now.line beat.now.time (judged j shown) ∷ rows)
         new.pending) judge.new.value }
     ensures first { result ≢ OK → result ≢ EMPTY → result ≢ BAD_ARGUMENT → result ≢ MEMORY → NO_LINK ≤ result }
     ensures err { result ≢ OK

@@ -91,6 +91,7 @@ pub(crate) fn make_judge(
         names: begun.names,
         resets: begun.resets,
         loads: begun.loads,
+        numbers: begun.numbers,
         pending,
         requests: 0,
         answered: 0,

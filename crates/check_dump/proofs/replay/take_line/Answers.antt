@@ -19,14 +19,9 @@ returns-in-Err-take-clause-halt c =
     let stop = c.in-Err-take.stop in
     rw c.halt_of.ensures (λ _.
     subst (λ (j : JudgeView). LineStops buses c.args.number (due_line c.args.due.now) j tally told grown (halt_of c.args.number stop)) same
-    (line_stops buses c.args.number (due_line c.args.due.now) (seen_row c.in-Ok.row c.read_due.new.lanes)
-    c.in-Ok.ensures.value c.take_quietly.new.self tally told grown stop (λ plan rows so_far has. (
+    (line_stops buses c.args.number (due_line c.args.due.now) (seen_row c.in_ok-row.row c.read_due.new.lanes)
+    c.in_ok-row.ensures.value c.take_quietly.new.self tally told grown stop (λ plan rows so_far has. (
       c.in-Err-take.ensures.row.stop plan rows has.judges,
       c.in-Err-take.ensures.row.stop_covered plan rows has.judges,
       c.in-Err-take.ensures.row.stop_told plan rows so_far has,
     ))))
-
-pub returns-in-Err-clause-halt : goal.returns-in-Err-clause-halt
-returns-in-Err-clause-halt c = λ _.
-    no_due (link_buses c.args.buses.now) c.args.number (due_line c.args.due.now) c.args.judge.now c.args.judge.now.tally
-    c.args.told.now.items c.in-Err.why c.in-Err.ensures.halt

@@ -1,6 +1,7 @@
 -- The verdict over the rows of the dump, or why there is none, and what was written for that.
 use Rattle.std.proofs.Common.{◌≡◌, ◌∙◌, Bool, IfOk, ap, inr, subst}
 use Rattle.std.proofs.KnownBytes.{Keeps-refl}
+use Rattle.check_rows.specs.PortNumbers.{numbers_in}
 use Rattle.check_start.specs.Start.{system_names}
 use Rattle.check_waves.specs.Links.{wave_links_view}
 use Rattle.check_program.specs.Engine.{GivenParts, is_lawful, line_of}
@@ -22,7 +23,8 @@ pub returns-in_err-verdict-clause-checked : goal.returns-in_err-verdict-clause-c
 returns-in_err-verdict-clause-checked g c = λ asked file parts images known is has same.
     let given : GivenParts = record { file = file; parts = parts; images = images; capture = known } in
     let of_it = of_prepared asked given c.args.prepared.now _ is
-    (buses_are _ _ _ is.system (c.deref.ensures.value ∙ is.masters) (c.deref-2.ensures.value ∙ is.ports) is.resets) in
+    (buses_are asked.terms.links _ _ _ _ is.system (c.deref.ensures.value ∙ is.masters)
+    (c.deref-2.ensures.value ∙ is.ports) is.resets (ap numbers_in c.deref-3.ensures.value ∙ is.numbers)) in
     let opened = as_known known (g.D.Read.remaining c.args.dump) _ same c.in_ok-rows.ensures.ok in
     let fault = c.in_err-verdict.field-0.0 in
     dump_err asked given _ _ _ (of_replay fault) c.from_residual-in_err-verdict.ensures.1
@@ -37,7 +39,8 @@ pub returns-in_err-append_coverage-clause-checked : goal.returns-in_err-append_c
 returns-in_err-append_coverage-clause-checked g c = λ asked file parts images known is has same.
     let given : GivenParts = record { file = file; parts = parts; images = images; capture = known } in
     let of_it = of_prepared asked given c.args.prepared.now _ is
-    (buses_are _ _ _ is.system (c.deref.ensures.value ∙ is.masters) (c.deref-2.ensures.value ∙ is.ports) is.resets) in
+    (buses_are asked.terms.links _ _ _ _ is.system (c.deref.ensures.value ∙ is.masters)
+    (c.deref-2.ensures.value ∙ is.ports) is.resets (ap numbers_in c.deref-3.ensures.value ∙ is.numbers)) in
     let opened = as_known known (g.D.Read.remaining c.args.dump) _ same c.in_ok-rows.ensures.ok in
     dump_err asked given _ _ _ check.Memory c.from_residual-in_err-append_coverage.ensures.1
     (inr (inr (record {
@@ -54,7 +57,8 @@ pub returns-clause-checked : goal.returns-clause-checked
 returns-clause-checked g c = λ asked file parts images known is has same.
     let given : GivenParts = record { file = file; parts = parts; images = images; capture = known } in
     let of_it = of_prepared asked given c.args.prepared.now _ is
-    (buses_are _ _ _ is.system (c.deref.ensures.value ∙ is.masters) (c.deref-2.ensures.value ∙ is.ports) is.resets) in
+    (buses_are asked.terms.links _ _ _ _ is.system (c.deref.ensures.value ∙ is.masters)
+    (c.deref-2.ensures.value ∙ is.ports) is.resets (ap numbers_in c.deref-3.ensures.value ∙ is.numbers)) in
     let opened = as_known known (g.D.Read.remaining c.args.dump) _ same c.in_ok-rows.ensures.ok in
     let verdict = c.in_ok-verdict.verdict in
     let P : Bool → Type 0 = λ b. IfOk c.tell.result (λ lawful. lawful ≡ is_lawful b verdict) in
@@ -69,7 +73,8 @@ pub returns-clause-covered : goal.returns-clause-covered
 returns-clause-covered g c = λ asked file parts images known is has same.
     let given : GivenParts = record { file = file; parts = parts; images = images; capture = known } in
     let of_it = of_prepared asked given c.args.prepared.now _ is
-    (buses_are _ _ _ is.system (c.deref.ensures.value ∙ is.masters) (c.deref-2.ensures.value ∙ is.ports) is.resets) in
+    (buses_are asked.terms.links _ _ _ _ is.system (c.deref.ensures.value ∙ is.masters)
+    (c.deref-2.ensures.value ∙ is.ports) is.resets (ap numbers_in c.deref-3.ensures.value ∙ is.numbers)) in
     let opened = as_known known (g.D.Read.remaining c.args.dump) _ same c.in_ok-rows.ensures.ok in
     let verdict = c.in_ok-verdict.verdict in
     let P : Bool → Type 0 = λ b. IfOk c.tell.result (λ lawful. lawful ≡ is_lawful b verdict) in

@@ -3,6 +3,7 @@ use Rattle.std.proofs.Common.{◌≡◌, ◌∙◌, Bool, IfOk, ap, inr, subst}
 use Rattle.std.proofs.KnownBytes.{Keeps-refl}
 use Rattle.check_program.proofs.Failing.{checked_by, of_stopped, told_checked}
 use Rattle.check_program.proofs.Judged.{as_known, buses_are, counted_if, has_verdict, is_counted, is_stopped, of_prepared}
+use Rattle.check_rows.specs.PortNumbers.{numbers_in}
 use Rattle.check_start.specs.Start.{system_names}
 use Rattle.check_program.specs.Engine.{GivenParts, is_lawful, line_of}
 use Rattle.check_program.specs.Fault.{of_capture}
@@ -14,7 +15,8 @@ returns-in_err-verdict-clause-checked g c = λ asked file parts images known is 
     let given : GivenParts = record { file = file; parts = parts; images = images; capture = known } in
     let text = g.C.Read.remaining c.args.capture in
     let of_it = of_prepared asked given c.args.prepared.now _ is
-    (buses_are _ _ _ is.system (c.deref.ensures.value ∙ is.masters) (c.deref-2.ensures.value ∙ is.ports) is.resets) in
+    (buses_are asked.terms.links _ _ _ _ is.system (c.deref.ensures.value ∙ is.masters)
+    (c.deref-2.ensures.value ∙ is.ports) is.resets (ap numbers_in c.deref-3.ensures.value ∙ is.numbers)) in
     let fault = c.in_err-verdict.field-0.0 in
     let stopped = is_stopped _ _ is.system _ _ _ _ fault of_it is.made
     (λ plan start. as_known known text _ same (c.in_err-verdict.ensures.fault plan start))
@@ -26,7 +28,8 @@ returns-in_err-append_coverage-clause-checked g c = λ asked file parts images k
     let given : GivenParts = record { file = file; parts = parts; images = images; capture = known } in
     let text = g.C.Read.remaining c.args.capture in
     let of_it = of_prepared asked given c.args.prepared.now _ is
-    (buses_are _ _ _ is.system (c.deref.ensures.value ∙ is.masters) (c.deref-2.ensures.value ∙ is.ports) is.resets) in
+    (buses_are asked.terms.links _ _ _ _ is.system (c.deref.ensures.value ∙ is.masters)
+    (c.deref-2.ensures.value ∙ is.ports) is.resets (ap numbers_in c.deref-3.ensures.value ∙ is.numbers)) in
     let verdict = c.in_ok-verdict.verdict in
     let has = has_verdict _ _ is.system _ _ _ _ verdict of_it is.made
     (λ plan start. as_known known text _ same (c.in_ok-verdict.ensures.verdict plan start))
@@ -39,7 +42,8 @@ returns-clause-checked g c = λ asked file parts images known is same.
     let given : GivenParts = record { file = file; parts = parts; images = images; capture = known } in
     let text = g.C.Read.remaining c.args.capture in
     let of_it = of_prepared asked given c.args.prepared.now _ is
-    (buses_are _ _ _ is.system (c.deref.ensures.value ∙ is.masters) (c.deref-2.ensures.value ∙ is.ports) is.resets) in
+    (buses_are asked.terms.links _ _ _ _ is.system (c.deref.ensures.value ∙ is.masters)
+    (c.deref-2.ensures.value ∙ is.ports) is.resets (ap numbers_in c.deref-3.ensures.value ∙ is.numbers)) in
     let verdict = c.in_ok-verdict.verdict in
     let has = has_verdict _ _ is.system _ _ _ _ verdict of_it is.made
     (λ plan start. as_known known text _ same (c.in_ok-verdict.ensures.verdict plan start))
@@ -55,7 +59,8 @@ returns-clause-covered g c = λ asked file parts images known is same.
     let given : GivenParts = record { file = file; parts = parts; images = images; capture = known } in
     let text = g.C.Read.remaining c.args.capture in
     let of_it = of_prepared asked given c.args.prepared.now _ is
-    (buses_are _ _ _ is.system (c.deref.ensures.value ∙ is.masters) (c.deref-2.ensures.value ∙ is.ports) is.resets) in
+    (buses_are asked.terms.links _ _ _ _ is.system (c.deref.ensures.value ∙ is.masters)
+    (c.deref-2.ensures.value ∙ is.ports) is.resets (ap numbers_in c.deref-3.ensures.value ∙ is.numbers)) in
     let verdict = c.in_ok-verdict.verdict in
     let has = has_verdict _ _ is.system _ _ _ _ verdict of_it is.made
     (λ plan start. as_known known text _ same (c.in_ok-verdict.ensures.verdict plan start))

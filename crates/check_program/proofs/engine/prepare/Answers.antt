@@ -89,6 +89,7 @@ returns c =
         masters = begun.masters;
         ports = begun.ports;
         resets = begun.resets;
+        numbers = begun.numbers;
       };
       masters = begun.few_masters;
       ports = begun.few_ports;

@@ -73,3 +73,7 @@ returns-clause-loads c =
           (made ∙ ap Ok (sym one.1)) (λ each. made_own each ∙ ap Ok (sym one.2));
       each = λ plan is. subst (AreLoadsOf plan) (sym loaded) (loads_are c.args.terms c.args.system images plan is);
     }
+
+pub returns-clause-numbers : goal.returns-clause-numbers
+returns-clause-numbers c =
+    let parts = c.into_parts-parts.ensures in rw (parts.sources, parts.nobody, parts.lists) at c.in_ok-numbers.ensures

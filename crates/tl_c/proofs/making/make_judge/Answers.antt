@@ -61,6 +61,7 @@ returns-clause-ok c =
         pending = record { some = keeps.some; each = λ plan is. c.in_ok-pending.ensures plan.begins (keeps.each plan is) };
         resets = c.in_ok-begun.ensures.resets;
         loads = loads;
+        numbers = c.in_ok-begun.ensures.numbers;
         names = c.in_ok-begun.ensures.names;
         requests = refl;
         answered = refl;
