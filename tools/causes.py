@@ -32,5 +32,9 @@ CAUSES = {
 }
 # Before these, of a request at a port whose source would be right with another shift.
 SHIFTED = ["how far the socket at the port shifts sources: `hosts` or `sources` of the port, `stride` of the master"]
+# Before these, of a part of a master's request at a port; behind these, of a request there that is a master's but for its source, and of a reply
+# to a request that has not crossed at its port.
+ADAPTED = ["an adapter before the port that renumbers sources, cuts requests, does atomics by gets and puts, or answers by itself: "
+           "`crossing = \"none\"` of the port"]
 # Of a wrong reply that is denied and should not be, or is not and should be.
 DENIED = ["`sizes`, `kind` and `ranges` of the port in the system file", "what the slave denies, or the crossbar in its place"]

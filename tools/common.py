@@ -34,7 +34,7 @@ SYSTEM_KEYS = {"": ("bus", "unaligned", "decode", "resets", "period", "port", "m
                     "slots", "extra"),
                "names": (*SIGNALS, "extra"),
                "port": ("name", "kind", "base", "length", "ranges", "reset", "image", "unknown", "sizes", "order", "bus", "mirror", "volatile",
-                        "on_reset", "hosts", "sources", "signals", "wires", "bits", "clock", "link_reset", "reset_active", "edge", "extra"),
+                        "on_reset", "hosts", "sources", "crossing", "signals", "wires", "bits", "clock", "link_reset", "reset_active", "edge", "extra"),
                "master": ("name", "sources", "first", "stride", "bus", "reach", "signals", "wires", "bits", "clock", "link_reset", "reset_active",
                           "edge", "ops", "extra"),
                "sizes": ("get", "putfull", "putpart", "arithmetic", "logical", "intent", "extra"),

@@ -2,9 +2,13 @@
 printed. One system has most: two masters with two sources each, a memory on their bus of 8 bytes, and one behind an adapter, with a bus of 4
 bytes. At the ports, core has the sources 0 and 1, and dma 2 and 3. The memories are zero at reset, except for the first 8 bytes of `slow`.
 
-The other system has ports that list masters. At `ram` the sources of dma are even ones, and those of core odd ones. At `slow` core has the sources
+The second system has ports that list masters. At `ram` the sources of dma are even ones, and those of core odd ones. At `slow` core has the sources
 8, 12, 16 and 20, and dma none. At `last`, core has 0 to 3, and dma 4 and 5.
+
+The third system has a port that is judged by itself, `far`, and one that is compared, `ram`, to which dma has no path.
 """
+
+from causes import ADAPTED
 
 SYSTEM = """[[port]]
 name = "ram"
@@ -277,4 +281,106 @@ SOCKET_CASES = (
     (["--complete"], HALF, (
         "core, source 1: it crossed at slow's link, line 3, time 11; slow has not answered it",
         "core, source 0: it has not crossed at last's link")),
+)
+
+APART = """[[port]]
+name = "ram"
+kind = "ram"
+base = 0x1000
+length = 64
+hosts = ["core"]
+[[port]]
+name = "far"
+kind = "ram"
+base = 0x2000
+length = 64
+crossing = "none"
+[[master]]
+name = "core"
+sources = 2
+[[master]]
+name = "dma"
+sources = 2
+"""
+# far answers what nobody has written there. Its source 1 is far's own, and no other link's.
+OWN_REPLY = """10,m0,A,4,0,0,0,2000,01,,,
+11,p1,A,4,0,0,1,2000,01,,,
+12,p1,D,1,,0,1,,,00000000000000ff,0,0
+"""
+# core gets what stood there before its put, which far has not seen.
+OLD_BYTE = """10,m0,A,0,0,0,0,2000,01,00000000000000aa,,
+11,m0,D,0,,0,0,,,,0,0
+12,m0,A,4,0,0,0,2000,01,,,
+13,m0,D,1,,0,0,,,0000000000000000,0,0
+"""
+# dma gets what stood there before the put of core, which is in flight.
+BEFORE_PUT = """10,m0,A,0,0,0,0,2000,01,00000000000000aa,,
+11,m1,A,4,0,0,0,2000,01,,,
+12,m1,D,1,,0,0,,,0000000000000000,0,0
+"""
+# At far's link a source is not dma's.
+NOT_FAR = """10,p1,A,4,0,0,2,1000,01,,,
+"""
+# Source 1 of far begins again. Source 1 of core, which is in flight at ram, is another one.
+AGAIN = """10,m0,A,4,0,0,1,1000,01,,,
+10,p0,A,4,0,0,1,1000,01,,,
+11,p1,A,4,0,0,1,2000,01,,,
+12,p1,A,4,0,0,1,2001,02,,,
+"""
+# Of a get of 8 bytes ram gets the first half, and of an atomic its get.
+HALVED = """10,m0,A,4,0,3,0,1000,ff,,,
+11,p0,A,4,0,2,0,1000,0f,,,
+"""
+BY_GET = """10,m0,A,2,4,2,0,1000,0f,0000000000000001,,
+11,p0,A,4,0,2,0,1000,0f,,,
+"""
+# Of two gets that differ in their address alone ram gets the second one with source 9, which is 0 + 9 * 1: no shift by bits.
+RENUMBERED = """10,m0,A,4,0,0,0,1000,01,,,
+11,m0,A,4,0,0,1,1001,02,,,
+12,p0,A,4,0,0,9,1001,02,,,
+"""
+# core is answered by nobody.
+INVENTED = """10,m0,A,0,0,0,0,1000,01,00000000000000aa,,
+11,m0,D,0,,0,0,,,,0,0
+"""
+# Of two requests one is for ram, and one for far, which has a request of its own.
+BOTH_LEFT = """10,m0,A,4,0,0,0,1000,01,,,
+11,m0,A,4,0,0,1,2000,01,,,
+12,p1,A,4,0,0,7,2000,01,,,
+"""
+IN_FAR = "in far: this reply is unlawful by what crossed at its link alone; all requests there are lawful up to there"
+OF_FAR = "between far and {}: all beats at the ports' links are lawful up to there, and this reply at {}'s link is not"
+ADAPTER, = ADAPTED
+APART_CASES = (
+    ([], OWN_REPLY, (
+        "the request: far, source 1: get 0x2000 of 1 byte, line 3, time 11", IN_FAR, "00: zero at reset",
+        "core, source 0: get 0x2000 of 1 byte, line 2, time 10; not answered yet", f"!{ADAPTER}")),
+    (["--links", "each"], OWN_REPLY, ("the request: far, source 1: get 0x2000 of 1 byte, line 3, time 11", IN_FAR)),
+    (["--links", "ports"], OWN_REPLY, ("the request: far, source 1 (source 1 of core): get 0x2000 of 1 byte, line 3, time 11", IN_FAR)),
+    ([], OLD_BYTE, (
+        "aa: core, source 0: putfull 0x2000 of 1 byte aa, line 2, time 10; answered at line 3, time 11", "00: it stood there before: zero at reset",
+        OF_FAR.format("core", "core"), "!at the other side: it has not crossed at far's link")),
+    ([], BEFORE_PUT, (
+        "with --order reply: lawful: 3 rows, 2 requests, 1 answered", OF_FAR.format("dma", "dma"),
+        "or the order of requests at far, whose link is judged by itself: with --order reply all is lawful")),
+    (["--links", "masters"], BEFORE_PUT, (
+        "or the order of requests at far, which --links masters does not show: with --order reply all is lawful",)),
+    ([], NOT_FAR, ("1 byte at 0x1000: the address of ram",)),
+    (["--links", "ports"], NOT_FAR, ("1 byte at 0x1000: the address of ram, and dma has no path there",)),
+    ([], AGAIN, ("the source is in flight: far, source 1: get 0x2000 of 1 byte, line 4, time 11; not answered yet",)),
+    ([], HALVED, (
+        "its master sent: core, source 0: get 0x1000 of 8 bytes, line 2, time 10; not answered yet", "size: 3 at the master's link, 2 here",
+        "it is a part of: core, source 0: get 0x1000 of 8 bytes, line 2, time 10; not answered yet", ADAPTER)),
+    ([], BY_GET, (
+        "operation: add at the master's link, get here",
+        "it is a part of: core, source 0: add 0x1000 of 4 bytes 01000000, line 2, time 10; not answered yet", ADAPTER)),
+    ([], RENUMBERED, (
+        "source 9 belongs to no master here: ram lists core",
+        "but for its source it is: core, source 1: get 0x1001 of 1 byte, line 3, time 11; not answered yet",
+        "!but for its source it is: core, source 0: get 0x1000 of 1 byte, line 2, time 10; not answered yet", ADAPTER)),
+    (["--links", "ports"], RENUMBERED, ("source 9 belongs to no master here: ram lists core", f"!{ADAPTER}")),
+    ([], INVENTED, ("ram has not answered it; captured AccessAck", "at the other side: it has not crossed at ram's link", ADAPTER)),
+    (["--complete"], BOTH_LEFT, (
+        "core, source 0: it has not crossed at ram's link", "!core, source 1: it has not crossed at far's link",
+        "far, source 7: get 0x2000 of 1 byte, line 4, time 12; not answered yet")),
 )

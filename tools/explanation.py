@@ -2,13 +2,14 @@
 tools/explain; nothing of it is proved.
 """
 
+import itertools
 import re
 
 from bus import reply_of
-from causes import CAUSES, DENIED, SHIFTED
+from causes import ADAPTED, CAUSES, DENIED, SHIFTED
 from common import carries_data
 from partial_memory import port_of
-from sides import Sides, Views
+from sides import MOST, Sides, Views
 from spelling import bytes_of, counted, hexadecimal, place_of, replied
 from story import ANSWERS, NAMES, Story, System, turn_of
 
@@ -39,8 +40,8 @@ class Explainer:
         self.sides = Sides(self)
 
     def whose(self, message):
-        """Whose source a request at a port has, if the view says so."""
-        owner = self.system.owner(message.link, message.source) if message.link[0] == "p" and self.view != "each" else None
+        """Whose source a request at a port has, if its link is not judged by itself."""
+        owner = self.system.owner(message.link, message.source) if message.link[0] == "p" else None
         return f" (source {owner[1]} of {self.system.names[f'm{owner[0]}']})" if owner else ""
 
     def name(self, message):
@@ -101,6 +102,7 @@ class Explainer:
         elif fault == "no such source":
             yield self.of_nobody(row)
         yield from self.of_shift(row, fault)
+        yield from (line for line, _ in self.of_adapter(row, fault))
 
     def with_address(self, link, source, address, size):
         """The port that has the address of a request, and that the master of its source has no path there if it has none."""
@@ -120,6 +122,11 @@ class Explainer:
     def of_shift(self, row, fault):
         """The requests that a beat at a port would fit with another shift of its source."""
         return self.sides.of_shift(row) if fault in OF_SHIFTS and (row.link[0], row.channel) == ("p", "A") else ()
+
+    def of_adapter(self, row, fault):
+        """What requests of masters a beat at a port may come from by an adapter, if its source is not theirs with another shift."""
+        is_asked = fault in OF_SHIFTS and (row.link[0], row.channel) == ("p", "A") and not any(self.of_shift(row, fault))
+        return [*itertools.islice(self.sides.of_adapter(row), MOST)] if is_asked else []
 
     def of_changed(self, first, row, columns):
         """Which fields a beat changes, and whether the message goes on."""
@@ -333,18 +340,23 @@ class Explainer:
         port = row.link if row.link[0] == "p" else f"p{asked.port}" if asked and under in (None, asked) else None
         other = self.sides.other(asked) if asked else None
         lawful = [order for order, said in orders if said.startswith("lawful:")]
-        is_shifted = any(self.of_shift(row, fault))
+        adapters = self.of_adapter(row, fault)
+        # a reply without a request at the port is one that something before it gives
+        is_adapted = bool(adapters) or fault == "the port gave no such reply" and other is None
+        hints = {"is_shifted": any(self.of_shift(row, fault)), "is_part": any(is_part for _, is_part in adapters), "is_adapted": is_adapted}
         where = [*self.sides.where(row, asked, port, self.views, lawful)]
         return {"line": row.line, "time": row.time, "link": found[3], "channel": row.channel, "why": lines, "where": where,
                 "request": self.record(asked) if asked else None, "other_side": self.record(other) if other else None,
                 "bytes": runs, "orders": [f"with --order {order}: {said}" for order, said in orders],
-                "in_flight": [self.record(message) for message in self.in_flight()], "look_at": causes_of(fault, wrong, lawful, is_shifted)}
+                "in_flight": [self.record(message) for message in self.in_flight()], "look_at": causes_of(fault, wrong, lawful, **hints)}
 
 
-def causes_of(fault, wrong, lawful, is_shifted):
-    """What to look at: first an order of requests with which all is lawful, or the shift of a source."""
+def causes_of(fault, wrong, lawful, is_shifted, is_part, is_adapted):
+    """What to look at: first an order of requests with which all is lawful, the shift of a source, or an adapter of which a part of a request comes;
+    last one that may have changed a request otherwise."""
     first = [f"the order in which requests take effect: with --order {order} all is lawful" for order in lawful[:1]] + SHIFTED * is_shifted
-    return first + (DENIED if wrong and bool(wrong[2]) != bool(wrong[5]) else CAUSES[fault.partition(":")[0]])
+    causes = DENIED if wrong and bool(wrong[2]) != bool(wrong[5]) else CAUSES[fault.partition(":")[0]]
+    return first + ADAPTED * is_part + causes + ADAPTED * (is_adapted and not is_part)
 
 
 def joined(run, other):
@@ -380,8 +392,8 @@ def told_of(words, verdict):
     found = VERDICT.fullmatch(verdict)
     if not found and not verdict.startswith("incomplete:"):
         return {}, None
-    system = System(words[-2])
     view, order = option(words, "--links", "both"), option(words, "--order", "accept")
+    system = System(words[-2], view)
     story = Story(system, order, view)
     story.tell(words[-1], int(found[1]) if found else None)
     explainer = Explainer(system, story, view, Views(words, view, order))

@@ -39,12 +39,13 @@ ENDS = {
 IMAGES = {"none.bin": None, "short.bin": 16, "page.bin": 4096, "long.bin": 70000}
 OTHERS = ("missing.bin", "folder", "dangling.bin", "", ".", "short.bin/", "/proc/self/mem", "/dev/null", "a" * 300, "\\u0000")
 WORDS = ["bus", "port", "master", "kind", "base", "length", "ranges", "image", "unknown", "sizes", "order", "mirror", "volatile", "resets", "on_reset", "hosts",
-         "sources", "first", "stride", "name", "names", "signals", "=",
+         "sources", "crossing", "first", "stride", "name", "names", "signals", "=",
          "=", "[[port]]", "[[master]]", "[", "]", "{", "}", ",", "\n", "\n", "0", "1", "4", "64", "-1", "65536", "0x1000", "1.5", "true", "'ram'",
          "'device'", "'short.bin'", "'00ff'", "'accept'", "[0, 3]", "'''", '"""', "#", "\\", "\0", "é"]
 VALUES = ["0", "1", "2", "4", "16", "-1", "64", "0x1000", "0x1_0000", "65536", "9223372036854775807", "9223372036854775808", "1.5", "true", "false",
           "'ram'", "'rom'", "'regs'", "'w1c'", "'device'", "'error'", "''", "'00'", "'0'", "'short.bin'", "'long.bin'", "'missing.bin'", "'folder'",
-          "'accept'", "'reply'", "'any'", "'all'", "'m0'", "'dram'", "[[0, 1]]", "[[0, 1], [0, 1]]", "[]", "{}", "{ get = [0, 2] }", "{ get = [2, 0] }",
+          "'accept'", "'reply'", "'any'", "'all'", "'none'", "'same'", "'m0'", "'dram'", "[[0, 1]]", "[[0, 1], [0, 1]]", "[]", "{}",
+          "{ get = [0, 2] }", "{ get = [2, 0] }",
           "{ get = 1 }", "[1]", "[0]", "['core', 0]", "[{ master = 0, first = 0 }]", "[{ master = 1, first = 65535, stride = 2 }]"]
 CELLS = ["0", "1", "2", "3", "4", "7", "8", "9", "10", "256", "65536", "m0", "m1", "p0", "p1", "p300", "A", "D", "", "", "1000", "f", "0f", "ff", "x",
          "00000000", "0000000000000000", "xxxxxxxx", "18446744073709551616", '"', '"1"', "é", "\0"]
@@ -129,6 +130,7 @@ def port_of(rng, place, wild):
             (0.2, "hosts", ["[0]"] + ["[1, 0]", "[]", "[0, 0]", "[-1]", "['m0']", "[0.0]", "1", f"{[*range(64)]}", f"{[0] * 65}"] * odd),
             (0.1, "sources", ["[{ master = 0, first = 9 }]"] + ["[]", "1", "[{}]", "[{ master = 0, first = 65535, stride = 65535 }]",
                                                                 "[{ master = 1, first = 0 }, { master = 0, first = 0 }]", "[{ first = 0, x = 1 }]"] * odd),
+            (0.3, "crossing", ["'none'", "'same'"] + ["''", "'None'", "'parts'", "true", "['none']", "{}"] * odd),
             (0.3, "name", [f"'s{place}'"] + ["'p0'", "''", "1", "'s0'"] * odd)):
         if rng.random() < chance:
             text.append(f"{key} = {rng.choice(values)}")

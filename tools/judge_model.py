@@ -147,6 +147,8 @@ class Judge:
         self.links = {(side, number): Link(side, number, table, bus_of(system, table))
                       for side, tables in (("m", masters), ("p", ports)) for number, table in enumerate(tables)}
         self.watched = {"masters": "m", "ports": "p"}.get(links, "mp")
+        # the ports whose links are judged by themselves
+        self.apart = [links == "each" or links == "both" and port.get("crossing") == "none" for port in ports]
         # what is counted and traced
         self.told = "p" if links == "ports" else "m"
         self.slaves = {side: [*(Slave(port, images.get(number, b""), self.resets) for number, port in enumerate(ports)), Slave(ERROR_PORT)]
@@ -164,17 +166,18 @@ class Judge:
         """Whose a source of a link is: a master's own, or at a port's link that of the master that has it there; alone, a port has each source."""
         if link.side == "m":
             return (link.number, source) if source < self.masters[link.number]["sources"] else None
-        return (None, source) if self.view == "each" else self.sources.owner(link.number, source)
+        return (None, source) if self.apart[link.number] else self.sources.owner(link.number, source)
 
     def is_in_flight(self, link, source, owner):
         """Whether a source is in flight: at a port's link the owner's own source, which may stand at another port's link with another number."""
-        if link.side == "m" or self.view == "each":
+        if link.side == "m" or self.apart[link.number]:
             return source in link.flights
-        return any(self.sources.wide(other.number, *owner) in other.flights for other in self.links.values() if other.side == "p")
+        others = [other for other in self.links.values() if other.side == "p" and not self.apart[other.number]]
+        return any(self.sources.wide(other.number, *owner) in other.flights for other in others)
 
     def crosses(self, link, flight):
         """Whether what is asked and answered at a link is compared with the other side."""
-        return self.view == "both" and (link.side == "p" or flight.port < len(self.ports))
+        return self.view == "both" and flight.port < len(self.ports) and not self.apart[flight.port]
 
     def slave_of(self, link, flight):
         """The slave that a request is served by, as this link shows it; none if the port's link shows it."""
@@ -327,7 +330,8 @@ class Judge:
     def left(self):
         """The requests that are left at the end, the oldest first."""
         for side in "p" if self.view == "ports" else "m" if self.view in ("masters", "each") else "mp":
-            flights = [flight for link in self.links.values() if link.side == side for flight in link.flights.values()]
+            links = [link for link in self.links.values() if link.side == side and not (side == "p" and self.apart[link.number])]
+            flights = [flight for link in links for flight in link.flights.values()]
             if flights:
                 return sorted(flights, key=lambda flight: turn_of(flight.row))
         return []

@@ -11,7 +11,7 @@ from wide_sources import WideSources, is_reached
 # What a crossbar or a slave of a run may do wrong.
 BUGS = ("byte of a reply at its port", "byte of a reply at its master", "byte of a request", "denial of a reply", "lost put", "sent twice",
         "sent to another port", "early reply", "reply to another source", "unknown byte of a reply", "source shifted otherwise", "source of another master",
-        "sent without a path", "source sent twice")
+        "sent without a path", "source sent twice", "number in flight given again", "number of an adapter that the system does not have")
 # The greatest source at a port's link.
 MAX_WIDE = 65_535
 
@@ -53,16 +53,10 @@ def port_of_system(rng, number, images):
         port["image"] = f"image_{number}.bin"
     if rng.random() < 0.5:
         port["unknown"] = rng.random() < 0.8
-    if rng.random() < 0.3:
-        port["sizes"] = sizes_of(rng)
-    if rng.random() < 0.3:
-        port["order"] = order_of(rng)
-    if rng.random() < 0.3:
-        port["name"] = f"slave_{number}"
-    if rng.random() < 0.3:
-        port["volatile"] = [volatile_of(rng, ranges[0][1]) for _ in range(rng.choice([1, 1, 2, 5]))]
-    if rng.random() < 0.3:
-        port["on_reset"] = rng.choice(["keep", "load"])
+    others = {"sizes": lambda: sizes_of(rng), "order": lambda: order_of(rng), "name": lambda: f"slave_{number}",
+              "volatile": lambda: [volatile_of(rng, ranges[0][1]) for _ in range(rng.choice([1, 1, 2, 5]))],
+              "on_reset": lambda: rng.choice(["keep", "load"]), "crossing": lambda: rng.choice(["none", "none", "same"])}
+    port.update((key, value()) for key, value in others.items() if rng.random() < 0.3)
     return port
 
 
@@ -202,11 +196,13 @@ class Channel:
         self.front, self.message, self.waiting = front, None, []
 
     def beat(self, rng):
-        """The row of a beat that crosses now, if one does."""
+        """The row of a beat that crosses now, if one does. A message begins when its first beat crosses, unless that has to wait as its last."""
+        if rng.random() < 0.2:
+            return None
         if self.message is None and self.waiting and rng.random() < 0.7:
             self.message = self.waiting.pop(rng.randrange(len(self.waiting)))()
         message = self.message
-        if message is None or rng.random() < 0.2 or len(message.rows) == 1 and not message.may_end():
+        if message is None or len(message.rows) == 1 and not message.may_end():
             return None
         row = message.rows.popleft()
         if not message.rows:
@@ -216,11 +212,11 @@ class Channel:
 
 
 class Transfer:
-    """A request on its way through the crossbar and back."""
+    """A request on its way through the crossbar and back. An adapter's own request has no master."""
 
-    def __init__(self, ask, master, source, port):
+    def __init__(self, ask, port, master=None, source=None):
         self.ask, self.master, self.source, self.port = ask, master, source, port
-        self.has_left, self.has_come = False, False
+        self.has_left, self.has_come = master is None, False
         # the request at the master's link and at the port's, and the reply at either
         self.at_master, self.at_port, self.replies = None, None, []
 
@@ -228,23 +224,25 @@ class Transfer:
 class Service:
     """A request that a slave has accepted. It takes effect once, at the latest as its reply begins."""
 
-    def __init__(self, run, transfer, number):
-        self.run, self.transfer, self.number, self.reply = run, transfer, number, None
+    def __init__(self, run, transfer, slave):
+        self.run, self.transfer, self.slave, self.reply = run, transfer, slave, None
 
     def done(self):
         """The slave's reply, once the request has taken effect."""
-        self.reply = self.reply or self.run.slave_reply(self.transfer, self.number)
+        self.reply = self.reply or self.run.slave_reply(self.transfer, self.slave)
         return self.reply
 
 
 class Run:
     """A run of a crossbar: each master's requests go to their port, are served there in its order, and their replies come back. One that is
     serial has one request at a time: else ports may take requests in another order than they leave the masters. With the order "any" each
-    request waits for a moment of its own."""
+    request waits for a moment of its own. Before the ports `renumbered` each request gets a free source. The adapters before the ports `fronts`
+    answer masters by memories of their own, in the order of the masters' side, and ask their ports what they like."""
 
-    def __init__(self, rng, system, images, order, bug=None, is_renumbering=False, is_serial=False):
+    def __init__(self, rng, system, images, order, bug=None, is_serial=False, renumbered=(), fronts=()):
         self.rng, self.system, self.ports, self.masters, self.order = rng, system, system["port"], system["master"], order
-        self.is_renumbering, self.is_serial = is_renumbering, is_serial
+        self.is_serial, self.renumbered = is_serial, {*renumbered, *fronts}
+        self.fronts = {number: Slave(self.ports[number], images.get(number, b"")) for number in sorted(fronts)}
         self.bug = bug
         self.buses = {"m": [Bus(bus_of(system, master)) for master in self.masters], "p": [Bus(bus_of(system, port)) for port in self.ports]}
         self.slaves = [*(Slave(port, images.get(number, b"")) for number, port in enumerate(self.ports)), Slave(ERROR_PORT)]
@@ -293,9 +291,10 @@ class Run:
     def reset(self):
         """The row of a reset of the whole system. A slave may have done any part of a request whose reply has not begun."""
         for transfer in self.transfers:
-            if transfer.at_port and not any(reply.crossed() for reply in transfer.replies) and self.rng.random() < 0.7:
-                self.slaves[transfer.port].cut(self.cut_short(transfer))
-        for slave in self.slaves:
+            is_there = transfer.at_port or transfer.at_master and not self.goes_on(transfer)
+            if is_there and not any(reply.crossed() for reply in transfer.replies) and self.rng.random() < 0.7:
+                self.slave_of(transfer).cut(self.cut_short(transfer))
+        for slave in (*self.slaves, *self.fronts.values()):
             slave.reset()
         for channel in self.channels.values():
             channel.message = None
@@ -307,11 +306,19 @@ class Run:
         return "reset" + "," * 10
 
     def cut_short(self, transfer):
-        """A request with the bytes that have crossed both links."""
+        """A request with the bytes that have crossed its links."""
         ask = transfer.ask
-        messages = ((self.buses["m"][transfer.master], transfer.at_master), (self.buses["p"][transfer.port], transfer.at_port))
-        count = min(message.crossed() * len(bus.lanes(ask.address, ask.size)[1]) for bus, message in messages)
+        messages = (("m", transfer.master, transfer.at_master), ("p", transfer.port, transfer.at_port))
+        count = min(message.crossed() * len(self.buses[side][number].lanes(ask.address, ask.size)[1]) for side, number, message in messages if message)
         return ask._replace(data=ask.data[:count])
+
+    def goes_on(self, transfer):
+        """Whether a request crosses at its port's link: the error port has none, and adapters with memories answer masters themselves."""
+        return transfer.port < len(self.ports) and (transfer.master is None or transfer.port not in self.fronts)
+
+    def slave_of(self, transfer):
+        """What serves a request: its port's slave, or an adapter's memory."""
+        return self.slaves[transfer.port] if self.goes_on(transfer) else self.fronts.get(transfer.port, self.slaves[transfer.port])
 
     def is_idle(self):
         """Whether no request is in flight."""
@@ -335,7 +342,7 @@ class Run:
                 if not self.has_bug("source sent twice"):
                     self.free[master].remove(source)
                 ask = asks.pop()
-                transfer = Transfer(ask, master, source, self.port_to(master, ask))
+                transfer = Transfer(ask, self.port_to(master, ask), master, source)
                 self.transfers.append(transfer)
                 channel.waiting.append(lambda transfer=transfer: self.ask_at_master(transfer))
 
@@ -344,17 +351,35 @@ class Run:
         right, near = (port_of(self.system, sender, ask.address, ask.size) for sender in (master, None))
         return near if right != near and self.has_bug("sent without a path") else right
 
+    def send(self, transfer):
+        """A request waits for its turn at its port's link."""
+        port = self.rng.randrange(len(self.ports)) if self.has_bug("sent to another port") else transfer.port
+        for _ in range(1 + self.has_bug("sent twice")):
+            self.channels["p", port, "A"].waiting.append(lambda: self.ask_at_port(transfer, port))
+
+    def asks_behind(self, transfer):
+        """What an adapter asks its port when a master asks: the same, two halves of it, a get before a put, what comes to its mind, or nothing."""
+        rng, (name, address, size, data) = self.rng, transfer.ask
+        asks, how = [transfer.ask], rng.choice(["same", "same", "halves", "get and put", "other", "nothing"])
+        if how == "halves" and size and (not data or name.startswith("put")):
+            half = 1 << size - 1
+            asks = [Ask(name, address + place, size - 1, data[place:place + half]) for place in (0, half)]
+        elif how == "get and put" and data:
+            asks = [Ask("get", address, size, []), Ask("putfull", address, size, [byte or 0 for byte in data])]
+        elif how == "other":
+            asks = [ask_of(rng, [self.ports[transfer.port]], (), self.system.get("unaligned", False)) for _ in range(rng.randrange(3))]
+        asks = [ask for ask in asks if how != "nothing" and port_of(self.system, None, ask.address, ask.size) == transfer.port]
+        return [Transfer(ask, transfer.port) for ask in asks]
+
     def ask_at_master(self, transfer):
-        port = transfer.port
-        if port < len(self.ports):
-            if self.has_bug("sent to another port"):
-                port = self.rng.randrange(len(self.ports))
-            for _ in range(1 + self.has_bug("sent twice")):
-                self.channels["p", port, "A"].waiting.append(lambda: self.ask_at_port(transfer, port))
+        behind = [transfer] if self.goes_on(transfer) else self.asks_behind(transfer) if transfer.port in self.fronts else []
+        for request in behind:
+            self.send(request)
+        self.transfers += [request for request in behind if request is not transfer]
 
         def leave():
             transfer.has_left = True
-            if transfer.port == len(self.ports):
+            if not self.goes_on(transfer):
                 self.accept(transfer)
 
         transfer.at_master = Message(self.columns("m", transfer.master, transfer.ask, transfer.source), lambda: True, leave)
@@ -379,10 +404,13 @@ class Run:
 
     def wide_of(self, transfer, port):
         """The source at the port's link: that of its owner, or a free one of the port's own."""
-        if not self.is_renumbering:
+        own, used = transfer.master is None or port in self.renumbered, self.used[port]
+        if not own and not self.has_bug("number of an adapter that the system does not have"):
             return self.owned_wide(transfer, port)
-        wide = self.rng.choice([number for number in (0, 1, 2, 3, 4, 5, 6, 7, 300, 65535, *range(20, 40)) if number not in self.used[port]])
-        self.used[port].add(wide)
+        if used and self.has_bug("number in flight given again"):
+            return self.rng.choice(sorted(used))
+        wide = self.rng.choice([number for number in (0, 1, 2, 3, 4, 5, 6, 7, 300, MAX_WIDE, *range(20, 290)) if number not in used][:30])
+        used.add(wide)
         return wide
 
     def ask_at_port(self, transfer, port):
@@ -391,7 +419,7 @@ class Run:
             ask = ask._replace(data=self.spoiled(ask.data))
         early = self.has_bug("early reply")
         if early:
-            self.reply_begins(transfer, port, wide, Service(self, transfer, port))
+            self.reply_begins(transfer, port, wide, Service(self, transfer, self.slaves[port]))
 
         def end():
             if not early:
@@ -400,23 +428,23 @@ class Run:
         transfer.at_port = Message(self.columns("p", port, ask, wide), lambda: transfer.has_left, end)
         return transfer.at_port
 
-    def order_of(self, number):
-        """When the requests of a port take effect, as its own link shows it; those of the error port are seen at the masters' links alone."""
-        return order_at(self.ports[number], "p", self.order) if number < len(self.ports) else order_at(ERROR_PORT, "m", self.order)
+    def order_of(self, number, side):
+        """When the requests of a port take effect, as the links of a side show it."""
+        return order_at(self.ports[number] if number < len(self.ports) else ERROR_PORT, side, self.order)
 
     def accept(self, transfer, port=None, wide=None):
-        """The last beat of a request has crossed at its port's link, or at its master's if it is the error port's."""
-        number = transfer.port if port is None else port
-        service, order = Service(self, transfer, number), self.order_of(number)
+        """The last beat of a request has crossed at a port's link, or at its master's if it does not go on."""
+        slave, side = (self.slave_of(transfer), "m") if port is None else (self.slaves[port], "p")
+        service, order = Service(self, transfer, slave), self.order_of(transfer.port if port is None else port, side)
         if order == "accept":
             service.done()
         elif order == "any":
             self.services.append(service)
         self.reply_begins(transfer, port, wide, service)
 
-    def slave_reply(self, transfer, number):
+    def slave_reply(self, transfer, slave):
         """What the slave answers: bytes that nobody knows are anything, and a device answers what it likes."""
-        rng, slave = self.rng, self.slaves[number]
+        rng = self.rng
         if transfer.ask.data and self.has_bug("lost put"):
             return Reply(False, slave.window(transfer.ask) if reply_of(transfer.ask.name) == "AccessAckData" else [])
         expected, _ = slave.served_next(transfer.ask)
@@ -440,7 +468,7 @@ class Run:
         return [*data[:at], other, *data[at + 1:]]
 
     def reply_begins(self, transfer, port, wide, service):
-        """A reply waits for its turn: at the port's link, or at the master's if it is the error port's."""
+        """A reply waits for its turn: at the port's link, or at the master's if its request did not go on."""
         if port is None:
             self.channels["m", transfer.master, "D"].waiting.append(lambda: self.reply_at_master(transfer, service.done()))
         else:
@@ -465,7 +493,8 @@ class Run:
         return rows
 
     def reply_at_port(self, transfer, port, wide, reply):
-        self.channels["m", transfer.master, "D"].waiting.append(lambda: self.reply_at_master(transfer, reply))
+        if transfer.master is not None:
+            self.channels["m", transfer.master, "D"].waiting.append(lambda: self.reply_at_master(transfer, reply))
 
         def end():
             transfer.has_come = True
@@ -476,7 +505,7 @@ class Run:
         return transfer.replies[-1]
 
     def reply_at_master(self, transfer, reply):
-        if transfer.port == len(self.ports):
+        if not self.goes_on(transfer):
             transfer.has_come = True
         if reply.data and not reply.denied and self.has_bug("byte of a reply at its master"):
             reply = reply._replace(data=self.spoiled(reply.data))

@@ -4,7 +4,7 @@ import json
 
 # The keys of a system file and of a script, in the order in which they are written.
 PORT_KEYS = ("name", "kind", "base", "length", "ranges", "reset", "image", "unknown", "sizes", "order", "bus", "mirror", "volatile", "on_reset", "hosts",
-             "sources")
+             "sources", "crossing")
 MASTER_KEYS = ("name", "sources", "first", "stride", "bus", "reach")
 
 

@@ -1,11 +1,11 @@
 """Both sides of the crossbar at a fault: on which side it lies, the same message at the other side, the first difference between both, and
-the replies that a master has not had. For tools/explain; nothing of it is proved. Messages of both sides are compared if the view is `both`:
-with another one nobody knows that they are the same.
+the replies that a master has not had. For tools/explain; nothing of it is proved. Messages of both sides are compared if the view is `both`, but
+for those of ports that are judged by themselves: else nobody knows that they are the same.
 """
 
 from bus import reply_of
 from capture_input import said_by
-from common import ORDERS, TLCHECK
+from common import ORDERS, TLCHECK, carries_data
 from spelling import counted, hexadecimal, place_of, replied
 from story import ANSWERS, NAMES
 
@@ -17,6 +17,15 @@ OTHER_VIEW = {"masters": "ports", "ports": "masters"}
 def beat_with(rows, place, bus):
     """The beat of a message that carries its byte at a place."""
     return rows[min(place // bus.width, len(rows) - 1)]
+
+
+def is_part_of(row, message):
+    """Whether a beat of a request asks for some bytes of a message, or does a part of its atomic."""
+    name, start = NAMES.get((row.number(3), row.number(4))), row.address()
+    is_atomic = carries_data(message.name) and reply_of(message.name) == "AccessAckData"
+    is_less = row.number(5) < message.size and name == message.name
+    return message.address <= start and start + (1 << row.number(5)) <= message.window().stop and (
+        is_less or is_atomic and name in ("get", "putfull", "putpart"))
 
 
 def asks_same(row, message):
@@ -50,10 +59,13 @@ class Sides:
 
     def __init__(self, explainer):
         self.explainer, self.system, self.story, self.view = explainer, explainer.system, explainer.story, explainer.view
-        self.are_compared = self.view == "both"
 
     def name(self, link):
         return self.system.names.get(link, link)
+
+    def compares(self, port):
+        """Whether messages of the link of a port are compared with those of the masters' links."""
+        return self.view == "both" and port in self.system.buses and port not in self.system.apart
 
     # ---- the same message at the other side
 
@@ -73,14 +85,14 @@ class Sides:
         return found if found and found.port == message.port else None
 
     def other(self, message):
-        """The same request at the other side: None if the view does not compare both, or if it has not crossed there."""
-        if not self.are_compared:
+        """The same request at the other side: None if it is not compared, or if it has not crossed there."""
+        if not self.compares(f"p{message.port}"):
             return None
         return self.at_port(message) if message.link[0] == "m" else self.at_master(message)
 
     def of_other(self, message):
         """Where the same request stands at the other side."""
-        if not self.are_compared or f"p{message.port}" not in self.system.buses:
+        if not self.compares(f"p{message.port}"):
             return
         found, owner = self.other(message), self.system.owner(message.link, message.source)
         link = f"p{message.port}" if message.link[0] == "m" else f"m{owner[0]}" if owner else None
@@ -91,7 +103,7 @@ class Sides:
 
     def of_sender(self, row):
         """What the owner of the source of a request that begins at a port's link has in flight."""
-        owner = self.system.owner(row.link, row.number(6)) if self.are_compared else None
+        owner = self.system.owner(row.link, row.number(6)) if self.compares(row.link) else None
         if owner:
             found = self.story.flights.get((f"m{owner[0]}", owner[1]))
             said = self.explainer.text(found) if found else f"nothing is in flight of source {owner[1]} of {self.name(f'm{owner[0]}')}"
@@ -145,7 +157,7 @@ class Sides:
 
     def of_fields(self, row):
         """Which requests of the masters in flight have the fields of a beat at a port."""
-        if row.link[0] == "p" and self.are_compared:
+        if self.compares(row.link):
             found = [message for (link, _), message in self.story.flights.items() if link[0] == "m" and self.has_fields(row, message)]
             yield from (f"these are the fields of: {self.explainer.text(message)}" for message in found[:MOST])
 
@@ -156,7 +168,7 @@ class Sides:
     def of_shift(self, row):
         """The requests of masters that a beat at a port fits but for its source, if that is theirs with another shift."""
         port, wide = int(row.link[1:]), row.number(6)
-        for message in self.story.flights.values() if self.are_compared else ():
+        for message in self.story.flights.values() if self.compares(row.link) else ():
             # a source 0 is the same with each shift
             if message.link[0] == "m" and message.source and message.port == port and asks_same(row, message) and self.at_port(message) is None:
                 first, stride = self.system.sources.places[port][int(message.link[1:])]
@@ -164,6 +176,18 @@ class Sides:
                 if rest == 0 and other != stride and other.bit_count() == 1:
                     yield (f"source {wide} is {first} + {other} * {message.source}, and {first} + {stride} * {message.source} is wanted of: "
                            f"{self.explainer.text(message)}")
+
+    def of_adapter(self, row):
+        """The requests of masters that a beat at a port may come from, if something before the port changes more than their beats: lines, and whether
+        it is a part of that request."""
+        owner, text = self.system.owner(row.link, row.number(6)), self.explainer.text
+        for (link, source), message in self.story.flights.items() if self.compares(row.link) else ():
+            if link[0] == "m" and f"p{message.port}" == row.link:
+                is_own = owner == (int(link[1:]), source)
+                if is_part_of(row, message):
+                    yield f"it is a part of: {text(message)}", True
+                elif not is_own and asks_same(row, message) and self.at_port(message) is None:
+                    yield f"but for its source it is: {text(message)}", False
 
     def goes_on(self, row, first, columns):
         """Whether a message goes on behind a beat that does not fit it."""
@@ -202,8 +226,9 @@ class Sides:
 
     def of_order(self, row, port, lawful):
         """At a master's link, if the view has no order of requests at the port: that it may be this one."""
-        if row.link[0] == "m" and not self.are_compared and port in self.system.buses and lawful:
-            yield f"or the order of requests at {self.name(port)}, which --links {self.view} does not show: with --order {lawful[0]} all is lawful"
+        if row.link[0] == "m" and not self.compares(port) and port in self.system.buses and lawful:
+            why = "whose link is judged by itself" if port in self.system.apart else f"which --links {self.view} does not show"
+            yield f"or the order of requests at {self.name(port)}, {why}: with --order {lawful[0]} all is lawful"
 
     def side_of(self, row, port, views):
         name, side = self.name(row.link), row.link[0]
@@ -240,7 +265,7 @@ class Sides:
         link = row.link
         if link[0] == "p":
             owner = self.system.owner(link, message.source) if message else None
-            link = f"m{owner[0]}" if owner and self.view != "each" else None
+            link = f"m{owner[0]}" if owner else None
         widths = [self.system.buses[at].width for at in (link, port) if at]
         if len(set(widths)) == 2:
             yield f"the bus has {counted(widths[0], 'byte')} at {self.name(link)}'s link and {counted(widths[1], 'byte')} at {self.name(port)}'s"
@@ -257,8 +282,8 @@ class Sides:
 
     def where_left(self):
         """How far the oldest requests that are left at masters' links have come at the other side."""
-        left = [message for message in self.explainer.in_flight() if message.link[0] == "m" and f"p{message.port}" in self.system.buses]
-        for message in left[:MOST] if self.are_compared else ():
+        left = [message for message in self.explainer.in_flight() if message.link[0] == "m" and self.compares(f"p{message.port}")]
+        for message in left[:MOST]:
             given, port = self.at_port(message), self.name(f"p{message.port}")
             asker = f"{self.name(message.link)}, source {message.source}"
             if given is None:

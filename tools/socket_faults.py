@@ -116,6 +116,19 @@ ORDER = (PORT, {
     "hosts = []\n[[master]]": "hosts out of range",
     f"sources = [{{ master = 0, first = 65536 }}]\n{OTHER}hosts = 1": "sources out of range",
     f"hosts = [7]\n{OTHER}hosts = 1": "wrong type of hosts",
+    # and before crossing, of which a port with a list is asked too
+    "crossing = 1\nhosts = 1": "wrong type of hosts",
+    "crossing = ''\nsources = []": "sources out of range",
+    "crossing = ''\nhosts = [0]\nsources = [{ master = 0, first = 0 }]": "sources out of range",
+    "hosts = ['cpu']\ncrossing = 1": "wrong type of crossing",
+    "hosts = ['gpu']\ncrossing = ''": "crossing out of range",
+    f"sources = [{{ master = 7, first = 0 }}]\n{OTHER}crossing = 'parts'": "crossing out of range",
+    "hosts = ['cpu']\ncrossing = 'none'": "",
+    # the list of a port that is judged by itself is looked at all the same
+    "hosts = ['gpu']\ncrossing = 'none'": "hosts out of range",
+    "hosts = [1]\ncrossing = 'none'\n[[master]]\nname = 'gpu'\nsources = 1\nreach = ['ram']": "reach out of range",
+    "sources = [{ master = 0, first = 0 }, { master = 1, first = 3 }]\ncrossing = 'none'": "port 0: masters 0 and 1 share source 3",
+    "sources = [{ master = 0, first = 65533 }]\ncrossing = 'none'": "port 0: too many masters or sources",
     # which masters: behind all keys of masters, port by port
     "hosts = ['gpu']\n[[port]]": "missing kind",
     "hosts = ['gpu']\n[[master]]": "missing sources",

@@ -118,9 +118,9 @@ def meet(window, other):
 
 
 class System:
-    """What a system file says, as far as a story needs it."""
+    """What a system file says, as far as a story needs it, in a view of the links."""
 
-    def __init__(self, path):
+    def __init__(self, path, view="both"):
         with open(path, "rb") as file:
             table = tomllib.load(file)
         self.folder = os.path.dirname(path)
@@ -129,9 +129,15 @@ class System:
         self.names = {f"{side}{number}": it.get("name", f"{side}{number}") for side, tables in self.tables.items()
                       for number, it in enumerate(tables)}
         self.sources = WideSources(table)
+        # the ports' links that are judged by themselves
+        self.apart = {f"p{number}" for number, port in enumerate(self.tables["p"])
+                      if view == "each" or view == "both" and port.get("crossing") == "none"}
 
     def owner(self, link, source):
-        """Whose a source is: the number of the master, and the master's own source; None if it is nobody's at this link of a port."""
+        """Whose a source is: the number of the master, and the master's own source; None if it is nobody's at this link of a port, or if the link is
+        judged by itself."""
+        if link in self.apart:
+            return None
         return (int(link[1:]), source) if link[0] == "m" else self.sources.owner(int(link[1:]), source)
 
     def wide(self, port, owner):
@@ -139,8 +145,8 @@ class System:
         return self.sources.wide(port, *owner) if port < len(self.tables["p"]) else None
 
     def port_of(self, link, source, address, size):
-        """The number of the port to which a request of a source at a link goes, by its master's paths; if nobody has the source, by its address
-        alone."""
+        """The number of the port to which a request of a source at a link goes, by its master's paths; if no master is known to have the source, by
+        its address alone."""
         owner = self.owner(link, source)
         return port_of(self.table, owner and owner[0], address, size)
 

@@ -419,6 +419,45 @@ NO_RESETS = ("resets = false\n" + PORT, {
     "on_reset = 'keep'": "missing master",
     "on_reset = 'load'\n[[master]]\nsources = 1": "",
 })
+# What is compared of a port's messages between both sides: the word is looked at whichever links are judged.
+CROSSING = (PORT, {
+    "crossing = 1": "wrong type of crossing",
+    "crossing = false": "wrong type of crossing",
+    "crossing = ['none']": "wrong type of crossing",
+    "crossing = { word = 'none' }": "wrong type of crossing",
+    "crossing = ''": "crossing out of range",
+    "crossing = 'None'": "crossing out of range",
+    "crossing = 'none '": "crossing out of range",
+    "crossing = 'some'": "crossing out of range",
+    "crossing = 'parts'": "crossing out of range",
+    "crossing = 'each'": "crossing out of range",
+    "crossing = 'none'": "missing master",
+    "crossing = 'same'": "missing master",
+    "crossing = 'none'\n[[master]]\nsources = 1": "",
+    "crossing = 'same'\n[[master]]\nsources = 1": "",
+    # after what a reset does, and before the next port
+    "crossing = 1\non_reset = 1": "wrong type of on_reset",
+    "crossing = 1\non_reset = ''": "on_reset out of range",
+    "crossing = 1\non_reset = 'keep'": "wrong type of crossing",
+    "crossing = ''\nvolatile = []": "volatile out of range",
+    "crossing = ''\norder = 1": "wrong type of order",
+    "crossing = 1\n[[port]]": "wrong type of crossing",
+    "crossing = ''\n[[port]]": "crossing out of range",
+    "crossing = 'none'\n[[port]]": "missing kind",
+    "crossing = 'none'\n[[port]]\nkind = 'w1c'\nbase = 8\nlength = 8\ncrossing = 'Same'": "crossing out of range",
+    "crossing = ''\n[[master]]\nsources = 0": "crossing out of range",
+    # of a device too
+    "[[port]]\nkind = 'device'\nbase = 8\nlength = 8\ncrossing = 1": "wrong type of crossing",
+    "[[port]]\nkind = 'device'\nbase = 8\nlength = 8\ncrossing = 'none'": "missing master",
+    # no other table has the key, and it has no other name
+    "[[master]]\ncrossing = 'none'": "unknown key crossing (near: clock)",
+    "order = { crossing = 'none' }": "unknown key crossing (near: masters)",
+    "crosing = 'none'\ncrossing = 1": "unknown key crosing (near: crossing)",
+    "crossings = 'none'": "unknown key crossings (near: crossing)",
+    "Crossing = 'none'": "unknown key Crossing (near: crossing)",
+    # hosts stands before crossing, and is as near
+    "cross = 'none'": "unknown key cross (near: hosts)",
+})
 MASTERS = ("[[master]]\n", {
     "name = 1\nsources = 0": "wrong type of name",
     "name = 'm7'": "name out of range",
@@ -589,7 +628,7 @@ SHARED = ("", {
     masters_at(*(65535 if at in (2, 11) else at for at in range(12))): "masters 2 and 11 share source 65535",
 })
 TABLES = (DOCUMENTS, UNKNOWN_KEYS, NAMES, PLAIN_PORTS, RANGES, DEVICE_RANGES, CONTENTS, ONE_RANGE, SIZES, ORDERS_AND_BUSES, VOLATILE, ON_RESET, RESETS,
-          NO_RESETS, MASTERS, REACH, TWO_MASTERS, PARTS, SHARED, IMAGES)
+          NO_RESETS, CROSSING, MASTERS, REACH, TWO_MASTERS, PARTS, SHARED, IMAGES)
 
 
 def rows(given=TABLES):

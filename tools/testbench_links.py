@@ -182,7 +182,8 @@ def set_widths(links, system, given):
             if type(bits) is not int or not 1 <= bits <= most:
                 link.fail(f"{kind}_bits out of range")
             link.widths[kind] = bits
-        if (1 << link.widths["source"]) <= greatest:
+        # a port's link that is judged by itself has sources of its own
+        if (1 << link.widths["source"]) <= greatest and link.table.get("crossing") != "none":
             link.fail(f"a_source has {link.widths['source']} bits, and its sources go to {greatest}")
 
 

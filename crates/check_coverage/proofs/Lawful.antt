@@ -8,11 +8,11 @@ use Rattle.check_watch.specs.declared.beat.Beat.TheVariants.{A, D}
 use Rattle.check_watch.specs.declared.beat.Link.{Link}
 use Rattle.check_watch.specs.declared.beat.Link.TheVariants.{Master, Port}
 use Rattle.check_watch.specs.Lawful.{IsAllowedBeat}
-use Rattle.check_watch.specs.Plan.{HasSource, Plan, Sighting, source_of, wide_of}
+use Rattle.check_watch.specs.Plan.{HasSource, Layout, Plan, Sighting, is_apart, source_of, wide_of}
 use Rattle.check_watch.specs.Scene.{Scene}
 use Rattle.check_watch.specs.declared.links.Links.{Links}
 use Rattle.check_watch.specs.declared.links.Links.TheVariants.{Both, Masters, Ports, Each}
-use Rattle.check_sides.specs.Groups.{is_alone, plan_at, port_plan}
+use Rattle.check_sides.specs.Groups.{is_alone, is_port_alone, plan_at, port_plan}
 use Rattle.check_sides.specs.Lawful.{IsLawful, scene}
 use Rattle.check_sides.specs.Plan.{IsPlan}
 use Rattle.check_coverage.specs.Flights.{HasSize, is_counted, wide_at}
@@ -29,19 +29,24 @@ allowed_source plan here x (D beat) allowed = allowed.source
 pub lawful_size : (plan : Plan) (past : List Sighting) (x : Sighting) → IsLawful plan (x ∷ past) → HasSize x.beat
 lawful_size plan past x lawful = allowed_size (plan_at plan x.link) (scene plan past x) x x.beat lawful.1
 
-counted_together : (links : Links) (link : Link) → is_counted links link ≡ true → is_alone links link ≡ false
-counted_together Both link is = refl
-counted_together Masters link is = refl
-counted_together Ports link is = refl
-counted_together Each (Master m) is = refl
-counted_together Each (Port p) is = absurd (cc)
+-- where messages of a link are counted, it is not judged by itself
+pub counted_together : (layout : Layout) (link : Link) → is_counted layout.links link ≡ true
+    → is_alone layout link ≡ false
+counted_together layout (Master m) is = refl
+counted_together layout (Port p) is = go layout.links is
+  where
+    go : (links : Links) → is_counted links (Port p) ≡ true → is_port_alone links (is_apart layout p) ≡ false
+    go Both is = absurd (cc)
+    go Masters is = refl
+    go Ports is = refl
+    go Each is = absurd (cc)
 
 module _ (plan : Plan) (past : List Sighting) (x : Sighting) (is_plan : IsPlan plan) (lawful : IsLawful plan (x ∷ past))
     (counted : is_counted plan.layout.links x.link ≡ true) where
   has_source : HasSource plan.layout x.link (source_of x.beat)
   has_source = subst (λ (p : Plan). HasSource p.layout x.link (source_of x.beat))
       (ap (λ (b : Bool). if b then port_plan plan else plan)
-      (counted_together plan.layout.links x.link counted))
+      (counted_together plan.layout x.link counted))
       (allowed_source (plan_at plan x.link) (scene plan past x) x x.beat lawful.1)
 
   -- a master's link has the wide source of the beat

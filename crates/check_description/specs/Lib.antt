@@ -14,6 +14,7 @@ pub mod Ranges
 pub mod Mirror
 pub mod Volatile
 pub mod OnReset
+pub mod Crossing
 pub mod Contents
 pub mod Sizes
 pub mod Order

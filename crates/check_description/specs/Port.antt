@@ -13,6 +13,7 @@ use Rattle.check_keys.specs.Value.{tables_of, up_to}
 use Rattle.check_keys.specs.declared.fault.Key.TheVariants.{Port as PortKey}
 use Rattle.check_keys.specs.declared.fault.SystemFault.{SystemFault}
 use Rattle.check_description.specs.Contents.{Contents, contents_at}
+use Rattle.check_description.specs.Crossing.{is_apart_by, port_crossing_at}
 use Rattle.check_description.specs.Kind.{kind_at}
 use Rattle.check_description.specs.Listed.{ListedMasters, list_view, listed_at}
 use Rattle.check_description.specs.Mirror.{mirror_at}
@@ -21,6 +22,7 @@ use Rattle.check_description.specs.Order.{orders_at}
 use Rattle.check_description.specs.Ranges.{first_length, ranges_at}
 use Rattle.check_description.specs.Sizes.{sizes_at}
 use Rattle.check_description.specs.Volatile.{volatile_at}
+use Rattle.check_description.specs.declared.crossing.PortCrossing.{PortCrossing}
 use Rattle.check_description.specs.declared.kind.PortKind.{PortKind}
 use Rattle.check_description.specs.declared.on_reset.OnReset.{OnReset}
 use Rattle.check_description.specs.declared.on_reset.OnReset.TheVariants.{Never, Keep, Load}
@@ -30,8 +32,8 @@ use Rattle.check_description.specs.declared.port.PortOrders.{PortOrders}
 
 -- a slave port: its name, what stands there, where its bytes are, what it holds before any request, the sizes that it
 -- supports, when its requests take effect, its data bus, whether its ranges are one memory, the addresses of the bytes
--- that change by themselves, what a reset of the whole system does to its bytes, and the masters that it lists. No sizes are those
--- of its kind; no order on a side is the command line's
+-- that change by themselves, what a reset of the whole system does to its bytes, the masters that it lists, and what is
+-- compared of messages to it. No sizes are those of its kind; no order on a side is the command line's
 pub record Port : Type 0 where
   pub name : Option (List ℕ)
   pub kind : PortKind
@@ -44,6 +46,7 @@ pub record Port : Type 0 where
   pub volatile : List Range
   pub on_reset : OnReset
   pub listed : Option ListedMasters
+  pub crossing : PortCrossing
 
 -- resets leave its bytes, but for those that requests may write which a reset cuts short: nobody knows these afterwards
 abbrev pub keeps_bytes : OnReset → Bool
@@ -70,6 +73,7 @@ port_of bus resets members = do
   volatile ← volatile_at ranges members
   on_reset ← on_reset_at resets kind members
   listed ← listed_at members
+  crossing ← port_crossing_at members
   Ok (record {
     name = name;
     kind = kind;
@@ -82,6 +86,7 @@ port_of bus resets members = do
     volatile = volatile;
     on_reset = on_reset;
     listed = listed;
+    crossing = crossing;
   })
 
 -- the tables in a value, which may not be there
@@ -100,6 +105,10 @@ ports_of bus resets members = port_tables members >>= each (port_of bus resets)
 -- the name of each port that has one
 abbrev pub names_of_ports : List Port → List (Option (List ℕ))
 names_of_ports ports = map (λ (port : Port). port.name) ports
+
+-- of each port, whether its link is judged by itself if both sides are watched
+abbrev pub apart_of : List Port → List Bool
+apart_of ports = map (λ (port : Port). is_apart_by port.crossing) ports
 
 -- ---- what contracts see
 
@@ -123,4 +132,5 @@ port_view port = record {
   volatile = port.volatile.items;
   on_reset = port.on_reset;
   listed = option_map list_view port.listed;
+  crossing = port.crossing;
 }

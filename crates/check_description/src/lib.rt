@@ -4,7 +4,8 @@
 //! [`read_parts`] answers the [`Parts`] that a file names, no two of them with the same name, if each key of it is known
 //! (`specs/Unknown.antt`), or its first fault on the way to them (`specs/File.antt`, `specs/Name.antt`).
 //! [`read_ports`] reads the ports among them, each key in its order (`specs/Port.antt`). A port may list the masters that reach it,
-//! and their sources at its link (`specs/Listed.antt`); which paths there are then is `specs/Placed.antt`.
+//! and their sources at its link (`specs/Listed.antt`); which paths there are then is `specs/Placed.antt`. Its link may be judged by itself
+//! (`specs/Crossing.antt`).
 //! The files of the ports' images are [`Parts::images`]: the program reads them. [`slave_of`] makes of a port and the bytes
 //! of its image the `PortSlave` that it is before any request (`specs/Slave.antt`), [`kept_at_reset`] what a reset of the whole
 //! system loads into it, if it does (`specs/OnReset.antt`), and [`error_slave`] the slave of the error port. [`describe`] answers the [`Description`] that the parts make, or the first fault of their ranges and of their
@@ -19,6 +20,7 @@
 mod apart;
 mod called;
 mod contents;
+mod crossing;
 mod description;
 mod kind;
 pub mod laws;
@@ -42,6 +44,7 @@ mod slave;
 mod unknown;
 mod volatile;
 
+pub use crossing::PortCrossing;
 pub use description::{Described, Description, describe};
 pub use kind::PortKind;
 pub use listed::{ListedMaster, ListedMasters, MasterWord};

@@ -2,6 +2,7 @@
 ghost use Rattle.std.specs.Prelude.{◌≤◌, length};
 ghost use Rattle.check_description.specs.Ranges.{AreRangesOfPort, first_length};
 
+use crate::crossing::PortCrossing;
 use crate::kind::PortKind;
 use crate::listed::ListedMasters;
 use crate::on_reset::OnReset;
@@ -45,6 +46,8 @@ pub struct Port {
     pub on_reset: OnReset,
     /// The masters that reach it, and their sources at its link, if it lists them.
     pub listed: Option<ListedMasters>,
+    /// What is compared of messages to it if both sides are watched.
+    pub crossing: PortCrossing,
     ghost lawful: { AreRangesOfPort ranges.items },
     ghost given: { length contents.reset.items ≤ first_length ranges.items },
 }

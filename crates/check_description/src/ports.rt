@@ -7,6 +7,7 @@ ghost use Rattle.tl_map.specs.declared.limits.TheConstants.{MAX_JUDGED_PORTS};
 ghost use Rattle.check_description.specs.Port.{port_of, port_tables, port_view, ports_of};
 
 use crate::contents::contents_at;
+use crate::crossing::port_crossing_at;
 use crate::kind::kind_at;
 use crate::listed::listed_at;
 use crate::mirror::mirror_at;
@@ -38,6 +39,7 @@ pub fn read_port(alloc: Global, bus: Bus, resets: bool, table: &Table) -> Result
     let volatile = volatile_at(alloc, &ranges, table)?;
     let on_reset = on_reset_at(resets, kind, table)?;
     let listed = listed_at(alloc, table)?;
+    let crossing = port_crossing_at(table)?;
     Ok(Port {
         name,
         kind,
@@ -50,6 +52,7 @@ pub fn read_port(alloc: Global, bus: Bus, resets: bool, table: &Table) -> Result
         volatile,
         on_reset,
         listed,
+        crossing,
     })
 }
 

@@ -136,6 +136,7 @@ impl TableKind {
                 b"on_reset",
                 b"hosts",
                 b"sources",
+                b"crossing",
                 b"signals",
                 b"wires",
                 b"bits",

@@ -43,7 +43,7 @@ stays plan side (Asked n ask) due (Some answer) was = λ here accept. (answer, r
 
 module _ (plan : Plan) (s : State) (same_order : (port : ℕ) → order_at plan port ≡ (s.slaves port).order)
     (dues : AreDueSoon plan s) (link : Link) (known : ℕ) (lanes : List ℕ)
-    (has : HasLink plan.layout link) (watched : IsGroupLink plan.layout.links link) where
+    (has : HasLink plan.layout link) (watched : IsGroupLink plan.layout link) where
   pub ask_due_soon : (beat : AskHead) → AreDueSoon plan (state_after plan s (ask_at link known lanes beat))
   ask_due_soon beat side wide = go (is_of plan (ask_at link known lanes beat) side wide) refl
     where

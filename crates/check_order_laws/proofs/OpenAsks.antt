@@ -28,7 +28,7 @@ use Rattle.check_order_laws.proofs.Openings.{unseen_by, AreOpen, open_if, open_a
 
 module _ (plan : Plan) (s : State) (past : List Sighting) (linked : LinksAre plan s past) (busy : AsksFly plan s)
     (replies : RepliesAnswer plan s) (opens : AreOpen plan s past) (link : Link) (known : ℕ) (lanes : List ℕ)
-    (has : HasLink plan.layout link) (watched : IsGroupLink plan.layout.links link) (beat : AskHead)
+    (has : HasLink plan.layout link) (watched : IsGroupLink plan.layout link) (beat : AskHead)
     (allowed : IsAllowedAsk plan.layout link (scene_of plan s link (A beat)) beat known lanes) where
   abbrev own : ℕ
   own = wide_of plan link beat.source

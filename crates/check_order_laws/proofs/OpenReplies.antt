@@ -31,7 +31,7 @@ use Rattle.check_order_laws.proofs.Openings.{unseen_late, AreOpen, open_if, open
 
 module _ (plan : Plan) (s : State) (past : List Sighting) (linked : LinksAre plan s past) (steps : AreInStep plan s past)
     (opens : AreOpen plan s past) (link : Link) (known : ℕ) (lanes : List ℕ)
-    (has : HasLink plan.layout link) (watched : IsGroupLink plan.layout.links link) (beat : ReplyHead)
+    (has : HasLink plan.layout link) (watched : IsGroupLink plan.layout link) (beat : ReplyHead)
     (allowed : IsAllowedReply plan.layout link (scene_of plan s link (D beat)) beat known lanes) where
   abbrev own : ℕ
   own = wide_of plan link beat.source

@@ -68,7 +68,7 @@ both_so false b left right = cc
 
 -- ---- a beat of a link
 
-module _ (plan : Plan) (link : Link) (has : HasLink plan.layout link) (watched : IsGroupLink plan.layout.links link)
+module _ (plan : Plan) (link : Link) (has : HasLink plan.layout link) (watched : IsGroupLink plan.layout link)
     (found own : ℕ) (done : Option Request)
     (at_port : (p : ℕ) → link ≡ Port p → found ≡ p)
     (unseen : takes_effect plan.layout link found ≡ false → done ≡ None) where

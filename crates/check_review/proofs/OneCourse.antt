@@ -20,11 +20,11 @@ use Rattle.check_review.proofs.Watched.{lawful_rest}
 one_plan : (system : SystemPlan) (last : Stretch) (next other : Plan) → last.plan.layout ≡ system.begins.layout
     → EndsStretch system last next → EndsStretch system last other → next ≡ other
 one_plan system last next other layout is also =
-    let own_loads : IsTrue (are_apart last.plan.layout.links) → (port : ℕ)
+    let own_loads : IsTrue (are_apart last.plan.layout) → (port : ℕ)
     → loaded_at is.own_loaded port ≡ loaded_at also.own_loaded port =
     λ apart port.
-    let begun : IsTrue (are_apart system.begins.layout.links) =
-    subst (λ (l : Layout). IsTrue (are_apart l.links)) layout apart in
+    let begun : IsTrue (are_apart system.begins.layout) =
+    subst (λ (l : Layout). IsTrue (are_apart l)) layout apart in
     is.own_loads begun port ∙ sym (also.own_loads begun port) in
     let same = one_reset last.plan (sightings_in last) is.loaded also.loaded is.own_loaded also.own_loaded is.resets
     also.resets is.own also.own (λ port. is.loads port ∙ sym (also.loads port)) own_loads is.is also.is in

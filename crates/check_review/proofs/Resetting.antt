@@ -22,7 +22,7 @@ use Rattle.check_review.proofs.Stretching.{course_reset, grows_no_more, same_lay
 pub record IsResetTally (plan : Plan) (rows : List SeenRow) (earlier : List Bin) (old new : Tally)
     (loaded own : List (Option Slave)) : Type 0 where
   pub made : loaded ≡ old.loads
-  pub own_made : IsTrue (are_apart old.watch.layout.links) → own ≡ old.loads
+  pub own_made : IsTrue (are_apart old.watch.layout) → own ≡ old.loads
   pub loads : new.loads ≡ old.loads
   pub requests : new.requests ≡ old.requests
   pub answered : new.answered ≡ old.answered
@@ -43,8 +43,8 @@ keeps_after_reset system before course row trace text old new loaded own resets 
     let later : Plan = record plan { resets = resets; own = slaves } in
     let layout : old.watch.layout ≡ system.begins.layout =
     kept.tallied.keeps.suits.layout ∙ same_layout system before course.now course.ended course.are in
-    let apart : IsTrue (are_apart system.begins.layout.links) → IsTrue (are_apart old.watch.layout.links) =
-    λ yes. subst (λ (l : Layout). IsTrue (are_apart l.links)) (sym layout) yes in
+    let apart : IsTrue (are_apart system.begins.layout) → IsTrue (are_apart old.watch.layout) =
+    λ yes. subst (λ (l : Layout). IsTrue (are_apart l)) (sym layout) yes in
     let ends : EndsStretch system course.now later = record {
       lawful = kept.tallied.keeps.lawful;
       loaded = loaded;

@@ -73,7 +73,7 @@ loaded_from false slave kept is = absurd (cc)
 ends_there : (system : SystemPlan) (last : Stretch) (next : Plan) → EndsStretch system last next
     → HaveSameMirrors system.begins last.plan → HaveSameMirrors system.begins next
 ends_there system last next ends same port =
-    let past = shared_past last.plan.layout.links (sightings_in last) in
+    let past = shared_past last.plan.layout (sightings_in last) in
     ap (λ (p : Plan). mirrors_at p port) ends.goes_on
     ∙ after_reset last.plan past ends.loaded ends.resets port ends.is.shared
     (λ kept is. ap mirrors_of (loaded_from (slice_index_or system.loads port false) (slave_at system.begins.resets port) kept

@@ -12,14 +12,13 @@ use Rattle.tl_map.proofs.Kept.{one_owner}
 use Rattle.check_watch.specs.declared.seen.Seen.{Seen}
 use Rattle.check_watch.specs.declared.seen.Seen.TheVariants.{Part, WholeAsk, WholeReply}
 use Rattle.check_sides.specs.Plan.{IsPlan}
-use Rattle.check_sides.specs.Groups.{is_alone, plan_at, port_plan}
-use Rattle.check_watch.specs.declared.links.Links.{Links}
-use Rattle.check_watch.specs.declared.links.Links.TheVariants.{Both, Masters, Ports, Each}
+use Rattle.check_sides.specs.Groups.{plan_at, port_plan}
 use Rattle.check_watch.specs.Scene.{Scene}
 use Rattle.check_sides.specs.Lawful.{scene, what_is_seen}
 use Rattle.check_watch.specs.Lawful.{IsAllowed, IsAllowedBeat}
 use Rattle.check_rows.specs.Row.{SeenRow}
 use Rattle.check_coverage.specs.Flights.{is_counted}
+use Rattle.check_coverage.proofs.Lawful.{counted_together}
 use Rattle.check_review.specs.Order.{is_watched, sightings_of}
 use Rattle.check_lines.specs.Trace.{AppendsLine, HasOwner, IsLine, entry_line}
 use Rattle.check_review.specs.Told.{AppendsTold, AppendsToldOf, IsCountedOfOwner, IsTold, IsToldOf}
@@ -42,15 +41,7 @@ has_owner : (layout : Layout) (link : Link) (source : ℕ) → HasSource layout 
 has_owner layout (Master m) source has = tt
 has_owner layout (Port p) source has = let is = has.1 in let owned = is.1 in (owned.0, owned.1.0, owned.1.1)
 
--- where messages of a link are counted, it is not judged by itself
-counted_together : (links : Links) (link : Link) → is_counted links link ≡ true → is_alone links link ≡ false
-counted_together Both link is = refl
-counted_together Masters link is = refl
-counted_together Ports link is = refl
-counted_together Each (Master m) is = refl
-counted_together Each (Port p) is = absurd cc
-
--- so its sources are those of the masters
+-- where messages of a link are counted, its sources are those of the masters
 pub counted_of_owner : (plan : Plan) (past : List Sighting) (x : Sighting)
     → IsAllowed (plan_at plan x.link) (scene plan past x) x
     → IsCountedOfOwner plan.layout.links plan.layout.owners x.link (source_of x.beat)
@@ -60,7 +51,7 @@ counted_of_owner plan past x allowed counted =
     let P : Bool → Type 0 = λ alone.
     HasSource (if alone then port_plan plan else plan).layout x.link (source_of x.beat) in
     has_owner plan.layout x.link (source_of x.beat)
-    (subst P (counted_together plan.layout.links x.link counted) here)
+    (subst P (counted_together plan.layout x.link counted) here)
 
 pub line_is_told : (owners : List Owner) (link : Link) (source : ℕ) (entry : SeenEntry) (old new : List ℕ)
     → HasOwner owners link source → AppendsLine owners link source entry old new

@@ -38,7 +38,7 @@ pub record EndsStretch (system : SystemPlan) (last : Stretch) (next : Plan) : Ty
   pub resets : List PortSlave
   pub own : List PortSlave
   pub loads : AreLoads system.loads system.begins.resets loaded
-  pub own_loads : IsTrue (are_apart system.begins.layout.links) → AreLoads system.loads system.begins.own own_loaded
+  pub own_loads : IsTrue (are_apart system.begins.layout) → AreLoads system.loads system.begins.own own_loaded
   pub is : IsReset last.plan (sightings_in last) loaded own_loaded resets own
   pub goes_on : next ≡ record last.plan { resets = resets; own = own }
   pub plan : IsPlan next

@@ -263,11 +263,12 @@ impl Tally {
 
     /// What a reset loads into the slaves of ports' links that are judged each by itself; nothing if none is.
     fn own_loads(&self, alloc: Global) -> Result<Vec<Option<Slave>>, AllocError>
-        ensures { IfOk result (λ own. IsTrue (are_apart self.now.watch.layout.links) → own.items ≡ self.now.loads) }
+        ensures { IfOk result (λ own. IsTrue (are_apart self.now.watch.layout) → own.items ≡ self.now.loads) }
     {
-        match self.watch.links() {
-            Links::Each => self.loads.make(alloc),
-            Links::Both | Links::Masters | Links::Ports => Ok(Vec::new(alloc)),
+        if self.watch.are_apart() {
+            self.loads.make(alloc)
+        } else {
+            Ok(Vec::new(alloc))
         }
     }
 

@@ -275,7 +275,7 @@ pub record ReadsPort (members : Members) (store : Store) : Type 0 where
 
 pub port_same : (members : Members) (store : Store) → IsPlainPort members → (IsEmpty (range_of store) → ⊥)
     → old_port_of members ≡ Ok store → ReadsPort members store
-unfolding old_port_of port_of name_at ranges_at plain_ranges contents_at image_name_at flag_at sizes_at orders_at bus_in_table mirror_at volatile_at on_reset_at said_on_reset listed_at text_if_any number_if_any
+unfolding old_port_of port_of name_at ranges_at plain_ranges contents_at image_name_at flag_at sizes_at orders_at bus_in_table mirror_at volatile_at on_reset_at said_on_reset listed_at port_crossing_at said_crossing text_if_any number_if_any
 port_same members store plain some is =
     let read = read_keys (old_kind_at members) (old_number_at OldBase 0 last_base members)
     (old_number_at OldLength 0 MAX_LENGTH members) (λ count. old_reset_at count members) store is in
@@ -310,6 +310,7 @@ port_same members store plain some is =
         volatile = [];
         on_reset = Never;
         listed = None;
+        crossing = Same;
       };
       reads = rw (
         plain.name,
@@ -328,6 +329,7 @@ port_same members store plain some is =
         plain.on_reset,
         plain.hosts,
         plain.sources,
+        plain.crossing,
       ) refl;
       is = record {
         plain = record {
@@ -344,6 +346,7 @@ port_same members store plain some is =
         bus = refl;
         on_reset = refl;
         listed = refl;
+        crossing = refl;
       };
     }
 

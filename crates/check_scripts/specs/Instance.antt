@@ -39,6 +39,7 @@ pub record IsPlainPort (members : Members) : Type 0 where
   pub on_reset : IsAbsent OnReset members
   pub hosts : IsAbsent Hosts members
   pub sources : IsAbsent Sources members
+  pub crossing : IsAbsent Crossing members
 
 -- a master's table has no such key
 pub record IsPlainMaster (members : Members) : Type 0 where
@@ -73,6 +74,7 @@ pub record IsPortOf (store : Store) (port : Port) : Type 0 where
   pub bus : port.bus ≡ Eight
   pub on_reset : port.on_reset ≡ Never
   pub listed : port.listed ≡ None
+  pub crossing : port.crossing ≡ Same
 
 -- a port for each store, in order
 abbrev pub ArePortsOf : List Store → List Port → Type 0

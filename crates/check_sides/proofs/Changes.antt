@@ -11,16 +11,16 @@ use Rattle.check_sides.proofs.Grouping.{shared_more, shared_same}
 
 module _ (plan : Plan) (past : List Sighting) (x : Sighting) where
   abbrev before : List Sighting
-  before = shared_past plan.layout.links past
+  before = shared_past plan.layout past
 
-  pub alone_changes : is_alone plan.layout.links x.link ≡ true → IsChange plan past x Nothing
+  pub alone_changes : is_alone plan.layout x.link ≡ true → IsChange plan past x Nothing
   alone_changes alone side wide =
       subst (λ l. group.IsInFlightInGroup plan l side wide ↔ group.IsInFlightInGroup plan before side wide)
-      (sym (shared_same x.beat x.known x.lanes past plan.layout.links x.link alone)) (λ h. h, λ h. h)
+      (sym (shared_same x.beat x.known x.lanes past plan.layout x.link alone)) (λ h. h, λ h. h)
 
-  pub shared_changes : is_alone plan.layout.links x.link ≡ false → (change : Change)
+  pub shared_changes : is_alone plan.layout x.link ≡ false → (change : Change)
       → group.IsGroupChange plan before x change → IsChange plan past x change
   shared_changes shared change is =
       subst (λ l. group.IsChangeBy (group.IsInFlightInGroup plan before) (group.IsInFlightInGroup plan l) plan.layout.owners
       (group.EndsReply plan before x) x change)
-      (sym (shared_more x.beat x.known x.lanes past plan.layout.links x.link shared)) is
+      (sym (shared_more x.beat x.known x.lanes past plan.layout x.link shared)) is

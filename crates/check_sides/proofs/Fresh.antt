@@ -5,25 +5,16 @@ use Rattle.check_beats.specs.declared.bus.Bus.{Bus}
 use Rattle.check_flight.specs.PortSlave.{PortSlave}
 use Rattle.check_flight.specs.Side.{bus_at}
 use Rattle.check_watch.specs.Past.{slave_at}
-use Rattle.check_watch.specs.Plan.{IsPlan}
+use Rattle.check_watch.specs.Plan.{IsPlan, Layout}
 use Rattle.check_watch.specs.View as group_view
-use Rattle.check_watch.specs.declared.links.Links.{Links}
-use Rattle.check_watch.specs.declared.links.Links.TheVariants.{Both, Masters, Ports, Each}
+use Rattle.check_watch.specs.declared.beat.Link.TheVariants.{Port}
 use Rattle.check_sides.specs.Groups.{are_apart, shared_past, port_plan}
 use Rattle.check_sides.specs.Plan.{Plan}
 use Rattle.check_sides.specs.View.{HaveBuses, Keeps, KeepsPort, PortView, View, flight_in, fresh_link, fresh_links}
+use Rattle.check_sides.proofs.Grouping.{apart_from}
 
-pub shared_none : (links : Links) → shared_past links [] ≡ []
-shared_none Both = refl
-shared_none Masters = refl
-shared_none Ports = refl
-shared_none Each = refl
-
-pub each_is : (links : Links) → IsTrue (are_apart links) → links ≡ Each
-each_is Both apart = cc
-each_is Masters apart = cc
-each_is Ports apart = cc
-each_is Each apart = refl
+pub shared_none : (layout : Layout) → shared_past layout [] ≡ []
+shared_none layout = refl
 
 -- the link that stands at a place
 link_fresh : (buses : List Bus) (slaves : List PortSlave) (port : ℕ) (link : PortView)
@@ -48,14 +39,14 @@ fresh_buses buses slaves port link is =
 
 pub fresh_keeps : (plan : Plan) (view : View) → IsPlan plan → view.layout ≡ plan.layout
     → group_view.KeepsGroup plan [] view.shared
-    → (IsTrue (are_apart plan.layout.links) → view.ports ≡ fresh_links plan.layout.port_buses plan.own)
+    → (IsTrue (are_apart plan.layout) → view.ports ≡ fresh_links plan.layout.port_buses plan.own)
     → Keeps plan [] view
 fresh_keeps plan view lawful layout shared ports = record {
   suits = record { lawful = lawful; layout = layout };
   lawful = tt;
-  shared = subst (λ p. group_view.KeepsGroup plan p view.shared) (sym (shared_none plan.layout.links)) shared;
-  ports = λ apart port link found. fresh_port port link
-      (ap (λ l. slice_get l port) (sym (ports apart)) ∙ found);
+  shared = subst (λ p. group_view.KeepsGroup plan p view.shared) (sym (shared_none plan.layout)) shared;
+  ports = λ port alone link found. fresh_port port link
+      (ap (λ l. slice_get l port) (sym (ports (apart_from plan.layout (Port port) alone))) ∙ found);
 }
   where
     fresh_port : (port : ℕ) (link : PortView)

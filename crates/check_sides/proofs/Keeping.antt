@@ -20,7 +20,7 @@ use Rattle.check_watch.specs.Plan.{Sighting, seen_at}
 use Rattle.check_watch.specs.Steps.{IsGroupStep, IsGroupTake, IsStepBy, IsTakeBy}
 use Rattle.check_watch.specs.View as group_view
 use Rattle.check_watch.specs.View.{GroupView}
-use Rattle.check_sides.specs.Groups.{are_apart, everybody, is_alone, shared_past, port_plan, port_past, past_at}
+use Rattle.check_sides.specs.Groups.{everybody, is_alone, shared_past, port_plan, port_past, past_at}
 use Rattle.check_sides.specs.Lawful.{IsFirstRequest, IsLawful, IsNewcomer, SlaveMayNeedMemory, MayNeedMemory}
 use Rattle.check_sides.specs.Plan.{HasLink, Layout, Plan, bus_of}
 use Rattle.check_sides.specs.Steps.{IsAloneStep, IsAloneTake, IsStepAfter, IsTakeAfter, MayNeedAlone}
@@ -44,31 +44,35 @@ stands_at (y ∷ xs) zero x inside read = ap Some (sym read)
 stands_at (y ∷ xs) (suc k) x inside read = stands_at xs k x (omega (arith, inside)) read
 
 -- at a port's link that is judged by itself: its slave serves a request, or a source is new
-pub needed_alone : (plan : Plan) (past : List Sighting) (x : Sighting) → is_alone plan.layout.links x.link ≡ true
-    → (SlaveMayNeedMemory plan past x ⊎ IsFirstRequest (past_at plan.layout.links x.link past) x.beat) → MayNeedMemory plan past x
+pub needed_alone : (plan : Plan) (past : List Sighting) (x : Sighting) → is_alone plan.layout x.link ≡ true
+    → (SlaveMayNeedMemory plan past x ⊎ IsFirstRequest (past_at plan.layout x.link past) x.beat) → MayNeedMemory plan past x
 needed_alone plan past x alone (inl served) = inl served
 needed_alone plan past x alone (inr first) = inr (alone, first)
 
 -- ---- a port's link that is judged by itself, as the fields have it and as it is seen
 
 module _ (view now : View) (port : ℕ) (link : Link) (same : view ≡ now) (here : link ≡ Port port)
-    (alone : is_alone now.layout.links link ≡ true) where
-  pub alone_before : is_alone view.layout.links (Port port) ≡ true
+    (alone : is_alone now.layout link ≡ true) where
+  pub alone_before : is_alone view.layout (Port port) ≡ true
   alone_before =
-      subst (λ (v : View). is_alone v.layout.links (Port port) ≡ true) (sym same)
-      (subst (λ (l : Link). is_alone now.layout.links l ≡ true) here alone)
+      subst (λ (v : View). is_alone v.layout (Port port) ≡ true) (sym same)
+      (subst (λ (l : Link). is_alone now.layout l ≡ true) here alone)
+
+  -- it has its place
+  pub placed_before : IsSized view → HasLink now.layout link → port < length view.ports
+  placed_before sized known =
+      let room : length view.ports ≡ length view.layout.ports =
+      sized.ports (apart_from view.layout (Port port) alone_before) in
+      let inside : port < length view.layout.ports =
+      subst (λ (v : View). HasLink v.layout (Port port)) (sym same)
+      (subst (λ (l : Link). HasLink now.layout l) here known) in
+      omega (arith, room, inside)
 
   module _ (sized : IsSized view) (known : HasLink now.layout link) (one : PortView)
       (read : one ≡ get_or view.ports port one) where
     -- what is read there stands there
     pub found_before : slice_get view.ports port ≡ Some one
-    found_before =
-        let room : length view.ports ≡ length view.layout.ports =
-        sized.ports (apart_from view.layout.links (Port port) alone_before) in
-        let inside : port < length view.layout.ports =
-        subst (λ (v : View). HasLink v.layout (Port port)) (sym same)
-        (subst (λ (l : Link). HasLink now.layout l) here known) in
-        stands_at view.ports port one (omega (arith, room, inside)) read
+    found_before = stands_at view.ports port one (placed_before sized known) read
 
     -- and there are lanes for its bus
     pub wide_before : (lanes : ℕ) → bus_of now.layout link ≤ lanes → one.under.bus ≤ lanes
@@ -80,7 +84,7 @@ module _ (view now : View) (port : ℕ) (link : Link) (same : view ≡ now) (her
         omega (arith, bus, enough)
 
 module _ (plan : Plan) (past : List Sighting) (view : View) (port : ℕ) (beat : Beat) (known : ℕ) (lanes : List ℕ)
-    (keeps : Keeps plan past view) (alone : is_alone plan.layout.links (Port port) ≡ true) where
+    (keeps : Keeps plan past view) (alone : is_alone plan.layout (Port port) ≡ true) where
   abbrev pub at_alone : Sighting
   at_alone = seen_at (Port port) beat known lanes
 
@@ -90,7 +94,7 @@ module _ (plan : Plan) (past : List Sighting) (view : View) (port : ℕ) (beat :
 
   pub kept_here : (link : PortView) → slice_get view.ports port ≡ Some link
       → KeepsPort (port_plan plan) port (port_past port past) link
-  kept_here link found = keeps.ports (apart_from plan.layout.links (Port port) alone) port link found
+  kept_here link found = keeps.ports port alone link found
 
   pub alone_lawful : group_lawful.IsLawfulGroup (port_plan plan) (at_alone ∷ port_past port past)
       → IsLawful plan (at_alone ∷ past)
@@ -113,15 +117,15 @@ module _ (plan : Plan) (past : List Sighting) (view : View) (port : ℕ) (beat :
     suits = record { lawful = keeps.suits.lawful; layout = keeps.suits.layout };
     lawful = alone_lawful here.lawful;
     shared = subst (λ p. group_view.KeepsGroup plan p view.shared)
-        (sym (shared_same beat known lanes past plan.layout.links (Port port) alone)) keeps.shared;
-    ports = λ apart other one is. each apart other one is (port == other) refl;
+        (sym (shared_same beat known lanes past plan.layout (Port port) alone)) keeps.shared;
+    ports = λ other apart one is. each other apart one is (port == other) refl;
   }
     where
-      each : IsTrue (are_apart plan.layout.links) → (other : ℕ) (one : PortView)
+      each : (other : ℕ) → IsTrue (is_alone plan.layout (Port other)) → (one : PortView)
           → slice_get (slice_set view.ports port new) other ≡ Some one
           → (same : Bool) → (port == other) ≡ same
           → KeepsPort (port_plan plan) other (port_past other (at_alone ∷ past)) one
-      each apart other one is true same =
+      each other apart one is true same =
           let e = eqb-true port other same in
           let put = slice_get-set_same view.ports port new (within view.ports port link found) in
           let both : slice_get (slice_set view.ports port new) port ≡ Some one =
@@ -130,10 +134,10 @@ module _ (plan : Plan) (past : List Sighting) (view : View) (port : ℕ) (beat :
           subst (λ k. KeepsPort (port_plan plan) k (port_past k (at_alone ∷ past)) one) e
           (subst (λ p. KeepsPort (port_plan plan) port p one) (sym (port_more beat known lanes past port))
           (subst (λ (l : PortView). KeepsPort (port_plan plan) port (at_alone ∷ port_past port past) l) stands here))
-      each apart other one is false same =
+      each other apart one is false same =
           let differ = eqb-false port other same in
           subst (λ p. KeepsPort (port_plan plan) other p one) (sym (port_other beat known lanes past port other differ))
-          (keeps.ports apart other one (sym (slice_get-set_other view.ports port other new differ) ∙ is))
+          (keeps.ports other apart one (sym (slice_get-set_other view.ports port other new differ) ∙ is))
 
   module _ (link new : PortView) (found : slice_get view.ports port ≡ Some link) where
     abbrev after_alone : View
@@ -181,8 +185,8 @@ sized_with view port link new sized found same = record {
 -- ---- links that are judged together
 
 module _ (plan : Plan) (past : List Sighting) (view : View) (x : Sighting) (keeps : Keeps plan past view)
-    (shared : is_alone plan.layout.links x.link ≡ false) where
-  pub shared_lawful : group_lawful.IsLawfulGroup plan (x ∷ shared_past plan.layout.links past)
+    (shared : is_alone plan.layout x.link ≡ false) where
+  pub shared_lawful : group_lawful.IsLawfulGroup plan (x ∷ shared_past plan.layout past)
       → IsLawful plan (x ∷ past)
   shared_lawful here = (
     keeps.lawful,
@@ -190,30 +194,30 @@ module _ (plan : Plan) (past : List Sighting) (view : View) (x : Sighting) (keep
   )
 
   pub shared_allowed : IsLawful plan (x ∷ past)
-      → group_lawful.IsLawfulGroup plan (x ∷ shared_past plan.layout.links past)
+      → group_lawful.IsLawfulGroup plan (x ∷ shared_past plan.layout past)
   shared_allowed lawful = (
     keeps.shared.lawful,
     in_group plan past x.link (λ p l. IsAllowed p (scene_in_group p l x) x) false shared lawful.1,
   )
 
   pub shared_kept : (new : GroupView) (layout : Layout) → layout ≡ plan.layout
-      → group_view.KeepsGroup plan (x ∷ shared_past plan.layout.links past) new
+      → group_view.KeepsGroup plan (x ∷ shared_past plan.layout past) new
       → Keeps plan (x ∷ past) (record { layout = layout; shared = new; ports = view.ports })
   shared_kept new layout is here = record {
     suits = record { lawful = keeps.suits.lawful; layout = is };
     lawful = shared_lawful here.lawful;
     shared = subst (λ p. group_view.KeepsGroup plan p new)
-        (sym (shared_more x.beat x.known x.lanes past plan.layout.links x.link shared)) here;
-    ports = λ apart port one found. subst (λ p. KeepsPort (port_plan plan) port p one)
-        (sym (port_same x.beat x.known x.lanes past plan.layout.links x.link port shared apart))
-        (keeps.ports apart port one found);
+        (sym (shared_more x.beat x.known x.lanes past plan.layout x.link shared)) here;
+    ports = λ port apart one found. subst (λ p. KeepsPort (port_plan plan) port p one)
+        (sym (port_same x.beat x.known x.lanes past plan.layout x.link port shared apart))
+        (keeps.ports port apart one found);
   }
 
   module _ (new : GroupView) (layout : Layout) (same : layout ≡ plan.layout) where
     abbrev after_shared : View
     after_shared = record { layout = layout; shared = new; ports = view.ports }
 
-    pub shared_step : (r : Result Seen StepError) → IsGroupStep plan (shared_past plan.layout.links past) x new r
+    pub shared_step : (r : Result Seen StepError) → IsGroupStep plan (shared_past plan.layout past) x new r
         → IsStepAfter plan past x after_shared r
     shared_step r is =
         of_group plan past x.link
@@ -222,7 +226,7 @@ module _ (plan : Plan) (past : List Sighting) (view : View) (x : Sighting) (keep
         (step_as _ shared_lawful shared_allowed (shared_kept new layout same) (λ need. inl need) _ r is)
 
     pub shared_take : {E : Type 0} (r : Result (Option Ended) E)
-        → IsGroupTake plan (shared_past plan.layout.links past) x new r → IsTakeAfter plan past x after_shared r
+        → IsGroupTake plan (shared_past plan.layout past) x new r → IsTakeAfter plan past x after_shared r
     shared_take r is =
         of_group plan past x.link
         (λ p l. IsTakeBy (IsLawful plan (x ∷ past)) (Keeps plan (x ∷ past) after_shared) (group_lawful.seen_in_group p l x)

@@ -1,4 +1,5 @@
 mod Outcomes
+mod Setting
 mod Puts
 mod Opening
 mod Alone

@@ -10,7 +10,7 @@ use Rattle.check_watch.specs.Plan.{Sighting}
 use Rattle.check_watch.specs.Reset.{IsCutAt, loaded_at}
 use Rattle.check_watch.proofs.OneReset as group_proofs
 use Rattle.check_watch.proofs.OneReset.{one_port, same_slaves}
-use Rattle.check_sides.specs.Groups.{are_apart, port_past, port_plan, shared_past}
+use Rattle.check_sides.specs.Groups.{are_apart, is_alone, port_past, port_plan, shared_past}
 use Rattle.check_sides.specs.Plan.{Plan}
 use Rattle.check_sides.specs.Reset.{AreOwnReset, IsReset, IsResetLink}
 
@@ -31,9 +31,15 @@ module _ (plan : Plan) (past : List Sighting) where
       (λ port inside.
       let counted = is.counted in
       let known : port < length plan.layout.ports = omega (arith, inside, counted) in
-      one_link (port_plan plan) port (group.state (port_plan plan) (port_past port past)) (loaded_at loaded port)
-      (loaded_at also_loaded port) (slave_at own port) (slave_at other port) (loads port) (is.each port known)
-      (also.each port known))
+      by port known (is_alone plan.layout (Port port)) refl)
+    where
+      by : (port : ℕ) → port < length plan.layout.ports → (alone : Bool) → is_alone plan.layout (Port port) ≡ alone
+          → slave_at own port ≡ slave_at other port
+      by port known true alone =
+          one_link (port_plan plan) port (group.state (port_plan plan) (port_past port past)) (loaded_at loaded port)
+          (loaded_at also_loaded port) (slave_at own port) (slave_at other port) (loads port) (is.each port known alone)
+          (also.each port known alone)
+      by port known false shared = is.rest port known shared ∙ sym (also.rest port known shared)
 
   one_own_by : (apart : Bool) (loaded also_loaded : List (Option Slave)) (own other : List PortSlave)
       → (IsTrue apart → (port : ℕ) → loaded_at loaded port ≡ loaded_at also_loaded port)
@@ -46,12 +52,12 @@ module _ (plan : Plan) (past : List Sighting) where
   -- of the same loads a reset leaves the same
   pub one_reset : (loaded also_loaded own_loaded also_own_loaded : List (Option Slave)) (resets other_resets own other_own : List PortSlave)
       → ((port : ℕ) → loaded_at loaded port ≡ loaded_at also_loaded port)
-      → (IsTrue (are_apart plan.layout.links) → (port : ℕ) → loaded_at own_loaded port ≡ loaded_at also_own_loaded port)
+      → (IsTrue (are_apart plan.layout) → (port : ℕ) → loaded_at own_loaded port ≡ loaded_at also_own_loaded port)
       → IsReset plan past loaded own_loaded resets own → IsReset plan past also_loaded also_own_loaded other_resets other_own
       → (resets ≡ other_resets) × (own ≡ other_own)
   one_reset loaded also_loaded own_loaded also_own_loaded resets other_resets own other_own loads own_loads is also = (
-    group_proofs.one_reset plan (group.state plan (shared_past plan.layout.links past)) loaded also_loaded resets other_resets
+    group_proofs.one_reset plan (group.state plan (shared_past plan.layout past)) loaded also_loaded resets other_resets
         loads is.shared also.shared,
-    one_own_by (are_apart plan.layout.links) own_loaded also_own_loaded own other_own own_loads is.apart also.apart
+    one_own_by (are_apart plan.layout) own_loaded also_own_loaded own other_own own_loads is.apart also.apart
         is.together also.together,
   )

@@ -1,5 +1,5 @@
 -- Ports' links that are judged each by itself, as they are reset one after the other, and what is kept of all links then.
-use Rattle.std.proofs.Common.{◌≡◌, ◌∙◌, ◌⊎◌, inl, inr, ⊎_elim, ℕ, zero, suc, ◌+◌, ◌<◌, ◌≤◌, Bool, true, false, List, [], ◌∷◌, length, map, set, get_or, slice_get, Option, Some, refl, sym, ap, subst, arith, length-set}
+use Rattle.std.proofs.Common.{◌≡◌, ◌∙◌, ◌⊎◌, inl, inr, ⊎_elim, ℕ, zero, suc, ◌+◌, ◌<◌, ◌≤◌, Bool, true, false, List, [], ◌∷◌, length, map, drop, set, get_or, slice_get, if◌then◌else◌, Option, Some, refl, sym, ap, subst, arith, length-set}
 use Rattle.std.specs.Prelude.{IsTrue}
 use Rattle.std.proofs.lemmas.List.{length-map}
 use Rattle.tl_types.proofs.Lists.{slice_get-set_same, slice_get-set_other}
@@ -18,11 +18,12 @@ use Rattle.check_watch.specs.Reset as group_reset
 use Rattle.check_watch.specs.Reset.{AreReset, IsCutAt, IsLeftPort, IsTaken, loaded_at}
 use Rattle.check_watch.specs.View as group_view
 use Rattle.check_watch.proofs.Resetting.{alike_left_port}
-use Rattle.check_sides.specs.Groups.{are_apart, port_past, port_plan, shared_past}
+use Rattle.check_sides.specs.Groups.{are_apart, is_alone, port_past, port_plan, shared_past}
 use Rattle.check_sides.specs.Plan.{IsPlan, Plan}
 use Rattle.check_sides.specs.Reset.{AreResetLinks, IsCutIn, IsReset, IsResetLink, IsResetOf, reset_plan}
 use Rattle.check_sides.specs.View.{HaveBuses, IsSized, Keeps, KeepsPort, PortView, View, flight_in}
 use Rattle.check_sides.proofs.Fresh.{shared_none}
+use Rattle.check_sides.proofs.Grouping.{apart_from}
 use Rattle.check_sides.proofs.Opening.{some_same}
 
 -- so many links are reset, and the rest are not
@@ -169,7 +170,31 @@ slave_of [] port link is = cc
 slave_of (first ∷ links) zero link is = ap (λ (v : PortView). v.slave) (some_same first link is)
 slave_of (first ∷ links) (suc port) link is = slave_of links port link is
 
--- the slaves of links by themselves: those of the links if they are judged so, else what stood there
+-- the slave of each port's link by itself: that of the link if this is judged so, else what stood there
+abbrev pub own_from : (ℕ → Bool) → List PortSlave → List PortSlave → List PortSlave
+own_from alone [] were = []
+own_from alone (slave ∷ of_links) were =
+    (if alone 0 then slave else slave_at were 0) ∷ own_from (λ port. alone (suc port)) of_links (drop 1 were)
+
+length-own_from : (alone : ℕ → Bool) (of_links were : List PortSlave)
+    → length (own_from alone of_links were) ≡ length of_links
+length-own_from alone [] were = refl
+length-own_from alone (slave ∷ of_links) were = ap suc (length-own_from (λ port. alone (suc port)) of_links (drop 1 were))
+
+rest_at : (were : List PortSlave) (port : ℕ) → slave_at (drop 1 were) port ≡ slave_at were (suc port)
+rest_at [] port = refl
+rest_at (slave ∷ were) port = refl
+
+own_at : (alone : ℕ → Bool) (of_links were : List PortSlave) (port : ℕ) → port < length of_links
+    → slave_at (own_from alone of_links were) port
+    ≡ (if alone port then slave_at of_links port else slave_at were port)
+own_at alone [] were port inside = absurd (omega (arith, inside))
+own_at alone (slave ∷ of_links) were zero inside = refl
+own_at alone (slave ∷ of_links) were (suc port) inside =
+    own_at (λ port. alone (suc port)) of_links (drop 1 were) port (omega (arith, inside))
+    ∙ ap (λ (s : PortSlave). if alone (suc port) then slave_at of_links port else s) (rest_at were port)
+
+-- the slaves of links by themselves: these if some are judged so, else what stood there
 abbrev pub own_then : Bool → List PortSlave → List PortSlave → List PortSlave
 own_then true of_links were = of_links
 own_then false of_links were = were
@@ -185,40 +210,62 @@ own_together false of_links were never = refl
 module _ (plan : Plan) (past : List Sighting) (old new : View) (keeps : Keeps plan past old) (sized : IsSized old)
     (loaded own : List (Option Slave)) (resets : List PortSlave) (layout : new.layout ≡ old.layout)
     (counted : length new.ports ≡ length old.ports) (links : AreResetLinks old.ports own new.ports) where
+  abbrev stands_alone : ℕ → Bool
+  stands_alone port = is_alone plan.layout (Port port)
+
+  abbrev own_now : List PortSlave
+  own_now = own_from stands_alone (slaves_of new.ports) plan.own
+
   abbrev pub own_after : List PortSlave
-  own_after = own_then (are_apart plan.layout.links) (slaves_of new.ports) plan.own
+  own_after = own_then (are_apart plan.layout) own_now plan.own
 
-  are_own : IsTrue (are_apart plan.layout.links) → own_after ≡ slaves_of new.ports
-  are_own apart = own_apart (are_apart plan.layout.links) (slaves_of new.ports) plan.own apart
+  are_own : IsTrue (are_apart plan.layout) → own_after ≡ own_now
+  are_own apart = own_apart (are_apart plan.layout) own_now plan.own apart
 
-  all_there : IsTrue (are_apart plan.layout.links) → length old.ports ≡ length plan.layout.ports
+  -- how many there are
+  own_counted : length own_now ≡ length new.ports
+  own_counted = length-own_from stands_alone (slaves_of new.ports) plan.own ∙ length-map new.ports (λ (link : PortView). link.slave)
+
+  -- and the slave of a port
+  after_at : IsTrue (are_apart plan.layout) → (port : ℕ) → port < length new.ports → (alone : Bool)
+      → is_alone plan.layout (Port port) ≡ alone
+      → slave_at own_after port ≡ (if alone then slave_at (slaves_of new.ports) port else slave_at plan.own port)
+  after_at apart port inside alone is =
+      ap (λ (s : List PortSlave). slave_at s port) (are_own apart)
+      ∙ own_at stands_alone (slaves_of new.ports) plan.own port
+      (subst (λ (n : ℕ). port < n) (sym (length-map new.ports (λ (link : PortView). link.slave))) inside)
+      ∙ ap (λ (b : Bool). if b then slave_at (slaves_of new.ports) port else slave_at plan.own port) is
+
+  all_there : IsTrue (are_apart plan.layout) → length old.ports ≡ length plan.layout.ports
   all_there apart =
-      sized.ports (subst (λ (l : Layout). IsTrue (are_apart l.links)) (sym keeps.suits.layout) apart)
+      sized.ports (subst (λ (l : Layout). IsTrue (are_apart l)) (sym keeps.suits.layout) apart)
       ∙ ap (λ (l : Layout). length l.ports) keeps.suits.layout
 
-  own_reset : IsTrue (are_apart plan.layout.links) → (port : ℕ) → port < length plan.layout.ports
+  own_reset : IsTrue (are_apart plan.layout) → (port : ℕ) → port < length plan.layout.ports
+      → IsTrue (is_alone plan.layout (Port port))
       → IsResetLink (port_plan plan) port (group.state (port_plan plan) (port_past port past)) (loaded_at own port)
       (slave_at own_after port)
-  own_reset apart port known =
+  own_reset apart port known alone =
       let all = all_there apart in
       let link = some_there old.ports port (omega (arith, known, all)) in
       let later = some_there new.ports port (omega (arith, known, all, counted)) in
       subst (λ (s : PortSlave). IsResetLink (port_plan plan) port
       (group.state (port_plan plan) (port_past port past)) (loaded_at own port) s)
-      (sym (ap (λ (s : List PortSlave). slave_at s port) (are_own apart) ∙ slave_of new.ports port later.0 later.1))
-      (link_reset plan port (port_past port past) link.0 known (keeps.ports apart port link.0 link.1)
+      (sym (after_at apart port (omega (arith, known, all, counted)) true alone ∙ slave_of new.ports port later.0 later.1))
+      (link_reset plan port (port_past port past) link.0 known (keeps.ports port alone link.0 link.1)
       (loaded_at own port) later.0 (links port link.0 later.0 link.1 later.1))
 
-  pub is_reset : AreReset plan (group.state plan (shared_past plan.layout.links past)) loaded resets
+  pub is_reset : AreReset plan (group.state plan (shared_past plan.layout past)) loaded resets
       → IsReset plan past loaded own resets own_after
   is_reset shared = record {
     shared = shared;
     apart = λ apart. record {
-      counted = ap (λ (s : List PortSlave). length s) (are_own apart)
-          ∙ length-map new.ports (λ (link : PortView). link.slave) ∙ counted ∙ all_there apart;
+      counted = ap (λ (s : List PortSlave). length s) (are_own apart) ∙ own_counted ∙ counted ∙ all_there apart;
       each = own_reset apart;
+      rest = λ port known shared.
+          let all = all_there apart in after_at apart port (omega (arith, known, all, counted)) false shared;
     };
-    together = own_together (are_apart plan.layout.links) (slaves_of new.ports) plan.own;
+    together = own_together (are_apart plan.layout) own_now plan.own;
   }
 
   pub keeps_on : group_view.KeepsGroup (group_reset.reset_plan plan resets) [] new.shared
@@ -227,12 +274,12 @@ module _ (plan : Plan) (past : List Sighting) (old new : View) (keeps : Keeps pl
     suits = record { lawful = lawful; layout = layout ∙ keeps.suits.layout };
     lawful = tt;
     shared = subst (λ p. group_view.KeepsGroup (reset_plan plan resets own_after) p new.shared)
-        (sym (shared_none plan.layout.links)) (record {
+        (sym (shared_none plan.layout)) (record {
           suits = record { lawful = lawful; layout = shared.suits.layout };
           lawful = tt;
           state = shared.state;
         });
-    ports = λ apart port later found. fresh_port apart port later found;
+    ports = λ port alone later found. fresh_port port alone later found;
   }
     where
       lawful : IsPlan (reset_plan plan resets own_after)
@@ -242,9 +289,10 @@ module _ (plan : Plan) (past : List Sighting) (old new : View) (keeps : Keeps pl
         decode = keeps.suits.lawful.decode;
       }
 
-      fresh_port : IsTrue (are_apart plan.layout.links) → (port : ℕ) (later : PortView)
+      fresh_port : (port : ℕ) → IsTrue (is_alone plan.layout (Port port)) → (later : PortView)
           → slice_get new.ports port ≡ Some later → KeepsPort (port_plan (reset_plan plan resets own_after)) port [] later
-      fresh_port apart port later found =
+      fresh_port port alone later found =
+          let inside = within new.ports port later found in
           let link = some_there old.ports port (omega (arith, counted, within new.ports port later found)) in
           let is = links port link.0 later link.1 found in
           let bus : bus_at plan.layout.port_buses port ≡ link.0.under.bus =
@@ -253,6 +301,7 @@ module _ (plan : Plan) (past : List Sighting) (old new : View) (keeps : Keeps pl
             lawful = tt;
             under = ap nothing_under bus ∙ sym (ap (λ (v : PortView). v.under) is.2);
             flights = λ source. sym (ap (λ (v : PortView). flight_in v source) is.2);
-            slave = ap (λ (s : List PortSlave). slave_at s port) (are_own apart) ∙ slave_of new.ports port later found;
+            slave = after_at (apart_from plan.layout (Port port) alone) port inside true alone
+                ∙ slave_of new.ports port later found;
             unkept = λ source none. tt;
           }

@@ -1,42 +1,44 @@
--- Which links are judged together, and by which plan. All links that are watched are one group, but with `Each` a port's
--- link is a group by itself, and the masters' links are one. Lists of sightings have the latest first. It is this
--- project's own.
-use Rattle.std.specs.Prelude.{ℕ, Bool, true, false, if◌then◌else◌, List, [], ◌∷◌, filter}
+-- Which links are judged together, and by which plan. All links that are watched are one group; but a port's link is a
+-- group by itself with `Each`, and with `Both` if the system takes the port out. The others are one. Lists of sightings have
+-- the latest first. It is this project's own.
+use Rattle.std.specs.Prelude.{ℕ, Bool, true, false, not, ◌||◌, if◌then◌else◌, List, [], ◌∷◌, filter}
 use Rattle.tl_map.specs.declared.owners.Owner.{Owner}
 use Rattle.check_watch.specs.declared.beat.Link.{Link}
 use Rattle.check_watch.specs.declared.beat.Link.TheVariants.{Master, Port}
 use Rattle.check_watch.specs.declared.links.Links.{Links}
 use Rattle.check_watch.specs.declared.links.Links.TheVariants.{Both, Masters, Ports, Each}
-use Rattle.check_watch.specs.Plan.{Plan, Sighting, link_number, is_link}
+use Rattle.check_watch.specs.Plan.{Layout, Plan, Sighting, is_apart, link_number, is_link}
 use Rattle.check_watch.specs.Plan.LinkSide.{AtPorts}
 
--- the link is a port's that is judged by itself
-abbrev pub is_alone : Links → Link → Bool
-is_alone Both link = false
-is_alone Masters link = false
-is_alone Ports link = false
-is_alone Each (Master m) = false
-is_alone Each (Port p) = true
+-- a port's link is judged by itself, which the system takes out or not
+abbrev pub is_port_alone : Links → Bool → Bool
+is_port_alone Both apart = apart
+is_port_alone Masters apart = false
+is_port_alone Ports apart = false
+is_port_alone Each apart = true
 
--- ports' links are judged each by itself
-abbrev pub are_apart : Links → Bool
-are_apart Both = false
-are_apart Masters = false
-are_apart Ports = false
-are_apart Each = true
+-- the link is a port's that is judged by itself
+abbrev pub is_alone : Layout → Link → Bool
+is_alone layout (Master m) = false
+is_alone layout (Port p) = is_port_alone layout.links (is_apart layout p)
+
+-- one of these is set
+abbrev pub is_any_set : List Bool → Bool
+is_any_set [] = false
+is_any_set (flag ∷ flags) = flag || is_any_set flags
+
+-- some port's link is judged by itself, by which links are watched and which ports the system takes out
+abbrev pub is_some_alone : Links → List Bool → Bool
+is_some_alone links apart = is_port_alone links (is_any_set apart)
+
+abbrev pub are_apart : Layout → Bool
+are_apart layout = is_some_alone layout.links layout.apart
 
 -- ---- the links that are judged together, by the plan of the system
 
-abbrev pub is_at_master : Link → Bool
-is_at_master (Master m) = true
-is_at_master (Port p) = false
-
 -- the beats that crossed there
-abbrev pub shared_past : Links → List Sighting → List Sighting
-shared_past Both past = past
-shared_past Masters past = past
-shared_past Ports past = past
-shared_past Each past = filter (λ (x : Sighting). is_at_master x.link) past
+abbrev pub shared_past : Layout → List Sighting → List Sighting
+shared_past layout past = filter (λ (x : Sighting). not (is_alone layout x.link)) past
 
 -- ---- a port's link that is judged by itself
 
@@ -50,6 +52,7 @@ abbrev pub port_plan : Plan → Plan
 port_plan plan = record {
   layout = record {
     links = Ports;
+    apart = [];
     rules = plan.layout.rules;
     owners = everybody ∷ [];
     ports = plan.layout.ports;
@@ -70,7 +73,7 @@ port_past port past = filter (λ (x : Sighting). is_link x.link AtPorts port) pa
 -- ---- the group of a link
 
 abbrev pub plan_at : Plan → Link → Plan
-plan_at plan link = if is_alone plan.layout.links link then port_plan plan else plan
+plan_at plan link = if is_alone plan.layout link then port_plan plan else plan
 
-abbrev pub past_at : Links → Link → List Sighting → List Sighting
-past_at links link past = if is_alone links link then port_past (link_number link) past else shared_past links past
+abbrev pub past_at : Layout → Link → List Sighting → List Sighting
+past_at layout link past = if is_alone layout link then port_past (link_number link) past else shared_past layout past

@@ -17,7 +17,7 @@ use Rattle.check_sides.specs.Groups.{is_alone, plan_at, past_at}
 
 -- what a beat finds
 abbrev pub scene : Plan → List Sighting → Sighting → Scene
-scene plan past x = group.scene_in_group (plan_at plan x.link) (past_at plan.layout.links x.link past) x
+scene plan past x = group.scene_in_group (plan_at plan x.link) (past_at plan.layout x.link past) x
 
 abbrev pub IsLawful : Plan → List Sighting → Type 0
 IsLawful plan [] = Unit {0}
@@ -26,19 +26,19 @@ IsLawful plan (x ∷ past) = IsLawful plan past × IsAllowed (plan_at plan x.lin
 -- the fault is the first one, in the order in which they are tried, that the beat has after this past
 abbrev pub IsFirstFault : Plan → List Sighting → Sighting → Fault → Type 0
 IsFirstFault plan past x =
-    group_lawful.IsFirstGroupFault (plan_at plan x.link) (past_at plan.layout.links x.link past) x
+    group_lawful.IsFirstGroupFault (plan_at plan x.link) (past_at plan.layout x.link past) x
 
 -- what a beat ends after this past
 abbrev pub what_is_seen : Plan → List Sighting → Sighting → Seen
 what_is_seen plan past x =
-    group_lawful.seen_in_group (plan_at plan x.link) (past_at plan.layout.links x.link past) x
+    group_lawful.seen_in_group (plan_at plan x.link) (past_at plan.layout x.link past) x
 
 -- ---- what may need memory
 
 -- a port's slave may need memory with a beat after this past
 abbrev pub SlaveMayNeedMemory : Plan → List Sighting → Sighting → Type 0
 SlaveMayNeedMemory plan past x =
-    group_lawful.GroupMayNeedMemory (plan_at plan x.link) (past_at plan.layout.links x.link past) x
+    group_lawful.GroupMayNeedMemory (plan_at plan x.link) (past_at plan.layout x.link past) x
 
 -- the beat is one of a request of this source
 abbrev pub IsAskOf : Beat → ℕ → Type 0
@@ -57,7 +57,7 @@ IsFirstRequest past (D beat) = ⊥
 -- a source makes its first request with a beat after this past, at a port's link that is judged by itself
 abbrev pub IsNewcomer : Plan → List Sighting → Sighting → Type 0
 IsNewcomer plan past x =
-    IsTrue (is_alone plan.layout.links x.link) × IsFirstRequest (past_at plan.layout.links x.link past) x.beat
+    IsTrue (is_alone plan.layout x.link) × IsFirstRequest (past_at plan.layout x.link past) x.beat
 
 -- a beat may need memory after this past: its port's slave, or a source for its room
 abbrev pub MayNeedMemory : Plan → List Sighting → Sighting → Type 0

@@ -9,10 +9,10 @@ use Rattle.check_sides.specs.Groups.{shared_past}
 
 -- a request of the wide source is in flight on this side
 abbrev pub IsInFlightAt : Plan → List Sighting → LinkSide → ℕ → Type 0
-IsInFlightAt plan past side wide = group.IsInFlightInGroup plan (shared_past plan.layout.links past) side wide
+IsInFlightAt plan past side wide = group.IsInFlightInGroup plan (shared_past plan.layout past) side wide
 
 -- what a beat does to the requests in flight
 abbrev pub IsChange : Plan → List Sighting → Sighting → Change → Type 0
 IsChange plan past x change =
     IsChangeBy (IsInFlightAt plan past) (IsInFlightAt plan (x ∷ past)) plan.layout.owners
-    (group.EndsReply plan (shared_past plan.layout.links past) x) x change
+    (group.EndsReply plan (shared_past plan.layout past) x) x change

@@ -10,7 +10,7 @@ use Rattle.check_watch.specs.Past as group
 use Rattle.check_watch.specs.Plan.{Sighting}
 use Rattle.check_watch.specs.Reset.{AreReset, IsCutAt, IsLeftPort, loaded_at}
 use Rattle.check_sides.specs.Flights.{IsOpenOf}
-use Rattle.check_sides.specs.Groups.{are_apart, port_past, port_plan, shared_past}
+use Rattle.check_sides.specs.Groups.{are_apart, is_alone, port_past, port_plan, shared_past}
 use Rattle.check_sides.specs.Plan.{Plan}
 use Rattle.check_sides.specs.View.{PortView, fresh_link}
 
@@ -46,18 +46,21 @@ IsResetLink plan port state load later =
 abbrev pub reset_plan : Plan → List PortSlave → List PortSlave → Plan
 reset_plan plan resets own = record plan { resets = resets; own = own }
 
--- the slaves of ports' links that are judged each by itself, after a reset with which this is loaded: one of each port
+-- the slaves of ports' links that are judged each by itself, after a reset with which this is loaded: one of each port, and
+-- of another port what stood there
 pub record AreOwnReset (plan : Plan) (past : List Sighting) (loaded : List (Option Slave)) (own : List PortSlave)
     : Type 0 where
   pub counted : length own ≡ length plan.layout.ports
-  pub each : (port : ℕ) → port < length plan.layout.ports
+  pub each : (port : ℕ) → port < length plan.layout.ports → IsTrue (is_alone plan.layout (Port port))
       → IsResetLink (port_plan plan) port (group.state (port_plan plan) (port_past port past)) (loaded_at loaded port)
       (slave_at own port)
+  pub rest : (port : ℕ) → port < length plan.layout.ports → is_alone plan.layout (Port port) ≡ false
+      → slave_at own port ≡ slave_at plan.own port
 
 -- these slaves stand there after a reset: those of the links that are judged together; and those of ports' links by
--- themselves if these are judged so, else what stood there
+-- themselves if some are judged so, else what stood there
 pub record IsReset (plan : Plan) (past : List Sighting) (loaded own_loaded : List (Option Slave))
     (resets own : List PortSlave) : Type 0 where
-  pub shared : AreReset plan (group.state plan (shared_past plan.layout.links past)) loaded resets
-  pub apart : IsTrue (are_apart plan.layout.links) → AreOwnReset plan past own_loaded own
-  pub together : are_apart plan.layout.links ≡ false → own ≡ plan.own
+  pub shared : AreReset plan (group.state plan (shared_past plan.layout past)) loaded resets
+  pub apart : IsTrue (are_apart plan.layout) → AreOwnReset plan past own_loaded own
+  pub together : are_apart plan.layout ≡ false → own ≡ plan.own

@@ -26,7 +26,7 @@ use Rattle.check_watch.specs.Scene.{Scene, accepted, ask_if, begins_reply, captu
 use Rattle.check_watch.specs.View as group_view
 use Rattle.check_watch.specs.View.{GroupView}
 use Rattle.check_sides.specs.Flights.{flight_of, flight_kept}
-use Rattle.check_sides.specs.Groups.{are_apart, shared_past, port_plan, port_past}
+use Rattle.check_sides.specs.Groups.{are_apart, is_alone, shared_past, port_plan, port_past}
 use Rattle.check_sides.specs.Lawful.{IsAskOf, IsLawful, IsNew}
 
 -- ---- a port's link that is judged by itself
@@ -119,9 +119,9 @@ abbrev pub HaveBuses : List PortView → List Bus → Type 0
 HaveBuses links buses =
     (port : ℕ) (link : PortView) → slice_get links port ≡ Some link → link.under.bus ≡ bus_at buses port
 
--- each port's link that is judged by itself has its place and its bus
+-- each port's link has its place and its bus, if some are judged by themselves
 pub record IsSized (view : View) : Type 0 where
-  pub ports : IsTrue (are_apart view.layout.links) → length view.ports ≡ length view.layout.ports
+  pub ports : IsTrue (are_apart view.layout) → length view.ports ≡ length view.layout.ports
   pub buses : HaveBuses view.ports view.layout.port_buses
 
 -- a port's link with a bus of so many bytes and with this slave, before any beat
@@ -141,7 +141,7 @@ pub record Suits (plan : Plan) (view : View) : Type 0 where
 pub record Keeps (plan : Plan) (past : List Sighting) (view : View) : Type 0 where
   pub suits : Suits plan view
   pub lawful : IsLawful plan past
-  pub shared : group_view.KeepsGroup plan (shared_past plan.layout.links past) view.shared
-  pub ports : IsTrue (are_apart plan.layout.links) → (port : ℕ) (link : PortView)
+  pub shared : group_view.KeepsGroup plan (shared_past plan.layout past) view.shared
+  pub ports : (port : ℕ) → IsTrue (is_alone plan.layout (Port port)) → (link : PortView)
       → slice_get view.ports port ≡ Some link
       → KeepsPort (port_plan plan) port (port_past port past) link

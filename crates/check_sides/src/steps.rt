@@ -23,7 +23,7 @@ impl Watch {
         lanes: &[u8],
     ) -> Result<Seen, StepError>
         requires here { link ≡ Port port }
-        requires alone { is_alone self.old.layout.links link ≡ true }
+        requires alone { is_alone self.old.layout link ≡ true }
         requires beat { CanCross self.old.layout link lanes.now }
         ensures judged { (plan : Plan) (past : List Sighting) → Keeps plan past self.old
             → IsStepAfter plan past (seen_at link beat.now known lanes.now) self.new result }
@@ -47,7 +47,7 @@ impl Watch {
         lanes: &[u8],
     ) -> Result<Option<Ended>, AllocError>
         requires here { link ≡ Port port }
-        requires alone { is_alone self.old.layout.links link ≡ true }
+        requires alone { is_alone self.old.layout link ≡ true }
         requires beat { CanCross self.old.layout link lanes.now }
         ensures taken { (plan : Plan) (past : List Sighting) → Keeps plan past self.old
             → IsTakeAfter plan past (seen_at link beat.now known lanes.now) self.new result }
@@ -70,7 +70,7 @@ impl Watch {
         known: u64,
         lanes: &[u8],
     ) -> Result<Seen, StepError>
-        requires shared { is_alone self.old.layout.links link ≡ false }
+        requires shared { is_alone self.old.layout link ≡ false }
         requires beat { CanCross self.old.layout link lanes.now }
         ensures judged { (plan : Plan) (past : List Sighting) → Keeps plan past self.old
             → IsStepAfter plan past (seen_at link beat.now known lanes.now) self.new result }
@@ -89,7 +89,7 @@ impl Watch {
         known: u64,
         lanes: &[u8],
     ) -> Result<Option<Ended>, AllocError>
-        requires shared { is_alone self.old.layout.links link ≡ false }
+        requires shared { is_alone self.old.layout link ≡ false }
         requires beat { CanCross self.old.layout link lanes.now }
         ensures taken { (plan : Plan) (past : List Sighting) → Keeps plan past self.old
             → IsTakeAfter plan past (seen_at link beat.now known lanes.now) self.new result }

@@ -4,10 +4,11 @@ ghost use Rattle.check_beats.specs.Bus.{bus_bytes};
 ghost use Rattle.tl_types.specs.declared.limits.TheConstants.{MAX_SIZE};
 ghost use Rattle.check_watch.specs.declared.beat.Link.TheVariants.{Port};
 ghost use Rattle.check_watch.specs.Plan.{RoutesAt};
-ghost use Rattle.check_sides.specs.Groups.{is_alone};
+ghost use Rattle.check_sides.specs.Groups.{are_apart, is_alone, is_some_alone as is_some_by};
 ghost use Rattle.check_sides.specs.Plan.{Plan, IsPlan, HasLink, IsWatched, bus_of};
 ghost use Rattle.check_sides.specs.View.{IsSized, Keeps, fresh_links};
 
+use crate::groups::{is_port_alone, is_some_alone};
 use crate::port::PortLink;
 use check_beats::{Bus, LinkRules};
 use check_flight::PortSlave;
@@ -21,7 +22,7 @@ use tl_map::{AddressMap, SourceOwners};
 pub struct Watch {
     /// Of the links that are judged together.
     pub(crate) shared: GroupWatch,
-    /// Of each port's link that is judged by itself; nothing if none is.
+    /// Of each port's link, if some are judged by themselves; else nothing.
     pub(crate) ports: Vec<PortLink>,
 }
 
@@ -60,11 +61,13 @@ fn links_of(
 
 impl Watch {
     /// The judge of a crossbar with these rules, ports, paths and sources, before any beat. There is a slave for each port, the error
-    /// port's last, as it is at reset; a bus for each master's link, and one for each port's. With `Links::Each` slaves are
-    /// given a second time, which the ports' links have by themselves; otherwise that list is not looked at.
+    /// port's last, as it is at reset; a bus for each master's link, and one for each port's. A port that is flagged is judged by
+    /// itself if both sides are watched. If some port is, slaves are given a second time, which the ports' links have by
+    /// themselves; otherwise that list is not looked at.
     pub fn new(
         alloc: Global,
         links: Links,
+        apart: Vec<bool>,
         rules: LinkRules,
         map: AddressMap,
         paths: Paths,
@@ -77,9 +80,10 @@ impl Watch {
         requires slaves { length slaves.items ≡ length map + 1 }
         requires masters { length master_buses.items ≡ length sources }
         requires ports { length port_buses.items ≡ length map }
-        requires own { links ≡ Links.Each → length own.items ≡ length map + 1 }
+        requires own { IsTrue (is_some_by links apart.items) → length own.items ≡ length map + 1 }
         ensures layout { IfOk result (λ watch. watch.layout ≡ record {
           links = links;
+          apart = apart.items;
           rules = rules;
           owners = sources;
           ports = map;
@@ -92,6 +96,7 @@ impl Watch {
         ensures keeps { (plan : Plan) → IsPlan plan
             → plan.layout ≡ record {
               links = links;
+              apart = apart.items;
               rules = rules;
               owners = sources;
               ports = map;
@@ -99,12 +104,14 @@ impl Watch {
               master_buses = master_buses.items;
               port_buses = port_buses.items;
             }
-            → plan.resets ≡ slaves.items → (links ≡ Links.Each → plan.own ≡ own.items) → IfOk result (Keeps plan []) }
+            → plan.resets ≡ slaves.items → (IsTrue (is_some_by links apart.items) → plan.own ≡ own.items)
+            → IfOk result (Keeps plan []) }
     {
         let ports = links_of(alloc, &port_buses, own)?;
         let shared = GroupWatch::new(
             alloc,
             links,
+            apart,
             rules,
             map,
             paths,
@@ -184,15 +191,29 @@ impl Watch {
         let _ = &self.ports;
     }
 
+    /// Whether the link of a port is judged by itself.
+    pub fn is_alone(&self, port: usize) -> bool
+        ensures { result ≡ is_alone self.now.layout (Port port) }
+    {
+        is_port_alone(self.shared.links(), self.shared.is_apart(port))
+    }
+
+    /// Whether some port's link is judged by itself.
+    pub fn are_apart(&self) -> bool
+        ensures { result ≡ are_apart self.now.layout }
+    {
+        is_some_alone(self.shared.links(), self.shared.apart())
+    }
+
     /// The port whose link this is, if it is judged by itself.
     pub(crate) fn alone(&self, link: Link) -> Option<usize>
         ensures alone { IfSome result (λ port. (link ≡ Port port)
-            × (is_alone self.now.layout.links link ≡ true)) }
-        ensures shared { IfNone result (is_alone self.now.layout.links link ≡ false) }
+            × (is_alone self.now.layout link ≡ true)) }
+        ensures shared { IfNone result (is_alone self.now.layout link ≡ false) }
     {
-        match (link, self.shared.links()) {
-            (Link::Port(port), Links::Each) => Some(port),
-            (Link::Master(_) | Link::Port(_), _) => None,
+        match link {
+            Link::Port(port) if self.is_alone(port) => Some(port),
+            Link::Port(_) | Link::Master(_) => None,
         }
     }
 }

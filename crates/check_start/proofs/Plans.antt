@@ -4,8 +4,6 @@ use Rattle.std.specs.Prelude.{IsTrue}
 use Rattle.std.proofs.lemmas.List.{length-map}
 use Rattle.check_description.specs.Description.{Description}
 use Rattle.check_description.specs.Port.{Port}
-use Rattle.check_watch.specs.declared.links.Links.{Links}
-use Rattle.check_watch.specs.declared.links.Links.TheVariants.{Both, Masters, Ports, Each}
 use Rattle.check_sides.specs.Groups.{are_apart}
 use Rattle.check_sides.specs.Plan.{IsPlan, Layout, Plan}
 use Rattle.check_start.specs.Loads.{AreLoads, AreLoadsOf, SystemPlan, loads_at_reset, loads_of}
@@ -18,19 +16,12 @@ use Rattle.check_start.proofs.Loading.{loads_counted, loads_hold}
 -- a plan of beats is one of the system
 pub plan_of : (terms : Terms) (system : Description) (images : List (List ℕ)) (begins : Plan) → IsPlan begins
     → begins.layout ≡ layout_of terms system → shared_slaves terms images system.ports ≡ Ok begins.resets
-    → (terms.links ≡ Each → own_slaves terms images system.ports ≡ Ok begins.own)
+    → (IsTrue (are_apart (layout_of terms system)) → own_slaves terms images system.ports ≡ Ok begins.own)
     → (plan : SystemPlan) × IsPlanOf terms system images plan
 plan_of terms system images begins is layout resets own = (
   record { begins = begins; loads = loads_of system.ports },
   record { is = is; layout = layout; resets = resets; own = own; loads = refl },
 )
-
--- ports' links are judged each by itself only if each link is watched so
-each_of : (links : Links) → IsTrue (are_apart links) → links ≡ Each
-each_of Both apart = absurd cc
-each_of Masters apart = absurd cc
-each_of Ports apart = absurd cc
-each_of Each apart = refl
 
 -- what is loaded is what the slaves of the plan held at the beginning
 pub loads_are : (terms : Terms) (system : Description) (images : List (List ℕ)) (plan : SystemPlan)
@@ -45,5 +36,5 @@ loads_are terms system images plan is =
           (loads_hold (shared_side terms.links) terms.orders images system.ports plan.begins.resets is.resets);
       own = λ apart. subst (λ loads. AreLoads loads plan.begins.own loaded) (sym is.loads)
           (loads_hold side.Ports terms.orders images system.ports plan.begins.own
-          (is.own (each_of terms.links (subst (λ (l : Layout). IsTrue (are_apart l.links)) is.layout apart))));
+          (is.own (subst (λ (l : Layout). IsTrue (are_apart l)) is.layout apart)));
     }

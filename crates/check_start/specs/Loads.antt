@@ -39,11 +39,11 @@ AreLoads loads slaves loaded =
     (port : ℕ) → loaded_at loaded port ≡ (if slice_index_or loads port false then Some (slave_at slaves port).kept else None)
 
 -- the same of all slaves of a plan: those that are judged together, and those of ports' links that are judged each by
--- itself, if these are judged so
+-- itself, if some are judged so
 pub record AreLoadsOf (plan : SystemPlan) (loaded : List (Option Slave)) : Type 0 where
   pub counted : length loaded ≡ length plan.begins.layout.ports + 1
   pub shared : AreLoads plan.loads plan.begins.resets loaded
-  pub own : IsTrue (are_apart plan.begins.layout.links) → AreLoads plan.loads plan.begins.own loaded
+  pub own : IsTrue (are_apart plan.begins.layout) → AreLoads plan.loads plan.begins.own loaded
 
 -- ---- how it is made
 

@@ -1,5 +1,5 @@
 -- The slaves of a system's ports at reset. This project's own.
-use Rattle.std.specs.Prelude.{ℕ, ◌+◌, List, [], ◌∷◌, ◌++◌, Result, Ok, slice_get, unwrap_or}
+use Rattle.std.specs.Prelude.{ℕ, ◌+◌, if◌then◌else◌, List, [], ◌∷◌, ◌++◌, Result, Ok, slice_get, unwrap_or}
 use Rattle.check_flight.specs.PortSlave.{PortSlave}
 use Rattle.check_flight.specs.declared.order.Order.{Order}
 use Rattle.check_flight.specs.declared.order.SideOrders.{SideOrders}
@@ -7,22 +7,31 @@ use Rattle.check_watch.specs.declared.links.Links.{Links}
 use Rattle.check_watch.specs.declared.links.Links.TheVariants as links
 use Rattle.tl_text.specs.Reading.{◌>>=◌}
 use Rattle.check_keys.specs.declared.fault.SystemFault.{SystemFault}
+use Rattle.check_description.specs.Crossing.{is_apart_by}
 use Rattle.check_description.specs.Port.{Port}
 use Rattle.check_description.specs.Slave.{error_slave, slave_at_reset}
 use Rattle.check_start.specs.declared.slaves.SlaveSide.{SlaveSide}
-use Rattle.check_start.specs.declared.slaves.SlaveSide.TheVariants.{Masters, Ports}
+use Rattle.check_start.specs.declared.slaves.SlaveSide.TheVariants.{Masters, Ports, Compared}
 use Rattle.check_start.specs.declared.start.Terms.{Terms}
 
 -- ---- orders
 
 -- when the requests of a port take effect, as they are seen on a side; a port that says nothing goes by the system's
+abbrev pub order_at_masters : SideOrders → Port → Order
+order_at_masters orders port = unwrap_or port.orders.masters orders.masters
+
+abbrev pub order_at_ports : SideOrders → Port → Order
+order_at_ports orders port = unwrap_or port.orders.ports orders.ports
+
 abbrev pub order_of : SlaveSide → SideOrders → Port → Order
-order_of Masters orders port = unwrap_or port.orders.masters orders.masters
-order_of Ports orders port = unwrap_or port.orders.ports orders.ports
+order_of Masters orders port = order_at_masters orders port
+order_of Ports orders port = order_at_ports orders port
+order_of Compared orders port =
+    if is_apart_by port.crossing then order_at_masters orders port else order_at_ports orders port
 
 -- the side on which the slaves of links that are judged together see requests: the ports', if their links are among these
 abbrev pub shared_side : Links → SlaveSide
-shared_side links.Both = Ports
+shared_side links.Both = Compared
 shared_side links.Masters = Masters
 shared_side links.Ports = Ports
 shared_side links.Each = Masters

@@ -1,14 +1,14 @@
 -- How the judge of a system begins. This project's own.
-use Rattle.std.specs.Prelude.{◌≡◌, ℕ, List, map, Ok}
+use Rattle.std.specs.Prelude.{◌≡◌, ℕ, List, map, Ok, IsTrue}
 use Rattle.check_beats.specs.declared.bus.Bus.{Bus}
-use Rattle.check_description.specs.Port.{Port}
+use Rattle.check_description.specs.Port.{Port, apart_of}
 use Rattle.check_description.specs.Description.{Description, ranges_of}
 use Rattle.check_description.specs.Master.{Master}
+use Rattle.check_sides.specs.Groups.{are_apart}
 use Rattle.check_sides.specs.Plan.{IsPlan, Layout}
 use Rattle.check_lines.specs.Names.{NamesView}
 use Rattle.check_start.specs.Loads.{SystemPlan, loads_of}
 use Rattle.check_start.specs.Slaves.{own_slaves, shared_slaves}
-use Rattle.check_watch.specs.declared.links.Links.TheVariants.{Each}
 use Rattle.check_start.specs.declared.start.Terms.{Terms}
 
 abbrev pub master_buses : List Master → List Bus
@@ -21,6 +21,7 @@ port_buses ports = map (λ (port : Port). port.bus) ports
 abbrev pub layout_of : Terms → Description → Layout
 layout_of terms system = record {
   links = terms.links;
+  apart = apart_of system.ports;
   rules = system.rules;
   owners = system.owners;
   ports = ranges_of system.ports;
@@ -34,7 +35,7 @@ pub record IsPlanOf (terms : Terms) (system : Description) (images : List (List 
   pub is : IsPlan plan.begins
   pub layout : plan.begins.layout ≡ layout_of terms system
   pub resets : shared_slaves terms images system.ports ≡ Ok plan.begins.resets
-  pub own : terms.links ≡ Each → own_slaves terms images system.ports ≡ Ok plan.begins.own
+  pub own : IsTrue (are_apart (layout_of terms system)) → own_slaves terms images system.ports ≡ Ok plan.begins.own
   pub loads : plan.loads ≡ loads_of system.ports
 
 -- something holds by each plan of the system; and there is one

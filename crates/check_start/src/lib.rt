@@ -10,6 +10,7 @@
 //! makes the requests in flight of such a judge: none yet. Read on in `docs/MODEL.md`, "How a judge begins".
 #![tactic(auto)]
 
+mod crossing;
 mod loads;
 mod numbers;
 mod slaves;

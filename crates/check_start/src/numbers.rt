@@ -1,5 +1,5 @@
 //! The numbers of sources at the links of ports that list masters.
-ghost use Rattle.std.specs.Prelude.{◌≡◌, IfOk, map, option_map};
+ghost use Rattle.std.specs.Prelude.{◌≡◌, IfOk, None, if◌then◌else◌, option_map};
 ghost use Rattle.std.specs.List.{filter_map};
 ghost use Rattle.check_description.specs.Placed.{lists_view};
 ghost use Rattle.check_rows.specs.PortNumbers.{numbers_in, numbers_view};
@@ -7,7 +7,7 @@ ghost use Rattle.check_start.specs.Numbers.{numbers_by as numbers_by_lists, plac
 
 use check_description::{Described, PlacedMaster};
 use check_rows::{PortNumbers, SourcePlace};
-use check_sides::Links;
+use check_sides::{Links, is_port_alone};
 use std::alloc::{AllocError, Global};
 use tl_map::{Owner, SourceOwners};
 
@@ -41,16 +41,20 @@ fn places_of(
     Ok(places)
 }
 
-/// The numbers at the link of a port, if it lists masters.
+/// The numbers at the link of a port, if it lists masters, and is not judged by itself.
 fn port_numbers(
     alloc: Global,
     sources: &SourceOwners,
     nobody: u16,
+    is_alone: bool,
     list: &Option<Vec<PlacedMaster>>,
 ) -> Result<Option<PortNumbers>, AllocError>
-    ensures { IfOk result (λ numbers. option_map numbers_view numbers
-        ≡ option_map (numbers_of_port sources.now nobody) (option_map (λ placed. placed.items) list.now)) }
+    ensures { IfOk result (λ numbers. option_map numbers_view numbers ≡ (if is_alone then None
+        else option_map (numbers_of_port sources.now nobody) (option_map (λ placed. placed.items) list.now))) }
 {
+    if is_alone {
+        return Ok(None);
+    }
     let Some(placed) = list else {
         return Ok(None);
     };
@@ -58,36 +62,20 @@ fn port_numbers(
     Ok(Some(PortNumbers { places, nobody }))
 }
 
-/// Those of each port that lists masters.
-fn each_port(
-    alloc: Global,
-    sources: &SourceOwners,
-    nobody: u16,
-    lists: &[Option<Vec<PlacedMaster>>],
-) -> Result<Vec<Option<PortNumbers>>, AllocError>
-    ensures { IfOk result (λ numbers. numbers_in numbers.items ≡ map (option_map (numbers_of_port sources.now nobody))
-        (map (option_map (λ placed. placed.items)) lists.now)) }
-{
-    let mut numbers = Vec::with_capacity(alloc, lists.len())?;
-    for list in lists {
-        numbers.push(port_numbers(alloc, sources, nobody, list)?)?;
-    }
-    Ok(numbers)
-}
-
-/// The numbers at the ports' links that are watched: none if each of these is judged by itself.
+/// The numbers at the ports' links. A link that is judged by itself has none.
 pub(crate) fn numbers_by(
     alloc: Global,
     links: Links,
+    apart: &[bool],
     parts: &Described,
 ) -> Result<Vec<Option<PortNumbers>>, AllocError>
     ensures { IfOk result (λ numbers. numbers_in numbers.items
-        ≡ numbers_by_lists links parts.now.sources parts.now.nobody (lists_view parts.now.lists)) }
+        ≡ numbers_by_lists links parts.now.sources parts.now.nobody apart.now (lists_view parts.now.lists)) }
 {
-    match links {
-        Links::Each => Ok(Vec::new(alloc)),
-        Links::Both | Links::Masters | Links::Ports => {
-            each_port(alloc, &parts.sources, parts.nobody, &parts.lists)
-        }
+    let mut numbers = Vec::with_capacity(alloc, parts.lists.len())?;
+    for (apart, list) in apart.iter().zip(&parts.lists) {
+        let is_alone = is_port_alone(links, *apart);
+        numbers.push(port_numbers(alloc, &parts.sources, parts.nobody, is_alone, list)?)?;
     }
+    Ok(numbers)
 }

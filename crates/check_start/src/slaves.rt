@@ -3,7 +3,7 @@ ghost use Rattle.std.specs.Prelude.{◌≡◌, map};
 ghost use Rattle.check_keys.specs.Reading.{Gives};
 ghost use Rattle.check_description.specs.Port.{port_view};
 ghost use Rattle.check_description.specs.Slave.{slave_at_reset};
-ghost use Rattle.check_start.specs.Slaves.{image_at, order_of, shared_side as side_that_is_shared, slaves_at_reset, slaves_from};
+ghost use Rattle.check_start.specs.Slaves.{image_at, order_at_masters as masters_order, order_at_ports as ports_order, order_of, shared_side as side_that_is_shared, slaves_at_reset, slaves_from};
 
 use check_description::{Port, error_slave, slave_of};
 use check_flight::{Order, PortSlave, SideOrders};
@@ -18,6 +18,8 @@ pub enum SlaveSide {
     Masters,
     /// At its own link.
     Ports,
+    /// At its own link if messages to it are compared across, else at the masters' links.
+    Compared,
 }
 
 /// The side on which the slaves of links that are judged together see requests.
@@ -25,9 +27,24 @@ pub fn shared_side(links: Links) -> SlaveSide
     ensures { result ≡ side_that_is_shared links }
 {
     match links {
-        Links::Both | Links::Ports => SlaveSide::Ports,
+        Links::Both => SlaveSide::Compared,
+        Links::Ports => SlaveSide::Ports,
         Links::Masters | Links::Each => SlaveSide::Masters,
     }
+}
+
+/// When the requests of a port take effect, as masters see it.
+fn order_at_masters(orders: SideOrders, port: &Port) -> Order
+    ensures { result ≡ masters_order orders (port_view port.now) }
+{
+    port.orders.masters.unwrap_or(orders.masters)
+}
+
+/// When they do, as the port's link shows it.
+fn order_at_ports(orders: SideOrders, port: &Port) -> Order
+    ensures { result ≡ ports_order orders (port_view port.now) }
+{
+    port.orders.ports.unwrap_or(orders.ports)
 }
 
 /// When the requests of a port take effect, as they are seen on a side.
@@ -35,8 +52,15 @@ fn order_of(side: SlaveSide, orders: SideOrders, port: &Port) -> Order
     ensures { result ≡ order_of side orders (port_view port.now) }
 {
     match side {
-        SlaveSide::Masters => port.orders.masters.unwrap_or(orders.masters),
-        SlaveSide::Ports => port.orders.ports.unwrap_or(orders.ports),
+        SlaveSide::Masters => order_at_masters(orders, port),
+        SlaveSide::Ports => order_at_ports(orders, port),
+        SlaveSide::Compared => {
+            if port.crossing.is_apart() {
+                order_at_masters(orders, port)
+            } else {
+                order_at_ports(orders, port)
+            }
+        }
     }
 }
 

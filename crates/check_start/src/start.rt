@@ -1,9 +1,10 @@
 //! The judge of a system's beats, before any.
-ghost use Rattle.std.specs.Prelude.{◌≡◌, ◌≢◌, ◌≤◌, [], length, map, option_map, string_bytes, Err, IfOk, IfErr, Ok};
+ghost use Rattle.std.specs.Prelude.{◌≡◌, ◌≢◌, ◌≤◌, [], length, map, option_map, string_bytes, Err, IfOk, IfErr, IsTrue, Ok};
 ghost use Rattle.tl_map.specs.declared.limits.TheConstants.{MAX_JUDGED_MASTERS, MAX_JUDGED_PORTS};
 ghost use Rattle.check_keys.specs.declared.fault.SystemFault.TheVariants.{Memory};
 ghost use Rattle.check_description.specs.Port.{port_view};
 ghost use Rattle.check_description.specs.Master.{master_view};
+ghost use Rattle.check_sides.specs.Groups.{is_some_alone as is_some_by};
 ghost use Rattle.check_sides.specs.Plan.{Plan};
 ghost use Rattle.check_sides.specs.View.{Keeps};
 ghost use Rattle.check_unanswered.specs.View.{Holds};
@@ -14,6 +15,7 @@ ghost use Rattle.check_start.specs.Numbers.{numbers_of};
 ghost use Rattle.check_start.specs.Slaves.{own_slaves as slaves_of_links, shared_slaves};
 ghost use Rattle.check_start.specs.Start.{ByThePlan, layout_of, master_buses as buses_of_masters, system_names, port_buses as buses_of_ports};
 
+use crate::crossing::apart_of;
 use crate::loads::Loads;
 use crate::numbers::numbers_by;
 use crate::slaves::{SlaveSide, shared_side, slaves_of};
@@ -23,7 +25,7 @@ use check_flight::{PortSlave, SideOrders};
 use check_keys::SystemFault;
 use check_lines::Names;
 use check_rows::PortNumbers;
-use check_sides::{Links, Paths, Watch};
+use check_sides::{Links, Paths, Watch, is_some_alone};
 use check_unanswered::Pending;
 use std::alloc::{AllocError, Global};
 use tl_map::{AddressMap, SourceOwners};
@@ -145,21 +147,23 @@ fn buses_of(alloc: Global, parts: &Described) -> Result<LinkBuses, AllocError>
     Ok(LinkBuses { masters, ports })
 }
 
-/// The slaves that ports' links have by themselves: those of their side if each is judged by itself, else none.
+/// The slaves that ports' links have by themselves: those of their side if some link is judged by itself, else none.
 fn own_slaves(
     alloc: Global,
     ports: &[Port],
     images: &[Vec<u8>],
     terms: Terms,
+    apart: &[bool],
 ) -> Result<Vec<PortSlave>, SystemFault>
-    ensures own { IfOk result (λ own. terms.links ≡ Links.Each
+    ensures own { IfOk result (λ own. IsTrue (is_some_by terms.links apart.now)
         → slaves_of_links terms (map (λ image. image.items) images.now) (map port_view ports.now) ≡ Ok own.items) }
     ensures fault { IfErr result (λ fault. fault ≢ Memory
         → slaves_of_links terms (map (λ image. image.items) images.now) (map port_view ports.now) ≡ Err fault) }
 {
-    match terms.links {
-        Links::Each => slaves_of(alloc, ports, images, SlaveSide::Ports, terms.orders),
-        Links::Both | Links::Masters | Links::Ports => Ok(Vec::new(alloc)),
+    if is_some_alone(terms.links, apart) {
+        slaves_of(alloc, ports, images, SlaveSide::Ports, terms.orders)
+    } else {
+        Ok(Vec::new(alloc))
     }
 }
 
@@ -176,18 +180,19 @@ fn reset_slaves(
     ports: &[Port],
     images: &[Vec<u8>],
     terms: Terms,
+    apart: &[bool],
 ) -> Result<Slaves, SystemFault>
     ensures shared { IfOk result (λ slaves.
         shared_slaves terms (map (λ image. image.items) images.now) (map port_view ports.now)
         ≡ Ok slaves.shared.items) }
-    ensures own { IfOk result (λ slaves. terms.links ≡ Links.Each
+    ensures own { IfOk result (λ slaves. IsTrue (is_some_by terms.links apart.now)
         → slaves_of_links terms (map (λ image. image.items) images.now) (map port_view ports.now)
         ≡ Ok slaves.own.items) }
     ensures fault { IfErr result (λ fault. fault ≢ Memory
         → shared_slaves terms (map (λ image. image.items) images.now) (map port_view ports.now) ≡ Err fault) }
 {
     let shared = slaves_of(alloc, ports, images, shared_side(terms.links), terms.orders)?;
-    let own = own_slaves(alloc, ports, images, terms)?;
+    let own = own_slaves(alloc, ports, images, terms, apart)?;
     Ok(Slaves { shared, own })
 }
 
@@ -218,16 +223,18 @@ pub fn begin(
 {
     let names = system_names(alloc, &system)?;
     let parts = system.into_parts();
-    let slaves = reset_slaves(alloc, &parts.ports, images, terms)?;
+    let apart = apart_of(alloc, &parts.ports)?;
+    let slaves = reset_slaves(alloc, &parts.ports, images, terms, &apart)?;
     // one for the judge, and one for the reader of rows
     let buses = buses_of(alloc, &parts)?;
     let told = buses_of(alloc, &parts)?;
-    let numbers = numbers_by(alloc, terms.links, &parts)?;
+    let numbers = numbers_by(alloc, terms.links, &apart, &parts)?;
     let paths = Paths::new(parts.paths);
     let loads = Loads::of(alloc, parts.ports, images)?;
     let watch = Watch::new(
         alloc,
         terms.links,
+        apart,
         parts.rules,
         parts.addresses,
         paths,

@@ -1,6 +1,5 @@
 -- A request that is open at a port is in flight as it is counted, whole, and of that port.
 use Rattle.std.proofs.Common.{◌≡◌, ◌≢◌, ◌∙◌, ◌⊎◌, inl, inr, ⊎_elim, ℕ, Bool, true, false, List, [], ◌∷◌, ◌++◌, length, Option, Some, refl, ap, sym, subst}
-use Rattle.std.specs.Prelude.{nat_lt}
 use Rattle.std.specs.List.{AllByRecursion}
 use Rattle.tl_types.specs.Request.{Request}
 use Rattle.tl_map.specs.Map.{IsLawfulAddressMap}
@@ -11,7 +10,7 @@ use Rattle.check_flight.specs.Flight.{Turn}
 use Rattle.check_flight.specs.Flight.Turn.{Idle, Asking, Asked}
 use Rattle.check_watch.specs.Lawful.{IsLawfulGroup as IsGroupLawful}
 use Rattle.check_watch.specs.Past.{State, state}
-use Rattle.check_watch.specs.Plan.{IsPlan, Plan, LinkSide, Sighting, RoutesWide, link_number, route_of}
+use Rattle.check_watch.specs.Plan.{IsPlan, Plan, LinkSide, Sighting, RoutesWide, link_number, may_cross, route_of}
 use Rattle.check_watch.specs.Plan.LinkSide.{AtMasters, AtPorts}
 use Rattle.check_watch.specs.declared.beat.Link.TheVariants.{Master, Port}
 use Rattle.check_watch.proofs.Judging.{route_is as route_by_plan}
@@ -60,14 +59,14 @@ open_of all wide ask is =
 -- ---- at which side
 
 -- a port's slave is seen at the side that is counted; or both sides are watched, and it is seen at the port's link
-sides : (links : Links) (has_link : Bool) → (side_by links has_link ≡ counted_side links)
-    ⊎ ((links ≡ Both) × (side_by links has_link ≡ AtPorts)
+sides : (links : Links) (crosses : Bool) → (side_by links crosses ≡ counted_side links)
+    ⊎ ((links ≡ Both) × (side_by links crosses ≡ AtPorts)
     × (counted_side links ≡ AtMasters))
 sides Both true = inr (refl, refl, refl)
 sides Both false = inl refl
-sides Masters has_link = inl refl
-sides Ports has_link = inl refl
-sides Each has_link = inl refl
+sides Masters crosses = inl refl
+sides Ports crosses = inl refl
+sides Each crosses = inl refl
 
 -- ---- what a port has taken is what a master sent
 
@@ -216,4 +215,4 @@ module _ (plan : Plan) (is_plan : IsPlan plan) (map : IsLawfulAddressMap plan.la
         address = sent.address ∙ whole.address;
         size = sent.size ∙ whole.size;
       })
-      (sides plan.layout.links (nat_lt port (length plan.layout.ports)))
+      (sides plan.layout.links (may_cross plan.layout port))

@@ -34,7 +34,8 @@ use Rattle.check_review.specs.Count.{answered_in_past, asked_in_past, one_more}
 use Rattle.check_text_laws.specs.Sums.{is_answered, is_asked}
 use Rattle.check_text_laws.proofs.Finding.{found, own_found}
 use Rattle.check_text_laws.proofs.Kept.{AreKept}
-use Rattle.check_text_laws.proofs.Rows.{answered_kept, are_kept, counted_there, counted_together}
+use Rattle.check_text_laws.proofs.Rows.{answered_kept, are_kept, counted_there}
+use Rattle.check_coverage.proofs.Lawful.{counted_together}
 
 -- how many of these are of a kind
 abbrev pub how_many : (Bin → Bool) → List Bin → ℕ
@@ -246,7 +247,7 @@ module _ (plan : Plan) (before : List SeenRow) (row : SeenRow) where
 
   own_end : EndsOwn row.sighting.beat end
   own_end = ends_own (plan_at plan row.sighting.link).layout row.sighting.link
-      (scene_in_group (plan_at plan row.sighting.link) (past_at plan.layout.links row.sighting.link (beats_of before)) row.sighting)
+      (scene_in_group (plan_at plan row.sighting.link) (past_at plan.layout row.sighting.link (beats_of before)) row.sighting)
       row.sighting.beat row.sighting.known row.sighting.lanes
 
   abbrev added : Bool → List Bin
@@ -276,9 +277,9 @@ module _ (plan : Plan) (before : List SeenRow) (row : SeenRow) where
       has counted (A beat) is = tt
       has counted (D beat) is =
           answered_kept plan before row lawful.0 now
-          (subst (λ sd. AreKept plan (state plan (shared_past plan.layout.links (beats_of before))) sd now)
+          (subst (λ sd. AreKept plan (state plan (shared_past plan.layout (beats_of before))) sd now)
           (sym (counted_there plan.layout.links row.sighting.link counted)) (are_kept plan before lawful.0))
-          (counted_together plan.layout.links row.sighting.link counted) lawful beat is
+          (counted_together plan.layout row.sighting.link counted) lawful beat is
 
       go : (b : Bool) → is_counted plan.layout.links row.sighting.link ≡ b
           → how_many is_answered (added b) ≡ one_if (b && ends_a_reply end)

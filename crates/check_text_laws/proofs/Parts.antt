@@ -1,5 +1,5 @@
 -- A list is lawful exactly if the beats of each group are.
-use Rattle.std.proofs.Common.{◌≡◌, ℕ, Bool, true, false, List, [], ◌∷◌, ◌++◌, refl, sym, subst, eqb-true}
+use Rattle.std.proofs.Common.{◌≡◌, ℕ, Bool, true, false, List, [], ◌∷◌, ◌++◌, ◌∙◌, refl, ap, sym, subst, eqb-true}
 use Rattle.std.specs.Prelude.{◌↔◌, ◌==◌, IsTrue}
 use Rattle.std.proofs.lemmas.Bool.{eqb-false}
 use Rattle.check_watch.specs.declared.beat.Beat.{Beat}
@@ -9,11 +9,9 @@ use Rattle.check_watch.specs.Lawful as group_lawful
 use Rattle.check_watch.specs.Lawful.{IsAllowed}
 use Rattle.check_watch.specs.Past.{scene_in_group}
 use Rattle.check_watch.specs.Plan.{Sighting, link_number, seen_at}
-use Rattle.check_watch.specs.declared.links.Links.{Links}
-use Rattle.check_watch.specs.declared.links.Links.TheVariants.{Both, Masters, Ports, Each}
 use Rattle.check_sides.specs.Groups.{are_apart, is_alone, plan_at, past_at, shared_past, port_plan, port_past}
 use Rattle.check_sides.specs.Lawful.{IsLawful}
-use Rattle.check_sides.specs.Plan.{Plan}
+use Rattle.check_sides.specs.Plan.{Layout, Plan}
 use Rattle.check_sides.proofs.Fresh.{shared_none}
 use Rattle.check_sides.proofs.Grouping.{apart_from, in_group, of_group, port_more, port_other, port_same, shared_more, shared_same}
 
@@ -22,46 +20,32 @@ pub earlier_is_lawful : (plan : Plan) (later earlier : List Sighting) → IsLawf
 earlier_is_lawful plan [] earlier lawful = lawful
 earlier_is_lawful plan (x ∷ later) earlier lawful = earlier_is_lawful plan later earlier lawful.0
 
--- ---- which links are alone
-
-pub alone_port : (links : Links) (port : ℕ) → IsTrue (are_apart links) → is_alone links (Port port) ≡ true
-alone_port Both port apart = cc
-alone_port Masters port apart = cc
-alone_port Ports port apart = cc
-alone_port Each port apart = refl
-
-pub master_shared : (links : Links) (master : ℕ) → is_alone links (Master master) ≡ false
-master_shared Both master = refl
-master_shared Masters master = refl
-master_shared Ports master = refl
-master_shared Each master = refl
-
 -- ---- the parts of a lawful list
 
 -- a beat is lawful after these of its group
 abbrev IsNext : Plan → List Sighting → Sighting → Type 0
 IsNext plan past x =
-    IsAllowed (plan_at plan x.link) (scene_in_group (plan_at plan x.link) (past_at plan.layout.links x.link past) x) x
+    IsAllowed (plan_at plan x.link) (scene_in_group (plan_at plan x.link) (past_at plan.layout x.link past) x) x
 
-shared_next : (plan : Plan) (past : List Sighting) (x : Sighting) (b : Bool) → is_alone plan.layout.links x.link ≡ b
-    → group_lawful.IsLawfulGroup plan (shared_past plan.layout.links past) → IsNext plan past x
-    → group_lawful.IsLawfulGroup plan (shared_past plan.layout.links (x ∷ past))
+shared_next : (plan : Plan) (past : List Sighting) (x : Sighting) (b : Bool) → is_alone plan.layout x.link ≡ b
+    → group_lawful.IsLawfulGroup plan (shared_past plan.layout past) → IsNext plan past x
+    → group_lawful.IsLawfulGroup plan (shared_past plan.layout (x ∷ past))
 shared_next plan past x false is before next =
     subst (λ l. group_lawful.IsLawfulGroup plan l)
-    (sym (shared_more x.beat x.known x.lanes past plan.layout.links x.link is))
+    (sym (shared_more x.beat x.known x.lanes past plan.layout x.link is))
     (before, in_group plan past x.link (λ p l. IsAllowed p (scene_in_group p l x) x) false is next)
 shared_next plan past x true is before next =
     subst (λ l. group_lawful.IsLawfulGroup plan l)
-    (sym (shared_same x.beat x.known x.lanes past plan.layout.links x.link is)) before
+    (sym (shared_same x.beat x.known x.lanes past plan.layout x.link is)) before
 
 pub shared_part : (plan : Plan) (past : List Sighting) → IsLawful plan past
-    → group_lawful.IsLawfulGroup plan (shared_past plan.layout.links past)
+    → group_lawful.IsLawfulGroup plan (shared_past plan.layout past)
 shared_part plan [] lawful =
-    subst (λ l. group_lawful.IsLawfulGroup plan l) (sym (shared_none plan.layout.links)) tt
+    subst (λ l. group_lawful.IsLawfulGroup plan l) (sym (shared_none plan.layout)) tt
 shared_part plan (x ∷ past) lawful =
-    shared_next plan past x (is_alone plan.layout.links x.link) refl (shared_part plan past lawful.0) lawful.1
+    shared_next plan past x (is_alone plan.layout x.link) refl (shared_part plan past lawful.0) lawful.1
 
-module _ (plan : Plan) (apart : IsTrue (are_apart plan.layout.links)) (port : ℕ) where
+module _ (plan : Plan) (port : ℕ) (alone : IsTrue (is_alone plan.layout (Port port))) where
   port_next : (past : List Sighting) (beat : Beat) (known : ℕ) (lanes : List ℕ) (link : Link)
       → group_lawful.IsLawfulGroup (port_plan plan) (port_past port past)
       → IsNext plan past (seen_at link beat known lanes)
@@ -79,7 +63,7 @@ module _ (plan : Plan) (apart : IsTrue (are_apart plan.layout.links)) (port : �
           (subst (λ l. group_lawful.IsLawfulGroup (port_plan plan) l) (sym (port_more beat known lanes past q)) (
             subst (λ k. group_lawful.IsLawfulGroup (port_plan plan) (port_past k past)) (sym e) before,
             in_group plan past (Port q) (λ p l. IsAllowed p (scene_in_group p l x) x) true
-                (alone_port plan.layout.links q apart) next,
+                (ap (λ k. is_alone plan.layout (Port k)) e ∙ alone) next,
           ))
       go false is =
           subst (λ l. group_lawful.IsLawfulGroup (port_plan plan) l)
@@ -94,14 +78,14 @@ module _ (plan : Plan) (apart : IsTrue (are_apart plan.layout.links)) (port : �
 
 -- the beats of each group are lawful
 pub record AreLawfulApart (plan : Plan) (past : List Sighting) : Type 0 where
-  pub shared : group_lawful.IsLawfulGroup plan (shared_past plan.layout.links past)
-  pub ports : IsTrue (are_apart plan.layout.links) → (port : ℕ)
+  pub shared : group_lawful.IsLawfulGroup plan (shared_past plan.layout past)
+  pub ports : (port : ℕ) → IsTrue (is_alone plan.layout (Port port))
       → group_lawful.IsLawfulGroup (port_plan plan) (port_past port past)
 
 pub apart : (plan : Plan) (past : List Sighting) → IsLawful plan past → AreLawfulApart plan past
 apart plan past lawful = record {
   shared = shared_part plan past lawful;
-  ports = λ are port. port_part plan are port past lawful;
+  ports = λ port alone. port_part plan port alone past lawful;
 }
 
 ports_before : (plan : Plan) (past : List Sighting) (beat : Beat) (known : ℕ) (lanes : List ℕ) (q port : ℕ)
@@ -124,32 +108,31 @@ ports_before plan past beat known lanes q port after = go (q == port) refl
 
 -- what is said of the beats before, and of the beat
 before : (plan : Plan) (past : List Sighting) (beat : Beat) (known : ℕ) (lanes : List ℕ) (link : Link) (b : Bool)
-    → is_alone plan.layout.links link ≡ b
+    → is_alone plan.layout link ≡ b
     → AreLawfulApart plan (seen_at link beat known lanes ∷ past)
     → AreLawfulApart plan past × IsNext plan past (seen_at link beat known lanes)
 before plan past beat known lanes link false is after =
     let x : Sighting = seen_at link beat known lanes in
-    let shared : group_lawful.IsLawfulGroup plan (x ∷ shared_past plan.layout.links past) =
+    let shared : group_lawful.IsLawfulGroup plan (x ∷ shared_past plan.layout past) =
     subst (λ l. group_lawful.IsLawfulGroup plan l)
-    (shared_more beat known lanes past plan.layout.links link is) after.shared in (
+    (shared_more beat known lanes past plan.layout link is) after.shared in (
       record {
         shared = shared.0;
-        ports = λ are port. subst (λ l. group_lawful.IsLawfulGroup (port_plan plan) l)
-            (port_same beat known lanes past plan.layout.links link port is are) (after.ports are port);
+        ports = λ port alone. subst (λ l. group_lawful.IsLawfulGroup (port_plan plan) l)
+            (port_same beat known lanes past plan.layout link port is alone) (after.ports port alone);
       },
       of_group plan past link (λ p l. IsAllowed p (scene_in_group p l x) x) false is shared.1,
     )
-before plan past beat known lanes (Master m) true is after =
-    let shared = master_shared plan.layout.links m in absurd (cc)
+before plan past beat known lanes (Master m) true is after = absurd (cc)
 before plan past beat known lanes (Port q) true is after =
     let x : Sighting = seen_at (Port q) beat known lanes in
     let here : group_lawful.IsLawfulGroup (port_plan plan) (x ∷ port_past q past) =
     subst (λ l. group_lawful.IsLawfulGroup (port_plan plan) l) (port_more beat known lanes past q)
-    (after.ports (apart_from plan.layout.links (Port q) is) q) in (
+    (after.ports q is) in (
       record {
         shared = subst (λ l. group_lawful.IsLawfulGroup plan l)
-            (shared_same beat known lanes past plan.layout.links (Port q) is) after.shared;
-        ports = λ are port. ports_before plan past beat known lanes q port (after.ports are port);
+            (shared_same beat known lanes past plan.layout (Port q) is) after.shared;
+        ports = λ port alone. ports_before plan past beat known lanes q port (after.ports port alone);
       },
       of_group plan past (Port q) (λ p l. IsAllowed p (scene_in_group p l x) x) true is here.1,
     )
@@ -157,70 +140,67 @@ before plan past beat known lanes (Port q) true is after =
 pub together : (plan : Plan) (past : List Sighting) → AreLawfulApart plan past → IsLawful plan past
 together plan [] are = tt
 together plan (x ∷ past) are =
-    let rest = before plan past x.beat x.known x.lanes x.link (is_alone plan.layout.links x.link) refl are in
+    let rest = before plan past x.beat x.known x.lanes x.link (is_alone plan.layout x.link) refl are in
     (together plan past rest.0, rest.1)
 
 -- ---- link by link
 
-pub at_each : (plan : Plan) (past : List Sighting) → AreLawfulApart plan past → (link : Link)
-    → group_lawful.IsLawfulGroup (plan_at plan link) (past_at plan.layout.links link past)
-at_each plan past are link = go (is_alone plan.layout.links link) refl
+-- what holds of the links that are judged together, and of each port's link that is judged by itself, holds of each group
+pub by_group : (plan : Plan) (past : List Sighting) (P : Plan → List Sighting → Type 0)
+    → P plan (shared_past plan.layout past)
+    → ((port : ℕ) → IsTrue (is_alone plan.layout (Port port)) → P (port_plan plan) (port_past port past))
+    → (link : Link) → P (plan_at plan link) (past_at plan.layout link past)
+by_group plan past P shared ports (Master m) = shared
+by_group plan past P shared ports (Port p) = go (is_alone plan.layout (Port p)) refl
   where
-    go : (b : Bool) → is_alone plan.layout.links link ≡ b
-        → group_lawful.IsLawfulGroup (plan_at plan link) (past_at plan.layout.links link past)
-    go false is = of_group plan past link (λ p l. group_lawful.IsLawfulGroup p l) false is are.shared
-    go true is = of_group plan past link (λ p l. group_lawful.IsLawfulGroup p l) true is
-        (are.ports (apart_from plan.layout.links link is) (link_number link))
+    go : (b : Bool) → is_alone plan.layout (Port p) ≡ b → P (plan_at plan (Port p)) (past_at plan.layout (Port p) past)
+    go false is = of_group plan past (Port p) P false is shared
+    go true is = of_group plan past (Port p) P true is (ports p is)
+
+pub at_each : (plan : Plan) (past : List Sighting) → AreLawfulApart plan past → (link : Link)
+    → group_lawful.IsLawfulGroup (plan_at plan link) (past_at plan.layout link past)
+at_each plan past are = by_group plan past (λ p l. group_lawful.IsLawfulGroup p l) are.shared are.ports
 
 pub from_each : (plan : Plan) (past : List Sighting)
-    → ((link : Link) → group_lawful.IsLawfulGroup (plan_at plan link) (past_at plan.layout.links link past))
+    → ((link : Link) → group_lawful.IsLawfulGroup (plan_at plan link) (past_at plan.layout link past))
     → AreLawfulApart plan past
 from_each plan past each = record {
-  shared = in_group plan past (Master 0) (λ p l. group_lawful.IsLawfulGroup p l) false
-      (master_shared plan.layout.links 0) (each (Master 0));
-  ports = λ are port. in_group plan past (Port port) (λ p l. group_lawful.IsLawfulGroup p l) true
-      (alone_port plan.layout.links port are) (each (Port port));
+  shared = in_group plan past (Master 0) (λ p l. group_lawful.IsLawfulGroup p l) false refl (each (Master 0));
+  ports = λ port alone. in_group plan past (Port port) (λ p l. group_lawful.IsLawfulGroup p l) true alone (each (Port port));
 }
 
--- ---- by the word
+-- ---- group by group
 
-each_apart : (links : Links) → links ≡ Each → IsTrue (are_apart links)
-each_apart links is = rw is refl
-
-pub with_each : (plan : Plan) (past : List Sighting) → plan.layout.links ≡ Each
-    → IsLawful plan past ↔ (group_lawful.IsLawfulGroup plan (shared_past Each past)
-    × ((port : ℕ) → group_lawful.IsLawfulGroup (port_plan plan) (port_past port past)))
-with_each plan past is = (
-  λ lawful. (
-    subst (λ k. group_lawful.IsLawfulGroup plan (shared_past k past)) is (shared_part plan past lawful),
-    λ port. port_part plan (each_apart plan.layout.links is) port past lawful,
-  ),
-  λ both. together plan past (record {
-    shared = subst (λ k. group_lawful.IsLawfulGroup plan (shared_past k past)) (sym is) both.0;
-    ports = λ are port. both.1 port;
-  }),
+pub with_each : (plan : Plan) (past : List Sighting)
+    → IsLawful plan past ↔ (group_lawful.IsLawfulGroup plan (shared_past plan.layout past)
+    × ((port : ℕ) → IsTrue (is_alone plan.layout (Port port))
+    → group_lawful.IsLawfulGroup (port_plan plan) (port_past port past)))
+with_each plan past = (
+  λ lawful. (shared_part plan past lawful, λ port alone. port_part plan port alone past lawful),
+  λ both. together plan past (record { shared = both.0; ports = both.1 }),
 )
 
-same_past : (links : Links) (past : List Sighting) → (links ≡ Each → ⊥) → shared_past links past ≡ past
-same_past Both past other = refl
-same_past Masters past other = refl
-same_past Ports past other = refl
-same_past Each past other = absurd (other refl)
+-- if no port's link is judged by itself, no link is
+none_alone : (layout : Layout) (link : Link) → are_apart layout ≡ false → is_alone layout link ≡ false
+none_alone layout link none = go (is_alone layout link) refl
+  where
+    go : (alone : Bool) → is_alone layout link ≡ alone → alone ≡ false
+    go true is = let some = apart_from layout link is in absurd (cc)
+    go false is = refl
 
-not_apart : (links : Links) → (links ≡ Each → ⊥) → IsTrue (are_apart links) → ⊥
-not_apart Both other are = cc
-not_apart Masters other are = cc
-not_apart Ports other are = cc
-not_apart Each other are = other refl
+same_past : (layout : Layout) (past : List Sighting) → are_apart layout ≡ false → shared_past layout past ≡ past
+same_past layout [] none = refl
+same_past layout (x ∷ past) none =
+    shared_more x.beat x.known x.lanes past layout x.link (none_alone layout x.link none)
+    ∙ ap (λ l. x ∷ l) (same_past layout past none)
 
-pub with_others : (plan : Plan) (past : List Sighting) → (plan.layout.links ≡ Each → ⊥)
+pub with_others : (plan : Plan) (past : List Sighting) → are_apart plan.layout ≡ false
     → IsLawful plan past ↔ group_lawful.IsLawfulGroup plan past
-with_others plan past other = (
-  λ lawful. subst (λ l. group_lawful.IsLawfulGroup plan l) (same_past plan.layout.links past other)
+with_others plan past none = (
+  λ lawful. subst (λ l. group_lawful.IsLawfulGroup plan l) (same_past plan.layout past none)
       (shared_part plan past lawful),
   λ lawful. together plan past (record {
-    shared = subst (λ l. group_lawful.IsLawfulGroup plan l)
-        (sym (same_past plan.layout.links past other)) lawful;
-    ports = λ are. absurd (not_apart plan.layout.links other are);
+    shared = subst (λ l. group_lawful.IsLawfulGroup plan l) (sym (same_past plan.layout past none)) lawful;
+    ports = λ port alone. let shared = none_alone plan.layout (Port port) none in absurd (cc);
   }),
 )

@@ -54,13 +54,13 @@ module _ (loose strict : Plan) (looser : IsLooser loose strict) where
 pub nothing_passed : (loose : Plan) (strict : Plan) (rows : List SeenRow) (later earlier : List Bin) (ports : ℕ)
     (old new : List ℕ) → IsPlan loose
     → IsLawfulAddressMap loose.layout.ports
-    → AreGroupWatched loose.layout (shared_past loose.layout.links (beats_of rows))
+    → AreGroupWatched loose.layout (shared_past loose.layout (beats_of rows))
     → IsLawful loose (beats_of rows)
     → (tells : TellsCoverage ports (later ++ (bins loose rows ++ earlier)) old new) → IsLooser loose strict → AreFresh strict
     → DifferUntold loose strict tells.entries
-    → IsGroupLawful strict (shared_past loose.layout.links (beats_of rows))
+    → IsGroupLawful strict (shared_past loose.layout (beats_of rows))
 nothing_passed loose strict rows later earlier ports old new is_plan map watched lawful tells looser fresh differ =
-    let past = shared_past loose.layout.links (beats_of rows) in
+    let past = shared_past loose.layout (beats_of rows) in
     uncontested_is_tight loose strict past looser
     (strict_plan loose strict looser is_plan) fresh
     (strict_watched loose strict looser past watched)

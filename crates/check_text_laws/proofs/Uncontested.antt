@@ -143,7 +143,7 @@ module _ (plan : Plan) (is_plan : IsPlan plan) (map : IsLawfulAddressMap plan.la
   p = plan
 
   abbrev past_of : List SeenRow → List Sighting
-  past_of rows = shared_past plan.layout.links (beats_of rows)
+  past_of rows = shared_past plan.layout (beats_of rows)
 
   abbrev slave : Slave
   slave = (reset_of p port).kept
@@ -175,13 +175,13 @@ module _ (plan : Plan) (is_plan : IsPlan plan) (map : IsLawfulAddressMap plan.la
       → how_often (bin.Contested port) (bins plan rows) ≡ 0
       → OfFronts (AreApart slave) (moments p port (past_of rows))
   all_fronts [] watched lawful none =
-      subst (λ l. OfFronts (AreApart slave) (moments p port l)) (sym (shared_none plan.layout.links))
+      subst (λ l. OfFronts (AreApart slave) (moments p port l)) (sym (shared_none plan.layout))
       (fronts_none (AreApart slave)
-      (subst (λ l. AreApart slave (moments p port l)) (shared_none plan.layout.links)
+      (subst (λ l. AreApart slave (moments p port l)) (shared_none plan.layout)
       (now_apart [] watched lawful none slave refl)))
   all_fronts (row ∷ before) watched lawful none =
-      go (is_alone plan.layout.links row.sighting.link) refl
-      (all_fronts before (watched_before (is_alone plan.layout.links row.sighting.link) refl) lawful.0 earlier)
+      go (is_alone plan.layout row.sighting.link) refl
+      (all_fronts before (watched_before (is_alone plan.layout row.sighting.link) refl) lawful.0 earlier)
       (now_apart (row ∷ before) watched lawful none slave refl)
     where
       earlier : how_often (bin.Contested port) (bins plan before) ≡ 0
@@ -189,30 +189,30 @@ module _ (plan : Plan) (is_plan : IsPlan plan) (map : IsLawfulAddressMap plan.la
           let sum = how_often-append (bin.Contested port) (bins_of plan before row) (bins plan before) in
           omega (arith, sum, none)
 
-      watched_before : (alone : Bool) → is_alone plan.layout.links row.sighting.link ≡ alone
+      watched_before : (alone : Bool) → is_alone plan.layout row.sighting.link ≡ alone
           → AreWatched p.layout (past_of before)
       watched_before true is =
           subst (λ l. AreWatched p.layout l)
-          (shared_same row.sighting.beat row.sighting.known row.sighting.lanes (beats_of before) plan.layout.links
+          (shared_same row.sighting.beat row.sighting.known row.sighting.lanes (beats_of before) plan.layout
           row.sighting.link is) watched
       watched_before false is =
           let all : AreWatched p.layout (row.sighting ∷ past_of before) =
           subst (λ l. AreWatched p.layout l)
-          (shared_more row.sighting.beat row.sighting.known row.sighting.lanes (beats_of before) plan.layout.links
+          (shared_more row.sighting.beat row.sighting.known row.sighting.lanes (beats_of before) plan.layout
           row.sighting.link is) watched in
           all.1
 
-      go : (alone : Bool) → is_alone plan.layout.links row.sighting.link ≡ alone
+      go : (alone : Bool) → is_alone plan.layout row.sighting.link ≡ alone
           → OfFronts (AreApart slave) (moments p port (past_of before))
           → AreApart slave (moments p port (past_of (row ∷ before)))
           → OfFronts (AreApart slave) (moments p port (past_of (row ∷ before)))
       go true is rest now =
           subst (λ l. OfFronts (AreApart slave) (moments p port l))
-          (sym (shared_same row.sighting.beat row.sighting.known row.sighting.lanes (beats_of before) plan.layout.links
+          (sym (shared_same row.sighting.beat row.sighting.known row.sighting.lanes (beats_of before) plan.layout
           row.sighting.link is)) rest
       go false is rest now =
           let more = shared_more row.sighting.beat row.sighting.known row.sighting.lanes (beats_of before)
-          plan.layout.links row.sighting.link is in
+          plan.layout row.sighting.link is in
           subst (λ l. OfFronts (AreApart slave) (moments p port l)) (sym more)
           (fronts_more p port (past_of before) row.sighting (AreApart slave) rest
           (subst (λ l. AreApart slave (moments p port l)) more now))
@@ -239,10 +239,10 @@ none_among bin later here earlier none =
 
 pub nothing_is_contested : (plan : Plan) (rows : List SeenRow) (later earlier : List Bin) (ports : ℕ) (old new : List ℕ)
     (port : ℕ) → IsPlan plan
-    → IsLawfulAddressMap plan.layout.ports → AreWatched plan.layout (shared_past plan.layout.links (beats_of rows))
+    → IsLawfulAddressMap plan.layout.ports → AreWatched plan.layout (shared_past plan.layout (beats_of rows))
     → IsLawful plan (beats_of rows) → (tells : TellsCoverage ports (later ++ (bins plan rows ++ earlier)) old new)
     → TellsNoContest port tells.entries
-    → NothingIsContested plan port (shared_past plan.layout.links (beats_of rows))
+    → NothingIsContested plan port (shared_past plan.layout (beats_of rows))
 nothing_is_contested plan rows later earlier ports old new port is_plan map watched lawful tells none =
     let counts = tells.counts (bin.Contested port) in
     let zero_there = none_found (bin.Contested port) tells.entries none in

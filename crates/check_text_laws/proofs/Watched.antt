@@ -51,30 +51,30 @@ port_is_plan plan is = record {
 
 -- ---- the links of a group
 
-watched_one : (layout : Layout) (x : Sighting) → is_alone layout.links x.link ≡ false → IsAtWatchedLink layout x
+watched_one : (layout : Layout) (x : Sighting) → is_alone layout x.link ≡ false → IsAtWatchedLink layout x
     → group_crossed.IsWatchedAt layout x
 watched_one layout x is at = record {
   link = at.link;
-  watched = in_group_watched layout.links x.link is at.watched;
+  watched = in_group_watched layout x.link is at.watched;
   lanes = at.lanes;
 }
 
 pub shared_watched : (plan : Plan) (past : List Sighting) → AreAllWatched plan.layout past
-    → group_crossed.AreWatched plan.layout (shared_past plan.layout.links past)
+    → group_crossed.AreWatched plan.layout (shared_past plan.layout past)
 shared_watched plan [] are =
-    subst (λ l. group_crossed.AreWatched plan.layout l) (sym (shared_none plan.layout.links)) tt
-shared_watched plan (x ∷ past) are = go (is_alone plan.layout.links x.link) refl (shared_watched plan past are.1)
+    subst (λ l. group_crossed.AreWatched plan.layout l) (sym (shared_none plan.layout)) tt
+shared_watched plan (x ∷ past) are = go (is_alone plan.layout x.link) refl (shared_watched plan past are.1)
   where
-    go : (b : Bool) → is_alone plan.layout.links x.link ≡ b
-        → group_crossed.AreWatched plan.layout (shared_past plan.layout.links past)
-        → group_crossed.AreWatched plan.layout (shared_past plan.layout.links (x ∷ past))
+    go : (b : Bool) → is_alone plan.layout x.link ≡ b
+        → group_crossed.AreWatched plan.layout (shared_past plan.layout past)
+        → group_crossed.AreWatched plan.layout (shared_past plan.layout (x ∷ past))
     go false is before =
         subst (λ l. group_crossed.AreWatched plan.layout l)
-        (sym (shared_more x.beat x.known x.lanes past plan.layout.links x.link is))
+        (sym (shared_more x.beat x.known x.lanes past plan.layout x.link is))
         (watched_one plan.layout x is are.0, before)
     go true is before =
         subst (λ l. group_crossed.AreWatched plan.layout l)
-        (sym (shared_same x.beat x.known x.lanes past plan.layout.links x.link is)) before
+        (sym (shared_same x.beat x.known x.lanes past plan.layout x.link is)) before
 
 module _ (plan : Plan) (port : ℕ) where
   port_next : (past : List Sighting) (beat : Beat) (known : ℕ) (lanes : List ℕ) (link : Link)

@@ -21,9 +21,9 @@ AreAllWatched layout past = AllByRecursion (IsAtWatchedLink layout) past
 -- a time, each group's from reset on; and if both sides are watched together messages cross: so it is at each moment
 abbrev pub EachGroupKeepsRules : Plan → List Sighting → Type 0
 EachGroupKeepsRules plan past =
-    (link : Link) → group.AlwaysKeepsRules (plan_at plan link) (past_at plan.layout.links link past)
+    (link : Link) → group.AlwaysKeepsRules (plan_at plan link) (past_at plan.layout link past)
 
 -- each request has an address that is a multiple of its size, if that is asked; and each lane that carries a byte, and has
 -- to be known, was known
 abbrev pub AreAllCompliant : Plan → List Sighting → Type 0
-AreAllCompliant plan past = (link : Link) → group.AreCompliant (plan_at plan link) (past_at plan.layout.links link past)
+AreAllCompliant plan past = (link : Link) → group.AreCompliant (plan_at plan link) (past_at plan.layout link past)

@@ -41,10 +41,10 @@ pub fn no_contest_is_left_out()
     ensures { (plan : Plan) (rows : List SeenRow) (later earlier : List Bin) (ports : ℕ) (old new : List ℕ) (port : ℕ)
         → IsPlan plan
         → IsLawfulAddressMap plan.layout.ports
-        → AreWatched plan.layout (shared_past plan.layout.links (beats_of rows))
+        → AreWatched plan.layout (shared_past plan.layout (beats_of rows))
         → IsLawful plan (beats_of rows) → (tells : TellsCoverage ports (later ++ (bins plan rows ++ earlier)) old new)
         → TellsNoContest port tells.entries
-        → NothingIsContested plan port (shared_past plan.layout.links (beats_of rows)) }
+        → NothingIsContested plan port (shared_past plan.layout (beats_of rows)) }
 {}
 
 /// What is lawful if nobody knows the order of some ports, without a line that tells of a contested request there, is lawful
@@ -54,9 +54,9 @@ pub fn any_let_nothing_pass()
     ensures { (loose : Plan) (strict : Plan) (rows : List SeenRow) (later earlier : List Bin) (ports : ℕ)
         (old new : List ℕ) → IsPlan loose
         → IsLawfulAddressMap loose.layout.ports
-        → AreWatched loose.layout (shared_past loose.layout.links (beats_of rows))
+        → AreWatched loose.layout (shared_past loose.layout (beats_of rows))
         → IsLawful loose (beats_of rows) → (tells : TellsCoverage ports (later ++ (bins loose rows ++ earlier)) old new)
         → IsLooser loose strict → AreFresh strict
         → DifferUntold loose strict tells.entries
-        → group_lawful.IsLawfulGroup strict (shared_past loose.layout.links (beats_of rows)) }
+        → group_lawful.IsLawfulGroup strict (shared_past loose.layout (beats_of rows)) }
 {}

@@ -2,9 +2,9 @@
 //! counts of what was covered say: laws, each on a function that does nothing but carry it.
 //!
 //! - [`groups`]: `IsLawful` of `check_sides` says beat by beat what may come next in each group of links. A list is lawful
-//!   exactly if the beats of each group are. With `Links::Each` the groups are the masters' beats, as with `Masters`, and
-//!   those of each port's link by itself; with the other three words there is one group of all beats. Each group keeps
-//!   the rules of `check_watch_laws` at each moment, and beats of which each group keeps them are lawful.
+//!   exactly if the beats of each group are: those of the links that are judged together, and those of each port's link that
+//!   is judged by itself (`Links::Each`, or a port that the system takes out). Each group keeps the rules of `check_watch_laws` at
+//!   each moment, and beats of which each group keeps them are lawful.
 //! - [`texts`]: what `lawful` on standard output means. The judges of `check_review` and `check_text` promise that a file is
 //!   lawful row by row. The rows of such a text are whole messages that come in turn, replies of memories, requests and
 //!   replies that cross. If the verdict is `incomplete`, they keep the rules too, and requests are left at the end. If it

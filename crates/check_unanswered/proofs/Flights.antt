@@ -3,13 +3,11 @@ use Rattle.std.proofs.Common.{◌≡◌, ◌≢◌, ◌∙◌, ℕ, Bool, true, 
 use Rattle.std.specs.Prelude.{◌↔◌}
 use Rattle.check_flight.specs.Flight.{Turn}
 use Rattle.check_flight.specs.Flight.Turn.{Idle, Asking, Asked}
-use Rattle.check_watch.specs.Plan.{LinkSide}
+use Rattle.check_watch.specs.Plan.{Layout, LinkSide}
 use Rattle.check_watch.proofs.InFlight.{idle_or_asked, idle_or_asking}
 use Rattle.check_watch.specs.Past.{state}
 use Rattle.check_sides.specs.Groups.{shared_past}
 use Rattle.check_sides.specs.Pending.{IsInFlightAt}
-use Rattle.check_watch.specs.declared.links.Links.{Links}
-use Rattle.check_watch.specs.declared.links.Links.TheVariants.{Both, Each, Masters, Ports}
 use Rattle.check_sides.specs.Plan.{Plan}
 use Rattle.check_rows.specs.Row.{SeenRow}
 use Rattle.check_unanswered.specs.declared.request.Began.{Began}
@@ -74,15 +72,12 @@ module _ (plan : Plan) (row : SeenRow) (before : List SeenRow) (side : LinkSide)
   began_before busy was_busy = by_is false false (is_busy_of now busy) (is_busy_of was was_busy)
 
 -- before any row nothing is in flight
-none_shared : (links : Links) → shared_past links [] ≡ []
-none_shared Both = refl
-none_shared Masters = refl
-none_shared Ports = refl
-none_shared Each = refl
+none_shared : (layout : Layout) → shared_past layout [] ≡ []
+none_shared layout = refl
 
 turn_none : (plan : Plan) (side : LinkSide) (wide : ℕ) → turn_at plan [] side wide ≡ Idle
 turn_none plan side wide =
-    ap (λ past. ((state plan past).flights side wide).turn) (none_shared plan.layout.links)
+    ap (λ past. ((state plan past).flights side wide).turn) (none_shared plan.layout)
 
 -- what is in flight has begun
 pub began_some : (plan : Plan) (rows : List SeenRow) (side : LinkSide) (wide : ℕ)

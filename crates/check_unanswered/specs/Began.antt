@@ -32,7 +32,7 @@ beats_of rows = map (λ (row : SeenRow). row.sighting) rows
 -- what is in flight of a wide source, on a side of the links that are judged together
 abbrev pub turn_at : Plan → List SeenRow → LinkSide → ℕ → Turn
 turn_at plan rows side wide =
-    ((state plan (shared_past plan.layout.links (beats_of rows))).flights side wide).turn
+    ((state plan (shared_past plan.layout (beats_of rows))).flights side wide).turn
 
 abbrev pub is_idle : Turn → Bool
 is_idle Idle = true

@@ -1,6 +1,6 @@
 -- What a judge knows of a crossbar ahead: which links are watched, which sources the masters have, which port serves
 -- which addresses, to which ports each master has a path, and which bus each link has. It is this project's own.
-use Rattle.std.specs.Prelude.{◌≡◌, ◌↔◌, ℕ, ◌<◌, Bool, true, false, ◌&&◌, ◌==◌, if◌then◌else◌, nat_lt, List, Option, length}
+use Rattle.std.specs.Prelude.{◌≡◌, ◌↔◌, ℕ, ◌<◌, Bool, true, false, ◌&&◌, ◌==◌, not, if◌then◌else◌, nat_lt, slice_index_or, List, Option, length}
 use Rattle.tl_map.specs.declared.range.Range.{Range}
 use Rattle.tl_map.specs.Owner.{IsOf, IsOwned, IsWideSource}
 use Rattle.tl_map.specs.Map.{RoutesBytes}
@@ -19,10 +19,12 @@ use Rattle.check_watch.specs.declared.links.Links.{Links}
 use Rattle.check_watch.specs.declared.links.Links.TheVariants.{Both, Masters, Ports, Each}
 use Rattle.check_watch.specs.Paths.{has_path}
 
--- the links that are watched, what the system says of all links, the sources of each master, the ranges of each port, the
--- ports to which each master has a path, and the buses of the masters' links and of the ports' links
+-- the links that are watched, for which ports messages are not compared across, what the system says of all links, the
+-- sources of each master, the ranges of each port, the ports to which each master has a path, and the buses of the masters'
+-- links and of the ports' links
 pub record Layout : Type 0 where
   pub links : Links
+  pub apart : List Bool
   pub rules : LinkRules
   pub owners : List Owner
   pub ports : List (List Range)
@@ -152,16 +154,34 @@ are_both Masters = false
 are_both Ports = false
 are_both Each = false
 
--- requests to this port are seen on both sides: the error port is inside the crossbar, and has no link of its own
-abbrev pub crosses_at_port : Layout → ℕ → Bool
-crosses_at_port layout port = are_both layout.links && nat_lt port (length layout.ports)
+-- the system takes the port out of this: its link is judged by itself
+abbrev pub is_apart : Layout → ℕ → Bool
+is_apart layout port = slice_index_or layout.apart port false
 
--- the link is one of those that are judged together: the masters', if each port's is judged by itself
-abbrev pub IsGroupLink : Links → Link → Type 0
-IsGroupLink Both link = Unit {0}
-IsGroupLink Masters (Master m) = Unit {0}
-IsGroupLink Masters (Port p) = ⊥
-IsGroupLink Ports (Master m) = ⊥
-IsGroupLink Ports (Port p) = Unit {0}
-IsGroupLink Each (Master m) = Unit {0}
-IsGroupLink Each (Port p) = ⊥
+-- requests to this port may be compared across: the error port is inside the crossbar, and has no link of its own
+abbrev pub may_cross : Layout → ℕ → Bool
+may_cross layout port = nat_lt port (length layout.ports) && not (is_apart layout port)
+
+-- requests to this port are seen on both sides, and compared
+abbrev pub crosses_at_port : Layout → ℕ → Bool
+crosses_at_port layout port = are_both layout.links && may_cross layout port
+
+-- masters' links are among those that are judged together
+abbrev pub AreMastersTogether : Links → Type 0
+AreMastersTogether Both = Unit {0}
+AreMastersTogether Masters = Unit {0}
+AreMastersTogether Ports = ⊥
+AreMastersTogether Each = Unit {0}
+
+-- a port's link is, which the system takes out or not
+abbrev pub IsPortTogether : Links → Bool → Type 0
+IsPortTogether Both false = Unit {0}
+IsPortTogether Both true = ⊥
+IsPortTogether Masters apart = ⊥
+IsPortTogether Ports apart = Unit {0}
+IsPortTogether Each apart = ⊥
+
+-- the link is one of those that are judged together
+abbrev pub IsGroupLink : Layout → Link → Type 0
+IsGroupLink layout (Master m) = AreMastersTogether layout.links
+IsGroupLink layout (Port p) = IsPortTogether layout.links (is_apart layout p)

@@ -3,7 +3,7 @@
 /// The links that are watched.
 #[derive(Debug, Clone, Copy, PartialEq, Eq)]
 pub enum Links {
-    /// All masters' and all ports', which are judged together.
+    /// All masters' and all ports', which are judged together, but for ports that the system takes out.
     Both,
     /// The masters' alone.
     Masters,

@@ -422,7 +422,7 @@ impl GroupWatch {
         lanes: &[u8],
     ) -> Result<Option<Ended>, AllocError>
         requires known { HasLink self.old.layout link }
-        requires watched { IsGroupLink self.old.layout.links link }
+        requires watched { IsGroupLink self.old.layout link }
         requires lanes { bus_of self.old.layout link ≤ length lanes.now }
         ensures taken { (plan : Plan) (past : List Sighting) → KeepsGroup plan past self.old
             → IsGroupTake plan past (seen_at link beat.now known lanes.now) self.new result }
@@ -450,7 +450,7 @@ impl GroupWatch {
         lanes: &[u8],
     ) -> Result<Seen, StepError>
         requires known { HasLink self.old.layout link }
-        requires watched { IsGroupLink self.old.layout.links link }
+        requires watched { IsGroupLink self.old.layout link }
         requires lanes { bus_of self.old.layout link ≤ length lanes.now }
         ensures judged { (plan : Plan) (past : List Sighting) → KeepsGroup plan past self.old
             → IsGroupStep plan past (seen_at link beat.now known lanes.now) self.new result }

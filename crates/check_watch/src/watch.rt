@@ -10,7 +10,7 @@ ghost use Rattle.check_flight.specs.Side.{flight_at};
 ghost use Rattle.check_watch.specs.declared.beat.Beat.TheVariants.{D};
 ghost use Rattle.check_beats.specs.declared.beat.ReplyHead.{ReplyHead};
 ghost use Rattle.check_watch.specs.Past.{port_of, slave_at};
-ghost use Rattle.check_watch.specs.Plan.{Plan, IsPlan, RoutesAt, RoutesWide, HasLink, IsWideAt, IsGroupLink, are_both, bus_of, crosses_at_port};
+ghost use Rattle.check_watch.specs.Plan.{Plan, IsPlan, RoutesAt, RoutesWide, HasLink, IsWideAt, IsGroupLink, are_both, bus_of, crosses_at_port, is_apart};
 ghost use Rattle.check_watch.specs.Scene.{takes_effect, is_given, must_by};
 ghost use Rattle.check_watch.specs.View.{GroupView, IsSized, wides_in, SuitsGroup, KeepsGroup, own_side, under_in, flight_in, crossing_at, is_answering_in, due_in, captured_in};
 
@@ -29,6 +29,8 @@ use tl_types::MAX_SIZE;
 #[derive(Drop)]
 pub struct GroupWatch {
     links: Links,
+    /// Whether the link of a port is judged by itself.
+    apart: Vec<bool>,
     rules: LinkRules,
     map: AddressMap,
     paths: Paths,
@@ -49,6 +51,7 @@ impl Model for GroupWatch {
     ghost view = { λ w. record {
       layout = record {
         links = w.links;
+        apart = w.apart.items;
         rules = w.rules;
         owners = w.sources;
         ports = w.map;
@@ -65,6 +68,7 @@ impl Model for GroupWatch {
     ghost invariant = { λ w. IsSized (record {
       layout = record {
         links = w.links;
+        apart = w.apart.items;
         rules = w.rules;
         owners = w.sources;
         ports = w.map;
@@ -104,10 +108,12 @@ fn fresh_crossings(alloc: Global, count: usize) -> Result<Vec<Crossing>, AllocEr
 
 impl GroupWatch {
     /// The judge of a crossbar with these rules, ports, paths and sources, before any beat. There is a slave for each port, the error
-    /// port's last, as it is at reset; a bus for each master's link, and one for each port's.
+    /// port's last, as it is at reset; a bus for each master's link, and one for each port's. If both sides are watched, ports that
+    /// are flagged are not compared across: their links are none of those that are judged here.
     pub fn new(
         alloc: Global,
         links: Links,
+        apart: Vec<bool>,
         rules: LinkRules,
         map: AddressMap,
         paths: Paths,
@@ -121,6 +127,7 @@ impl GroupWatch {
         requires ports { length port_buses.items ≡ length map }
         ensures layout { IfOk result (λ watch. watch.layout ≡ record {
           links = links;
+          apart = apart.items;
           rules = rules;
           owners = sources;
           ports = map;
@@ -132,6 +139,7 @@ impl GroupWatch {
         ensures keeps { (plan : Plan) → IsPlan plan
             → plan.layout ≡ record {
               links = links;
+              apart = apart.items;
               rules = rules;
               owners = sources;
               ports = map;
@@ -150,6 +158,7 @@ impl GroupWatch {
         let crossings = fresh_crossings(alloc, wides)?;
         Ok(GroupWatch {
             links,
+            apart,
             rules,
             map,
             paths,
@@ -166,13 +175,14 @@ impl GroupWatch {
     /// Whether the crossbar has a link, and it is watched.
     pub fn watches(&self, link: Link) -> bool
         ensures { IsTrue result
-            ↔ (HasLink self.now.layout link × IsGroupLink self.now.layout.links link) }
+            ↔ (HasLink self.now.layout link × IsGroupLink self.now.layout link) }
     {
         match (link, self.links) {
             (Link::Master(master), Links::Both | Links::Masters | Links::Each) => {
                 master < self.sources.masters()
             }
-            (Link::Port(port), Links::Both | Links::Ports) => port < self.map.ports() - 1,
+            (Link::Port(port), Links::Both) => port < self.map.ports() - 1 && !self.is_apart(port),
+            (Link::Port(port), Links::Ports) => port < self.map.ports() - 1,
             (Link::Master(_), Links::Ports) | (Link::Port(_), Links::Masters | Links::Each) =>
                 false,
         }
@@ -183,6 +193,23 @@ impl GroupWatch {
         ensures { result ≡ self.now.layout.links }
     {
         self.links
+    }
+
+    /// A flag for each port: whether messages to it are not compared across. A port that is not in the list has none.
+    pub fn apart(&self) -> &[bool]
+        ensures { result.now ≡ self.now.layout.apart }
+    {
+        &self.apart
+    }
+
+    /// Whether messages to a port are not compared across.
+    pub fn is_apart(&self, port: usize) -> bool
+        ensures { result ≡ is_apart self.now.layout port }
+    {
+        match self.apart.get(port) {
+            Some(apart) => *apart,
+            None => false,
+        }
     }
 
     /// What the links may do beyond the standard.
@@ -355,11 +382,11 @@ impl GroupWatch {
         matches!(self.links, Links::Both)
     }
 
-    /// Whether requests to a port are seen on both sides.
+    /// Whether requests to a port are seen on both sides, and compared.
     fn crosses(&self, port: usize) -> bool
         ensures { result ≡ crosses_at_port self.now.layout port }
     {
-        matches!(self.links, Links::Both) && port < self.map.ports() - 1
+        matches!(self.links, Links::Both) && port < self.map.ports() - 1 && !self.is_apart(port)
     }
 
     /// Whether the reply that must come at a link is what a port gave.

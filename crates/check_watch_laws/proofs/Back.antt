@@ -1,6 +1,6 @@
 -- Beats that keep the rules at each moment are lawful.
 use Rattle.std.proofs.Common.{◌≡◌, ◌∙◌, ℕ, ◌%◌, ◌^◌, Bool, true, false, List, [], ◌∷◌, length, take, refl, ap, sym, subst}
-use Rattle.std.specs.Prelude.{◌&&◌, nat_lt}
+use Rattle.std.specs.Prelude.{◌&&◌}
 use Rattle.tl_types.specs.Request.{Request}
 use Rattle.check_cells.specs.Pattern.{Pattern}
 use Rattle.check_beats.specs.Form.{FitsAsk, FitsReply}
@@ -18,7 +18,7 @@ use Rattle.check_watch.specs.declared.links.Links.TheVariants.{Both, Masters, Po
 use Rattle.check_watch.specs.Allowed.{IsSent, OfAsked, HasKnownLanes, IsAnswer, IsMust, EndsWell, IsAllowedAsk, IsAllowedReply}
 use Rattle.check_watch.specs.Lawful.{IsLawfulGroup, IsAllowed}
 use Rattle.check_watch.specs.Past.{State, port_in, scene_found, scene_of, state}
-use Rattle.check_watch.specs.Plan.{Plan, IsPlan, Layout, Sighting, side_of, link_number, wide_of, are_both, bus_of, HasLink, IsGroupLink}
+use Rattle.check_watch.specs.Plan.{Plan, IsPlan, Layout, Sighting, side_of, link_number, wide_of, are_both, may_cross, bus_of, HasLink, IsGroupLink}
 use Rattle.check_watch.specs.Plan.LinkSide.{AtMasters, AtPorts}
 use Rattle.check_watch.specs.Scene.{captured, is_given}
 use Rattle.check_watch.proofs.InFlight.{ask_at, reply_at}
@@ -44,7 +44,7 @@ use Rattle.check_watch_laws.proofs.Whole.{slave_found, unknown_stays}
 
 module _ (plan : Plan) (is_plan : IsPlan plan) (past : List Sighting) (watched : AreWatched plan.layout past)
     (lawful : IsLawfulGroup plan past) (link : Link) (known : ℕ) (lanes : List ℕ) (has : HasLink plan.layout link)
-    (seen_here : IsGroupLink plan.layout.links link) where
+    (seen_here : IsGroupLink plan.layout link) where
   abbrev s : State
   s = state plan past
 
@@ -97,11 +97,11 @@ module _ (plan : Plan) (is_plan : IsPlan plan) (past : List Sighting) (watched :
   -- ---- a beat of a reply
 
   both_of : (layout : Layout) (m port : ℕ) → is_given layout (Master m) port ≡ true → (layout.links ≡ Both)
-      × (nat_lt port (length layout.ports) ≡ true)
+      × (may_cross layout port ≡ true)
   both_of layout m port is = go layout.links refl is
     where
-      go : (links : Links) → layout.links ≡ links → (are_both links && nat_lt port (length layout.ports)) ≡ true
-          → (layout.links ≡ Both) × (nat_lt port (length layout.ports) ≡ true)
+      go : (links : Links) → layout.links ≡ links → (are_both links && may_cross layout port) ≡ true
+          → (layout.links ≡ Both) × (may_cross layout port ≡ true)
       go Both so given = (so, given)
       go Masters so given = cc
       go Ports so given = cc
@@ -129,7 +129,7 @@ module _ (plan : Plan) (is_plan : IsPlan plan) (past : List Sighting) (watched :
       let turn = (s.flights AtMasters wide).turn in
       let both = both_of plan.layout m (port_in plan m turn) given in
       let out : is_out plan wide m ask ≡ true =
-      ap (λ t. nat_lt (port_in plan m t) (length plan.layout.ports)) (sym in_flight) ∙ both.1 in
+      ap (λ t. may_cross plan.layout (port_in plan m t)) (sym in_flight) ∙ both.1 in
       let stands : Stands plan wide (story_at plan wide past) (Asked m ask) (s.crossings wide)
       (s.flights AtPorts wide).turn =
       subst (λ t. Stands plan wide (story_at plan wide past) t (s.crossings wide)

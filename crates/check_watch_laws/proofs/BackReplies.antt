@@ -98,7 +98,7 @@ owed_entry plan port wide n link ask (Some answer) entry more reply number goes 
 
 module _ (plan : Plan) (past : List Sighting) (watched : AreWatched plan.layout past) (lawful : IsLawfulGroup plan past)
     (link : Link) (known : ℕ) (lanes : List ℕ) (has : HasLink plan.layout link)
-    (seen_here : IsGroupLink plan.layout.links link) (beat : ReplyHead) (ask : Request)
+    (seen_here : IsGroupLink plan.layout link) (beat : ReplyHead) (ask : Request)
     (in_flight : ((state plan past).flights (side_of link) (wide_of plan link beat.source)).turn ≡ Asked
     (link_number link) ask)
     (ends : ends_reply (bus_of plan.layout link) (replying_at plan.layout link past) beat ≡ true) where

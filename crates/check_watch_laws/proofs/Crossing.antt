@@ -1,6 +1,6 @@
 -- What lawful beats say of a crossbar both of whose sides are watched.
 use Rattle.std.proofs.Common.{◌≡◌, ◌∙◌, ℕ, ◌%◌, ◌^◌, ◌<◌, ◌⊎◌, inl, inr, Bool, true, false, if◌then◌else◌, List, [], ◌∷◌, ◌++◌, Some, None, length, take, refl, ap, sym, subst, arith, eqb-true, append-nil}
-use Rattle.std.specs.Prelude.{◌==◌, ◌&&◌, nat_lt}
+use Rattle.std.specs.Prelude.{◌==◌, ◌&&◌}
 use Rattle.std.specs.List.{AllByRecursion}
 use Rattle.tl_types.specs.Request.{Request}
 use Rattle.tl_map.specs.Owner.{IsOf, IsWideSource}
@@ -21,7 +21,7 @@ use Rattle.check_watch.specs.declared.links.Links.TheVariants.{Both}
 use Rattle.check_watch.specs.Allowed.{IsAskedAs, IsMust, IsAllowedAsk, IsAllowedReply}
 use Rattle.check_watch.specs.Lawful.{IsLawfulGroup, IsAllowed}
 use Rattle.check_watch.specs.Past.{State, port_in, scene_of, state, state_after}
-use Rattle.check_watch.specs.Plan.{Plan, IsPlan, Sighting, LinkSide, side_of, link_number, is_of, are_both, bus_of, HasLink, HasSource, RoutesWide, route_of, seen_at}
+use Rattle.check_watch.specs.Plan.{Plan, IsPlan, Sighting, LinkSide, side_of, link_number, is_of, are_both, may_cross, bus_of, HasLink, HasSource, IsGroupLink, RoutesWide, route_of, seen_at}
 use Rattle.check_watch.specs.Plan.LinkSide.{AtMasters, AtPorts}
 use Rattle.check_watch.specs.Scene.{ask_by, turn_by, captured, flight_after, is_given, given_by}
 use Rattle.check_watch.proofs.InFlight.{ask_at, reply_at}
@@ -34,7 +34,7 @@ use Rattle.check_watch_laws.proofs.Links.{links_are}
 use Rattle.check_watch_laws.proofs.Placing.{beat_placed, asks_placed_so}
 use Rattle.check_watch_laws.proofs.Replying.{all_more}
 use Rattle.check_watch_laws.proofs.Standing.{Story, IsAtRest, IsOut, is_out, Stands, IsGot, IsTheSent, IsItsGift, master_asks, master_gets, port_asks, port_gives, given_but_one}
-use Rattle.check_watch_laws.proofs.Taking.{less}
+use Rattle.check_watch_laws.proofs.Taking.{crosses_there}
 use Rattle.check_watch_laws.proofs.Turns.{asks_fly, open_before, asked_at}
 
 pub last_of_all : {X : Type 0} (P : X → Type 0) (xs : List X) (x : X) → AllByRecursion P (xs ++ x ∷ []) → P x
@@ -278,8 +278,8 @@ module _ (plan : Plan) (is_plan : IsPlan plan) (both : plan.layout.links ≡ Bot
         (s.flights AtMasters getter).turn ≡ route_of plan m got_answers.0.address got_answers.0.size =
         ap (λ t. port_in plan m t) got_answers.1 in
         let given : is_given plan.layout (Master m) (port_in plan m (s.flights AtMasters getter).turn) ≡ true =
-        ap (λ l. are_both l && nat_lt (port_in plan m (s.flights AtMasters getter).turn) (length plan.layout.ports)) both
-        ∙ ap (λ p. nat_lt p (length plan.layout.ports)) route_is ∙ out in
+        ap (λ l. are_both l && may_cross plan.layout (port_in plan m (s.flights AtMasters getter).turn)) both
+        ∙ ap (λ p. may_cross plan.layout p) route_is ∙ out in
         record {
           must = subst (λ (r : Pattern). IsMust true (s.crossings getter) got_flight.due r)
               (got_is (Master m) beat (s.flights AtMasters getter).turn m got_answers.0 got_answers.1)
@@ -338,7 +338,7 @@ module _ (plan : Plan) (is_plan : IsPlan plan) (both : plan.layout.links ≡ Bot
 
   -- ---- at ports' links
 
-  module _ (p : ℕ) (has : p < length plan.layout.ports) (beat : AskHead)
+  module _ (p : ℕ) (crosses : may_cross plan.layout p ≡ true) (beat : AskHead)
       (allowed : IsAllowedAsk plan.layout (Port p) (scene_of plan s (Port p) (A beat)) beat known lanes) where
     abbrev took : ℕ
     took = beat.source
@@ -382,7 +382,7 @@ module _ (plan : Plan) (is_plan : IsPlan plan) (both : plan.layout.links ≡ Bot
           in_flight = found.2;
           same = found.3;
           waits = sent.1;
-          out = ap (λ r. nat_lt r (length plan.layout.ports)) route ∙ less p (length plan.layout.ports) has;
+          out = ap (λ r. may_cross plan.layout r) route ∙ crosses;
           own = refl;
         }
 
@@ -524,20 +524,20 @@ pub all_stand : (plan : Plan) → IsPlan plan → plan.layout.links ≡ Both →
     → AreWatched plan.layout past → IsLawfulGroup plan past → AllStand plan (state plan past) past
 all_stand plan is both [] watched lawful = λ wide. record { same = refl; free = refl; given = tt }
 all_stand plan is both (x ∷ past) watched lawful =
-    go x.link x.beat watched.0.link lawful.1 (all_stand plan is both past watched.1 lawful.0)
+    go x.link x.beat watched.0.link watched.0.watched lawful.1 (all_stand plan is both past watched.1 lawful.0)
   where
-    go : (link : Link) (beat : Beat) → HasLink plan.layout link
+    go : (link : Link) (beat : Beat) → HasLink plan.layout link → IsGroupLink plan.layout link
         → IsAllowed plan (scene_of plan (state plan past) link beat) (seen_at link beat x.known x.lanes)
         → AllStand plan (state plan past) past
         → AllStand plan (state_after plan (state plan past) (seen_at link beat x.known x.lanes))
         (seen_at link beat x.known x.lanes ∷ past)
-    go (Master m) (A beat) has allowed before =
+    go (Master m) (A beat) has seen allowed before =
         master_sends plan is both past lawful.0 before x.known x.lanes m beat allowed
-    go (Master m) (D beat) has allowed before =
+    go (Master m) (D beat) has seen allowed before =
         master_collects plan is both past lawful.0 before x.known x.lanes m beat allowed
-    go (Port p) (A beat) has allowed before =
-        port_takes plan is both past lawful.0 before x.known x.lanes p has beat allowed
-    go (Port p) (D beat) has allowed before =
+    go (Port p) (A beat) has seen allowed before =
+        port_takes plan is both past lawful.0 before x.known x.lanes p (crosses_there plan.layout p both has seen) beat allowed
+    go (Port p) (D beat) has seen allowed before =
         port_answers plan is both past lawful.0 before x.known x.lanes p beat allowed
 
 -- ---- in words

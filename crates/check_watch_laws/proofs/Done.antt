@@ -84,7 +84,7 @@ orders plan s past replayed port =
     ∙ after_order (reset_of plan port) (moments plan port past))
 
 module _ (plan : Plan) (s : State) (past : List Sighting) (linked : LinksAre plan s past) (link : Link) (known : ℕ)
-    (lanes : List ℕ) (has : HasLink plan.layout link) (watched : IsGroupLink plan.layout.links link) where
+    (lanes : List ℕ) (has : HasLink plan.layout link) (watched : IsGroupLink plan.layout link) where
   pub ask_does : (beat : AskHead) (port : ℕ)
       → moments_with plan port past (ask_at link known lanes beat) (A beat)
       ≡ (if (scene_found plan s link (A beat)).port == port then moment_if Accepts (wide_of plan link beat.source)

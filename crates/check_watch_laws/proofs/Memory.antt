@@ -114,7 +114,7 @@ late_owed plan port wide found link slave effect turn ask due is goes fresh =
 
 -- ---- one beat more
 
-module _ (plan : Plan) (link : Link) (has : HasLink plan.layout link) (watched : IsGroupLink plan.layout.links link)
+module _ (plan : Plan) (link : Link) (has : HasLink plan.layout link) (watched : IsGroupLink plan.layout link)
     (found own : ℕ) (done : Option Request)
     (at_port : (p : ℕ) → link ≡ Port p → found ≡ p)
     (unseen : takes_effect plan.layout link found ≡ false → done ≡ None) where

@@ -1,6 +1,6 @@
 -- How far the messages of a wide source have come across.
 use Rattle.std.proofs.Common.{◌≡◌, ◌∙◌, ℕ, ◌≤◌, Bool, true, false, if◌then◌else◌, List, [], ◌∷◌, ◌++◌, length, map, filter, zip, Option, Some, None, refl, ap, sym, subst, append-nil}
-use Rattle.std.specs.Prelude.{IsSomeAnd, nat_lt}
+use Rattle.std.specs.Prelude.{IsSomeAnd}
 use Rattle.std.proofs.lemmas.List.{map-append}
 use Rattle.std.proofs.lemmas.List.Elements.{filter-append}
 use Rattle.tl_types.specs.Request.{Request}
@@ -12,7 +12,7 @@ use Rattle.check_flight.specs.Flight.{Turn}
 use Rattle.check_flight.specs.Flight.Turn.{Idle, Asking, Asked}
 use Rattle.check_watch.specs.declared.beat.Link.{Link}
 use Rattle.check_watch.specs.declared.beat.Link.TheVariants.{Master}
-use Rattle.check_watch.specs.Plan.{Plan, route_of}
+use Rattle.check_watch.specs.Plan.{Plan, may_cross, route_of}
 use Rattle.check_watch.specs.Plan.LinkSide.{AtPorts}
 use Rattle.check_watch.specs.Scene.{turn_by, given_by}
 use Rattle.check_watch_laws.specs.Crossed.{AskSeen, ReplySeen}
@@ -88,9 +88,9 @@ module _ (plan : Plan) (wide : ℕ) where
   IsOut story true ask Crossed there = IsTaken story ask there
   IsOut story true ask (Given answer) there = IsBack story ask answer there
 
-  -- the request of this master goes to a port that has a link
+  -- the request of this master goes to a port whose link is judged with the masters'
   abbrev pub is_out : ℕ → Request → Bool
-  is_out number ask = nat_lt (route_of plan number ask.address ask.size) (length plan.layout.ports)
+  is_out number ask = may_cross plan.layout (route_of plan number ask.address ask.size)
 
   -- by what is in flight at masters' links, how far it has come, and what is in flight at ports'
   abbrev pub Stands : Story → Turn → Crossing → Turn → Type 0

@@ -11,7 +11,7 @@ use Rattle.check_watch.specs.declared.beat.Link.{Link}
 use Rattle.check_watch.specs.declared.beat.Link.TheVariants.{Master, Port}
 use Rattle.check_watch.specs.declared.links.Links.{Links}
 use Rattle.check_watch.specs.declared.links.Links.TheVariants.{Both, Masters, Ports, Each}
-use Rattle.check_watch.specs.Plan.{Plan, Layout, Sighting, side_of, link_number, wide_of, same_side, are_both, HasLink, IsGroupLink}
+use Rattle.check_watch.specs.Plan.{Plan, Layout, Sighting, side_of, link_number, wide_of, same_side, are_both, is_apart, may_cross, HasLink, AreMastersTogether, IsPortTogether, IsGroupLink}
 use Rattle.check_watch.specs.Plan.LinkSide.{AtMasters, AtPorts}
 use Rattle.check_watch.specs.Scene.{ask_by, ask_if, takes_effect, begins_reply}
 use Rattle.check_watch.proofs.InFlight.{ask_at, reply_at}
@@ -26,36 +26,48 @@ use Rattle.check_watch_laws.proofs.Turns.{link_on, own_link}
 
 -- ---- where the slave of a port is seen
 
-pub less : (m n : ℕ) → m < n → nat_lt m n ≡ true
+less : (m n : ℕ) → m < n → nat_lt m n ≡ true
 less m n h = go (nat_lt m n) refl
   where
     go : (b : Bool) → nat_lt m n ≡ b → b ≡ true
     go true is = refl
     go false is = absurd (omega (arith, h, nltb→le m n (subst (λ b. T (not b)) (sym is) tt)))
 
-at_masters : (links : Links) (has_link : Bool) (m : ℕ) → IsGroupLink links (Master m)
-    → (if are_both links && has_link then false else true) ≡ same_side AtMasters (side_by links has_link)
-at_masters Both true m watched = refl
-at_masters Both false m watched = refl
-at_masters Masters has_link m watched = refl
-at_masters Ports has_link m watched = absurd watched
-at_masters Each has_link m watched = refl
+at_masters : (links : Links) (crosses : Bool) → AreMastersTogether links
+    → (if are_both links && crosses then false else true) ≡ same_side AtMasters (side_by links crosses)
+at_masters Both true watched = refl
+at_masters Both false watched = refl
+at_masters Masters crosses watched = refl
+at_masters Ports crosses watched = absurd watched
+at_masters Each crosses watched = refl
 
-at_ports : (links : Links) (has_link : Bool) (p : ℕ) → IsGroupLink links (Port p) → has_link ≡ true
-    → true ≡ same_side AtPorts (side_by links has_link)
-at_ports Both true p watched is = refl
-at_ports Both false p watched is = cc
-at_ports Masters has_link p watched is = absurd watched
-at_ports Ports has_link p watched is = refl
-at_ports Each has_link p watched is = absurd watched
+at_ports : (links : Links) (apart in_map : Bool) → IsPortTogether links apart → in_map ≡ true
+    → true ≡ same_side AtPorts (side_by links (in_map && not apart))
+at_ports Both false true watched is = refl
+at_ports Both false false watched is = cc
+at_ports Both true in_map watched is = absurd watched
+at_ports Masters apart in_map watched is = absurd watched
+at_ports Ports apart in_map watched is = refl
+at_ports Each apart in_map watched is = absurd watched
+
+-- requests are compared at a port's link that is judged with the masters'
+pub crosses_there : (layout : Layout) (p : ℕ) → layout.links ≡ Both → HasLink layout (Port p)
+    → IsGroupLink layout (Port p) → may_cross layout p ≡ true
+crosses_there layout p both has watched =
+    go (is_apart layout p) (subst (λ links. IsPortTogether links (is_apart layout p)) both watched)
+  where
+    go : (apart : Bool) → IsPortTogether Both apart → (nat_lt p (length layout.ports) && not apart) ≡ true
+    go false kept = ap (λ b. b && true) (less p (length layout.ports) has)
+    go true kept = absurd kept
 
 -- a port's slave accepts requests at a link that is watched just if it is seen there
-pub takes : (layout : Layout) (link : Link) (port : ℕ) → HasLink layout link → IsGroupLink layout.links link
+pub takes : (layout : Layout) (link : Link) (port : ℕ) → HasLink layout link → IsGroupLink layout link
     → ((p : ℕ) → link ≡ Port p → port ≡ p)
     → takes_effect layout link port ≡ same_side (side_of link) (side_for layout port)
-takes layout (Master m) port has watched own = at_masters layout.links (nat_lt port (length layout.ports)) m watched
+takes layout (Master m) port has watched own = at_masters layout.links (may_cross layout port) watched
 takes layout (Port p) port has watched own =
-    at_ports layout.links (nat_lt port (length layout.ports)) p watched
+    at_ports layout.links (is_apart layout port) (nat_lt port (length layout.ports))
+    (subst (λ n. IsPortTogether layout.links (is_apart layout n)) (sym (own p refl)) watched)
     (ap (λ n. nat_lt n (length layout.ports)) (own p refl) ∙ less p (length layout.ports) has)
 
 -- ---- the request of a port's slave
@@ -75,7 +87,7 @@ none_here act wide true = refl
 none_here act wide false = refl
 
 module _ (plan : Plan) (link : Link) (wide port found : ℕ) (has : HasLink plan.layout link)
-    (watched : IsGroupLink plan.layout.links link) (own : (p : ℕ) → link ≡ Port p → found ≡ p) where
+    (watched : IsGroupLink plan.layout link) (own : (p : ℕ) → link ≡ Port p → found ≡ p) where
   -- a request that is seen is one of this port, if it goes there
   taken : (act : Act) (ask : Request) → port_for plan link ask ≡ found
       → map (moment_of act wide) (filter (is_for plan port) (record { link = link; ask = ask } ∷ [])) ≡

@@ -79,7 +79,7 @@ none_owed plan port wide side (Asked n ask) due none = cc
 module _ (plan : Plan) (s : State) (past : List Sighting) (linked : LinksAre plan s past)
     (busy : AsksFly plan s) (steps : AreInStep plan s past) (replayed : AreReplayed plan s past)
     (told_so : AreTold plan s past) (link : Link) (known : ℕ) (lanes : List ℕ)
-    (has : HasLink plan.layout link) (watched : IsGroupLink plan.layout.links link) (beat : AskHead)
+    (has : HasLink plan.layout link) (watched : IsGroupLink plan.layout link) (beat : AskHead)
     (allowed : IsAllowedAsk plan.layout link (scene_of plan s link (A beat)) beat known lanes) where
   abbrev own : ℕ
   own = wide_of plan link beat.source
@@ -292,7 +292,7 @@ seen_more plan port asked done answered last reply is counted =
 -- a beat of a reply to the request in flight, whether it is lawful or not
 module _ (plan : Plan) (s : State) (past : List Sighting) (linked : LinksAre plan s past) (steps : AreInStep plan s past)
     (dues : AreDue plan s) (replayed : AreReplayed plan s past) (link : Link) (known : ℕ) (lanes : List ℕ)
-    (has : HasLink plan.layout link) (watched : IsGroupLink plan.layout.links link) (beat : ReplyHead) (ask : Request)
+    (has : HasLink plan.layout link) (watched : IsGroupLink plan.layout link) (beat : ReplyHead) (ask : Request)
     (in_flight : (s.flights (side_of link) (wide_of plan link beat.source)).turn ≡ Asked (link_number link) ask) where
   abbrev key : ℕ
   key = wide_of plan link beat.source
@@ -380,7 +380,7 @@ module _ (plan : Plan) (s : State) (past : List Sighting) (linked : LinksAre pla
 module _ (plan : Plan) (s : State) (past : List Sighting) (linked : LinksAre plan s past) (steps : AreInStep plan s past)
     (dues : AreDue plan s) (replayed : AreReplayed plan s past) (told_so : AreTold plan s past) (link : Link)
     (known : ℕ) (lanes : List ℕ)
-    (has : HasLink plan.layout link) (watched : IsGroupLink plan.layout.links link) (beat : ReplyHead)
+    (has : HasLink plan.layout link) (watched : IsGroupLink plan.layout link) (beat : ReplyHead)
     (allowed : IsAllowedReply plan.layout link (scene_of plan s link (D beat)) beat known lanes) where
   abbrev mine : ℕ
   mine = wide_of plan link beat.source

@@ -18,7 +18,7 @@ use Rattle.check_watch.specs.Plan.{Plan, Layout, Sighting, LinkSide, side_of, li
 -- a sighting is at a link of the system that is watched, and has a lane for each byte of its bus
 pub record IsWatchedAt (layout : Layout) (x : Sighting) : Type 0 where
   pub link : HasLink layout x.link
-  pub watched : IsGroupLink layout.links x.link
+  pub watched : IsGroupLink layout x.link
   pub lanes : bus_of layout x.link ≤ length x.lanes
 
 abbrev pub AreWatched : Layout → List Sighting → Type 0

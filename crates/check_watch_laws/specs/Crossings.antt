@@ -1,12 +1,12 @@
 -- What lawful beats say of a crossbar both of whose sides are watched: what its ports are asked is what its masters
 -- asked, and what its masters are answered is what its ports answered. It is this project's own.
-use Rattle.std.specs.Prelude.{◌≡◌, ℕ, ◌≤◌, Bool, nat_lt, List, [], ◌∷◌, ◌++◌, length, map, filter}
+use Rattle.std.specs.Prelude.{◌≡◌, ℕ, ◌≤◌, Bool, List, [], ◌∷◌, ◌++◌, length, map, filter}
 use Rattle.std.specs.List.{AllByRecursion}
 use Rattle.tl_types.specs.Request.{Request}
 use Rattle.tl_map.specs.Owner.{IsWideSource}
 use Rattle.check_flight.specs.Crossing.{IsSameReply}
 use Rattle.check_watch.specs.declared.beat.Link.TheVariants.{Master}
-use Rattle.check_watch.specs.Plan.{Plan, Layout, Sighting}
+use Rattle.check_watch.specs.Plan.{Plan, Layout, Sighting, may_cross}
 use Rattle.check_watch.specs.Plan.LinkSide.{AtMasters, AtPorts}
 use Rattle.check_watch_laws.specs.Crossed.{AskSeen, ReplySeen, asks, exchanges}
 use Rattle.check_watch_laws.specs.Memories.{port_for, widened}
@@ -15,9 +15,10 @@ use Rattle.check_watch_laws.specs.Memories.{port_for, widened}
 abbrev pub IsOfMaster : Layout → ℕ → AskSeen → Type 0
 IsOfMaster layout wide seen = (master : ℕ) × (seen.link ≡ Master master) × IsWideSource layout.owners master seen.ask.source wide
 
--- the request goes to a port that has a link, and not to the error port
+-- the request goes to a port whose link is judged together with the masters': not to the error port, which has none, and not
+-- to one that the system takes out
 abbrev pub goes_out : Plan → AskSeen → Bool
-goes_out plan seen = nat_lt (port_for plan seen.link seen.ask) (length plan.layout.ports)
+goes_out plan seen = may_cross plan.layout (port_for plan seen.link seen.ask)
 
 -- the requests of a wide source that masters sent to such ports, each with the wide source
 abbrev pub sent_out : Plan → ℕ → List AskSeen → List Request

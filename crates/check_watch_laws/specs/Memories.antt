@@ -17,23 +17,24 @@ use Rattle.check_watch.specs.declared.beat.Link.TheVariants.{Master, Port}
 use Rattle.check_watch.specs.declared.links.Links.{Links}
 use Rattle.check_watch.specs.declared.links.Links.TheVariants.{Both, Masters, Ports, Each}
 use Rattle.check_watch.specs.Past.{slave_at}
-use Rattle.check_watch.specs.Plan.{Plan, Layout, Sighting, LinkSide, side_of, route_of, source_of, wide_of, same_side}
+use Rattle.check_watch.specs.Plan.{Plan, Layout, Sighting, LinkSide, may_cross, side_of, route_of, source_of, wide_of, same_side}
 use Rattle.check_watch.specs.Plan.LinkSide.{AtMasters, AtPorts}
 use Rattle.check_watch.specs.Scene.{begins_reply}
 use Rattle.check_watch_laws.specs.Crossed.{AskSeen, ReplySeen, replying_at, ask_ended, exchanges, next_answered}
 
 -- ---- where a port's slave is seen
 
--- at the port's own link if ports' links are watched, else at all masters' links; the error port has no link of its own
+-- at the port's own link if ports' links are watched, else at all masters' links; the error port has no link of its own, and
+-- no port that the system takes out has one among the links that are judged together
 abbrev pub side_by : Links → Bool → LinkSide
 side_by Both true = AtPorts
 side_by Both false = AtMasters
-side_by Masters has_link = AtMasters
-side_by Ports has_link = AtPorts
-side_by Each has_link = AtMasters
+side_by Masters crosses = AtMasters
+side_by Ports crosses = AtPorts
+side_by Each crosses = AtMasters
 
 abbrev pub side_for : Layout → ℕ → LinkSide
-side_for layout port = side_by layout.links (nat_lt port (length layout.ports))
+side_for layout port = side_by layout.links (may_cross layout port)
 
 -- the port that a request at a link goes to: the link's own, or that of the master's requests
 abbrev pub port_for : Plan → Link → Request → ℕ

@@ -14,16 +14,16 @@ use crate::handle::Handle;
 use crate::held::{HandleContent, HeldJudge};
 use crate::system::take;
 use check_memory::Slave;
-use check_sides::Links;
 use std::alloc::{AllocError, Global};
 
 /// What a reset loads into the slaves of ports' links that are judged each by itself; nothing if none is.
 fn own_loads(alloc: Global, judge: &HeldJudge) -> Result<Vec<Option<Slave>>, AllocError>
-    ensures { IfOk result (λ own. IsTrue (are_apart judge.now.watch.layout.links) → own.items ≡ judge.now.loads) }
+    ensures { IfOk result (λ own. IsTrue (are_apart judge.now.watch.layout) → own.items ≡ judge.now.loads) }
 {
-    match judge.watch.links() {
-        Links::Each => judge.loads.make(alloc),
-        Links::Both | Links::Masters | Links::Ports => Ok(Vec::new(alloc)),
+    if judge.watch.are_apart() {
+        judge.loads.make(alloc)
+    } else {
+        Ok(Vec::new(alloc))
     }
 }
 

@@ -1,8 +1,9 @@
 -- There is a slave for each port, and the judge keeps no beat by each plan of the system. Images that were loaded fit.
 use Rattle.std.proofs.Common.{rules, ◌≡◌, ◌∙◌, ◌+◌, ap, length, map, Ok, subst, sym}
+use Rattle.std.specs.Prelude.{IsTrue}
 use Rattle.std.proofs.lemmas.List.{length-map}
 use Rattle.check_description.specs.Port.{Port}
-use Rattle.check_watch.specs.declared.links.Links.TheVariants.{Each}
+use Rattle.check_sides.specs.Groups.{are_apart}
 use Rattle.check_start.specs.Loads.{AreLoadsOf, ImagesFit, loads_at_reset}
 use Rattle.check_start.specs.Slaves.{own_slaves, shared_side, shared_slaves}
 use Rattle.check_start.specs.Start.{layout_of}
@@ -34,7 +35,7 @@ new-requires-clause-slaves c =
 pub new-requires-clause-own : goal.new-requires-clause-own
 new-requires-clause-own c each =
     let images = map (λ image. image.items) c.args.images.now in
-    let made : c.args.terms.links ≡ Each
+    let made : IsTrue (are_apart (layout_of c.args.terms c.args.system))
     → own_slaves c.args.terms images c.args.system.ports ≡ Ok c.in_ok-slaves.slaves.own.items = search rules in
     slaves_counted Ports c.args.terms.orders images c.args.system.ports c.in_ok-slaves.slaves.own.items (made each)
     ∙ ap (λ n. n + 1) (sym (length-map c.args.system.ports (λ (port : Port). port.ranges))
@@ -46,7 +47,7 @@ returns-clause-keeps c =
     let laid : c.in_ok-watch.watch.layout ≡ layout_of c.args.terms c.args.system = search rules in
     let made : shared_slaves c.args.terms images c.args.system.ports ≡ Ok c.in_ok-slaves.slaves.shared.items =
     search rules in
-    let made_own : c.args.terms.links ≡ Each
+    let made_own : IsTrue (are_apart (layout_of c.args.terms c.args.system))
     → own_slaves c.args.terms images c.args.system.ports ≡ Ok c.in_ok-slaves.slaves.own.items = search rules in
     let one = c.in_ok-watch.ensures.plan in
     record {
@@ -64,7 +65,7 @@ returns-clause-loads c =
     let laid : c.in_ok-watch.watch.layout ≡ layout_of c.args.terms c.args.system = search rules in
     let made : shared_slaves c.args.terms images c.args.system.ports ≡ Ok c.in_ok-slaves.slaves.shared.items =
     search rules in
-    let made_own : c.args.terms.links ≡ Each
+    let made_own : IsTrue (are_apart (layout_of c.args.terms c.args.system))
     → own_slaves c.args.terms images c.args.system.ports ≡ Ok c.in_ok-slaves.slaves.own.items = search rules in
     let loaded : c.in_ok-loads.loads ≡ loads_at_reset images c.args.system.ports = search rules in
     let one = c.in_ok-watch.ensures.plan in

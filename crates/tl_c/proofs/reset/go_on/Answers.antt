@@ -10,8 +10,8 @@ pub returns-clause-reset : goal.returns-clause-reset
 returns-clause-reset c plan past keeps =
     let judge = c.args.judge.now in
     let left = c.in_ok-reset.ensures.reset plan past keeps in
-    let apart : IsTrue (are_apart plan.layout.links) → IsTrue (are_apart judge.watch.layout.links) =
-    λ yes. subst (λ (l : Layout). IsTrue (are_apart l.links)) (sym keeps.suits.layout) yes in
+    let apart : IsTrue (are_apart plan.layout) → IsTrue (are_apart judge.watch.layout) =
+    λ yes. subst (λ (l : Layout). IsTrue (are_apart l)) (sym keeps.suits.layout) yes in
     record {
       resets = left.0;
       own = left.1;

@@ -3,10 +3,9 @@ use Rattle.std.specs.Prelude.{IsTrue}
 use Rattle.check_beats.specs.declared.bus.Bus.{Bus}
 use Rattle.check_flight.specs.PortSlave.{PortSlave}
 use Rattle.check_watch.specs.Plan.{IsPlan, Layout, Plan}
-use Rattle.check_watch.specs.declared.links.Links.TheVariants.{Each}
-use Rattle.check_sides.specs.Groups.{are_apart}
+use Rattle.check_sides.specs.Groups.{are_apart, is_some_alone}
 use Rattle.check_sides.specs.View.{HaveBuses, Keeps, PortView, View, fresh_links}
-use Rattle.check_sides.proofs.Fresh.{each_is, fresh_buses, fresh_keeps, length-fresh_links}
+use Rattle.check_sides.proofs.Fresh.{fresh_buses, fresh_keeps, length-fresh_links}
 use Rattle.check_sides.proofs.watch.Watch.new.Goals as goal
 
 -- the links that were made
@@ -17,8 +16,7 @@ made c = c.in_ok-ports.ensures ∙ ap (λ (b : List Bus). fresh_links b c.args.o
 pub invariant_of-result : goal.invariant_of-result
 invariant_of-result c = record {
   ports = λ apart.
-      let own = c.requires.own (each_is c.args.links
-      (subst (λ (l : Layout). IsTrue (are_apart l.links)) c.in_ok-shared.ensures.layout apart)) in
+      let own = c.requires.own (subst (λ (l : Layout). IsTrue (are_apart l)) c.in_ok-shared.ensures.layout apart) in
       let fits : length c.args.port_buses.items ≤ length c.args.own.items =
       omega (arith, own, c.requires.ports) in
       let links = ap (λ (l : List PortView). length l) (made c)
@@ -40,6 +38,7 @@ made_of c = record {
 keeps_by : (c : goal.In_ok-shared) (plan : Plan) → IsPlan plan
     → plan.layout ≡ record {
       links = c.args.links;
+      apart = c.args.apart.items;
       rules = c.args.rules;
       owners = c.args.sources;
       ports = c.args.map;
@@ -47,14 +46,14 @@ keeps_by : (c : goal.In_ok-shared) (plan : Plan) → IsPlan plan
       master_buses = c.args.master_buses.items;
       port_buses = c.args.port_buses.items;
     }
-    → plan.resets ≡ c.args.slaves.items → (c.args.links ≡ Each → plan.own ≡ c.args.own.items)
+    → plan.resets ≡ c.args.slaves.items → (IsTrue (is_some_alone c.args.links c.args.apart.items) → plan.own ≡ c.args.own.items)
     → Keeps plan [] (made_of c)
 keeps_by c plan lawful layout resets own =
     fresh_keeps plan (made_of c) lawful (c.in_ok-shared.ensures.layout ∙ sym layout)
     (c.in_ok-shared.ensures.keeps plan lawful layout resets)
     (λ apart. made c
     ∙ ap (λ (s : List PortSlave). fresh_links c.args.port_buses.items s)
-    (sym (own (each_is c.args.links (subst (λ (l : Layout). IsTrue (are_apart l.links)) layout apart))))
+    (sym (own (subst (λ (l : Layout). IsTrue (are_apart l)) layout apart)))
     ∙ ap (λ (l : Layout). fresh_links l.port_buses plan.own) (sym layout))
 
 pub returns-clause-keeps : goal.returns-clause-keeps

@@ -11,7 +11,7 @@ use Rattle.check_sides.proofs.watch.Watch.step_shared.Goals as goal
 pub invariant_of-self : goal.invariant_of-self
 invariant_of-self c = record {
   ports = λ apart. rw c.step.ensures.layout (c.self.invariant.ports
-      (subst (λ (l : Layout). IsTrue (are_apart l.links)) c.step.ensures.layout apart));
+      (subst (λ (l : Layout). IsTrue (are_apart l)) c.step.ensures.layout apart));
   buses = rw c.step.ensures.layout c.self.invariant.buses;
 }
 
@@ -24,20 +24,20 @@ returns-clause-judged c plan past keeps =
     } in
     let x = seen_at c.args.link c.args.beat.now c.args.known c.args.lanes.now in
     let inside : Keeps plan past view = subst (Keeps plan past) (sym c.self.view_is) keeps in
-    let shared : is_alone plan.layout.links c.args.link ≡ false =
-    subst (λ (l : Layout). is_alone l.links c.args.link ≡ false) keeps.suits.layout c.requires.shared in
+    let shared : is_alone plan.layout c.args.link ≡ false =
+    subst (λ (l : Layout). is_alone l c.args.link ≡ false) keeps.suits.layout c.requires.shared in
     shared_step plan past view x inside shared c.step.new.self c.step.new.self.layout
     (c.step.ensures.layout ∙ inside.suits.layout) c.step.result
-    (c.step.ensures.judged plan (shared_past plan.layout.links past) inside.shared)
+    (c.step.ensures.judged plan (shared_past plan.layout past) inside.shared)
 
 pub step-requires : goal.step-requires
 step-requires c =
     let beat : CanCross c.self.inside.shared.layout c.args.link c.args.lanes.now =
     subst (λ (v : View). CanCross v.layout c.args.link c.args.lanes.now) (sym c.self.view_is) c.requires.beat in
-    let shared : is_alone c.self.inside.shared.layout.links c.args.link ≡ false =
-    subst (λ (v : View). is_alone v.layout.links c.args.link ≡ false) (sym c.self.view_is) c.requires.shared in
+    let shared : is_alone c.self.inside.shared.layout c.args.link ≡ false =
+    subst (λ (v : View). is_alone v.layout c.args.link ≡ false) (sym c.self.view_is) c.requires.shared in
     record {
       known = beat.known;
-      watched = in_group_watched c.self.inside.shared.layout.links c.args.link shared beat.watched;
+      watched = in_group_watched c.self.inside.shared.layout c.args.link shared beat.watched;
       lanes = beat.lanes;
     }

@@ -29,6 +29,7 @@ returns-clause-plan c =
     let plan : Plan = record {
       layout = record {
         links = c.args.links;
+        apart = c.args.apart.items;
         rules = c.args.rules;
         owners = c.args.sources;
         ports = c.args.map;
