@@ -1,7 +1,8 @@
 """planted/EVIDENCE: for each wrong body that the prover must refuse, when it was refused last, of which files, and by which goal.
 
 A line has seven fields: the crate, the edit, three sums, the date, and the goal that stayed open, with its function. The sums are of the
-edit, of the crate's own files (src, specs and proofs), and of what stands below it (specs and public contracts) with the toolchain.
+edit, of the crate's own files (src, specs and proofs), and of what stands below it (specs and public contracts) with the toolchain. Lines
+that are only a comment are in none of them, since no proof depends on them.
 """
 
 import dataclasses
@@ -58,10 +59,16 @@ def files_of(crate, parts):
     return sorted((os.path.relpath(path, top), path) for path in found)
 
 
+def uncommented(text):
+    """A source or proof file without the lines that are only a comment."""
+    return "\n".join(line for line in text.split("\n") if not line.lstrip().startswith(("//", "--")))
+
+
 @functools.lru_cache(maxsize=None)
 def sum_of_crate(crate):
-    """The sum of all that the crate itself has."""
-    return sum_of(*(part for name, path in files_of(crate, ("src", "specs", "proofs")) for part in (name.encode(), read(path))))
+    """The sum of all that the crate itself has but for comments."""
+    files = files_of(crate, ("src", "specs", "proofs"))
+    return sum_of(*(part.encode() for name, path in files for part in (name, uncommented(read(path).decode()))))
 
 
 def contracts(text):
@@ -87,7 +94,7 @@ def contracts(text):
 def sum_of_promises(crate):
     """The sum of what the crates above can cite of a crate: its definitions and its public contracts, without comments."""
     sources = [contracts(read(path).decode()) for _, path in files_of(crate, ("src",))]
-    definitions = ["\n".join(it for it in read(path).decode().split("\n") if not it.startswith("--")) for _, path in files_of(crate, ("specs",))]
+    definitions = [uncommented(read(path).decode()) for _, path in files_of(crate, ("specs",))]
     return sum_of(*(text.encode() for text in sources + definitions))
 
 
