@@ -2,3 +2,4 @@ mod Counted
 mod Faults
 mod Loading
 mod Plans
+mod Numbering
