@@ -26,7 +26,9 @@ use Rattle.check_scripts.specs.Instance.{ArePortsOf, IsPlainPort, IsPortOf}
 use Rattle.check_keys.specs.Name.{name_at}
 use Rattle.check_description.specs.Contents.{contents_at, image_name_at, reset_at, reset_of}
 use Rattle.check_description.specs.Kind.{kind_at, port_kind_of as new_kind_of}
+use Rattle.check_description.specs.Crossing.{port_crossing_at, said_crossing}
 use Rattle.check_description.specs.Listed.{listed_at}
+use Rattle.check_description.specs.declared.crossing.PortCrossing.TheVariants.{Same}
 use Rattle.check_description.specs.OnReset.{on_reset_at, said_on_reset}
 use Rattle.check_description.specs.Order.{no_orders, orders_at}
 use Rattle.check_description.specs.Port.{Port, port_of}

@@ -10,9 +10,10 @@ use Rattle.check_beats.specs.declared.bus.Bus.TheVariants.{Eight}
 use Rattle.check_beats.specs.declared.rules.LinkRules.{LinkRules}
 use Rattle.check_keys.specs.Key.{key_name}
 use Rattle.check_keys.specs.declared.fault.Key.{Key}
-use Rattle.check_keys.specs.declared.fault.Key.TheVariants.{Bus, Unaligned, Decode, Resets, Period, Name, Ranges, Image, Unknown, Sizes, Order, Mirror, Volatile, OnReset, Hosts, Sources, First, Stride, Reach}
+use Rattle.check_keys.specs.declared.fault.Key.TheVariants.{Bus, Unaligned, Decode, Resets, Period, Name, Ranges, Image, Unknown, Sizes, Order, Mirror, Volatile, OnReset, Hosts, Sources, Crossing, First, Stride, Reach}
 use Rattle.check_description.specs.Laws.{IsPlainMemory, store_at_reset}
 use Rattle.check_description.specs.Order.{no_orders}
+use Rattle.check_description.specs.declared.crossing.PortCrossing.TheVariants.{Same}
 use Rattle.check_description.specs.declared.on_reset.OnReset.TheVariants.{Never}
 use Rattle.check_description.specs.Port.{Port, port_tables}
 use Rattle.check_description.specs.Description.{Description, Makes}
