@@ -120,6 +120,9 @@ def page_of(places, crate):
     listed = list(contents(places, crate))
     if listed:
         said += ["\n".join(listed)]
+    handed_on = [link for owner, name in crate.handed_on if (link := places.link(crate.name, owner, name))]
+    if handed_on:
+        said += ["\n".join(wrapped(f"It hands on {', '.join(handed_on)}."))]
     if any(specs.definitions for specs in crate.specs):
         said.append("## Definitions")
     for specs in crate.specs:

@@ -186,6 +186,8 @@ class Crate:
         self.specs = specs_of(top, name)
         self.paths = sorted(self._sources())
         self.items = []
+        # what other crates have and this one hands on: the crate and the name
+        self.handed_on = []
         lib = f"crates/{name}/src/lib.rt"
         if os.path.isfile(os.path.join(top, lib)):
             self._add(lib, "")
@@ -216,7 +218,9 @@ class Crate:
 
     def _find(self, module, name, within):
         path = module_path(self.top, self.name, module, within)
-        if path and not self._take(path, name, ""):
+        if not path:
+            self.handed_on.append((module.split("::")[0], name))
+        elif not self._take(path, name, ""):
             # the module hands on what another one has
             inner = path.split("/src/")[1][:-3] + "/"
             for other, several, one in EXPORTS.findall(read(self.top, path)):
