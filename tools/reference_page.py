@@ -1,8 +1,8 @@
 """The pages that tools/reference writes: one for each crate, and one that lists them."""
 
 import re
-import textwrap
 
+import markdown
 from markdown import Anchors
 
 WIDTH = 140
@@ -29,10 +29,7 @@ def paragraphs(lines):
 
 
 def wrapped(text, front=""):
-    """Lines of a paragraph; what stands between backticks is not cut, and neither is a link."""
-    hidden = re.sub(r"`[^`]*`|\[[^\]]*\]\([^)]*\)", lambda found: found.group().replace(" ", "\0"), text)
-    lines = textwrap.wrap(hidden, WIDTH, initial_indent=front, subsequent_indent=" " * len(front), break_long_words=False, break_on_hyphens=False)
-    return [line.replace("\0", " ") for line in lines]
+    return markdown.wrapped(text, WIDTH, front, len(front))
 
 
 class Places:
