@@ -11,8 +11,9 @@ NAME = re.compile(r"[A-Za-z_][\w]*")
 
 
 def escaped(text):
-    """Text of a comment as Markdown shows it: what stands between backticks stays, and a name in brackets is one between backticks."""
-    parts = re.split(r"(`[^`]*`)", re.sub(r"\[(`[^`\]]*`)\]", r"\1", text))
+    """Text of a comment as Markdown shows it: what stands between backticks stays, and a name in brackets, with its path behind it or not, is one
+    between backticks."""
+    parts = re.split(r"(`[^`]*`)", re.sub(r"\[(`[^`\]]*`)\](?:\([\w:]*\))?", r"\1", text))
     return "".join(part if part.startswith("`") else re.sub(r"([*<>_\[\]|\\])", r"\\\1", part) for part in parts)
 
 
