@@ -48,7 +48,8 @@ def of_words(places):
         for said in places.numbers(function):
             ours, theirs = source.get(front + said.key), known.get(said.text)
             is_well = ours is not None and theirs is not None and ours.text == theirs.text
-            places.tell(is_well, f"{(theirs or said).at}: {(theirs or said).text!r} of {said.key} is {ours and ours.text!r} at {ours.at if ours else 'no place'}")
+            told = theirs or said
+            places.tell(is_well, f"{told.at}: {told.text!r} of {said.key} is {ours and ours.text!r} at {ours.at if ours else 'no place'}")
     numbered = [said._replace(key="Form." + said.key) for said in places.numbers("form_number")] + places.numbers("beat_number")
     for said in places.beats:
         places.tell(said.key in {other.key for other in numbered}, f"{numbered[0].at}: {said.text!r} of {said.key} ({said.at}) has no number")
@@ -76,7 +77,8 @@ def of_examples(places):
         of_key = {said.key: said.text for said in places.numbers(function)}
         for said in places.files.words(path, r'TLX_(?P<key>\w+),\s*"(?P<text>[^"]*)"', head, "\n};", "TLX_"):
             wanted = {of_key.get(one.key[0]) for one in lines if re.fullmatch(one.pattern, said.text)}
-            places.tell(wanted == {numbers.get(said.key)}, f"{said.at}: TLX_{said.key} of {said.text!r} is not the number {sorted(map(str, wanted))} of {NUMBERS}")
+            places.tell(wanted == {numbers.get(said.key)},
+                        f"{said.at}: TLX_{said.key} of {said.text!r} is not the number {sorted(map(str, wanted))} of {NUMBERS}")
 
 
 def faults_of(places, call):

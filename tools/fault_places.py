@@ -246,7 +246,8 @@ class Places:
     def of_scripts(self):
         words, page = self.files.words, "docs/FORMATS.md"
         end = ("Map", "PastEnd")
-        self.keyed(self.keys("tl_script"), words("crates/tl_script/specs/Key.antt", r'script_key_name (?P<key>\w+) = codes "(?P<text>\w+)"', every="script_key_name [A-Z]"))
+        self.keyed(self.keys("tl_script"), words(
+            "crates/tl_script/specs/Key.antt", r'script_key_name (?P<key>\w+) = codes "(?P<text>\w+)"', every="script_key_name [A-Z]"))
         table = self.files.table(page, "| Fault | Line | Such a script |\n|---|---|---|\n", 1, 0)
         memory = table.pop()
         self.tell(memory.text == self.memory.text, f"{memory.at}: {memory.text!r} is {self.memory.text!r} at {self.memory.at}")

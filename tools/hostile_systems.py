@@ -113,7 +113,8 @@ def port_of(rng, place, wild):
     base = rng.choice([0x1000, 2 ** 63 - 1, 2 ** 63, -1] if odd else [0x10000 * (place + 1)])
     length = rng.choice([0, 2 ** 63 - 1, 2 ** 63, -1] if odd else [1, 16, 4096, 65536])
     if rng.random() < 0.3:
-        text.append(f"ranges = {[[base + 0x100 * at, min(length, 0x100) - (at and odd and rng.random() < 0.1)] for at in range(rng.choice([1, 2, 16] + [0, 17] * odd))]}")
+        count = rng.choice([1, 2, 16] + [0, 17] * odd)
+        text.append(f"ranges = {[[base + 0x100 * at, min(length, 0x100) - (at and odd and rng.random() < 0.1)] for at in range(count)]}")
     else:
         text.append(f"base = {base}\nlength = {length}")
     for chance, key, values in (

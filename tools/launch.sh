@@ -1,3 +1,4 @@
+# shellcheck shell=bash
 # What the launchers of the programs share: ./tlx, ./tlcheck and ./tlvcd read this with `top` set to the repository's folder, and so do
 # tools/install and tools/library.sh.
 #
@@ -12,6 +13,7 @@ fail() {
 }
 
 # What is built, a program or the library, is up to date if no source is newer.
+# shellcheck disable=SC2154  # top is the caller's
 is_fresh() {
   [ -f "$1" ] && [ -z "$(find "$top"/crates/*/src "$top"/crates/*/specs "$top"/crates/*/proofs "$top/crates.txt" -type f -newer "$1" -print -quit)" ]
 }

@@ -1,3 +1,4 @@
+# shellcheck shell=bash disable=SC2034
 # To be sourced by bash: sets the arrays TLX_CFLAGS and TLX_LIBS, with which a program in C is built against the library. With TLX_PREFIX
 # set they name what tools/install put there, and hold in any folder. Else they name the tree: the library is built first, unless it is up
 # to date, and the three functions over the C library's heap are the kit's.

@@ -18,7 +18,6 @@ import tempfile
 
 import tlx
 from tally import Tally
-from tlx import _library
 
 SYSTEM = """
 slots = 1
