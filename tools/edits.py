@@ -100,7 +100,9 @@ def crates_with_edits():
 
 
 def groups(edits):
-    """The edits in groups, each tried by one check: no two of a group change one function. What is in no function is tried alone."""
+    """The edits in groups, each tried by one check: no two of a group change one function. What is in no function is tried alone, and last:
+    what its check proves holds for no other edit.
+    """
     found = []
     for edit in edits:
         places = edit.places()
@@ -111,4 +113,4 @@ def groups(edits):
             found.append(group)
         group[0].append(edit)
         group[1].update(places)
-    return [it for it, _ in found]
+    return [it for it, _ in sorted(found, key=lambda it: None in it[1])]

@@ -1,26 +1,27 @@
-"""planted/EVIDENCE: for each wrong body that the prover must refuse, when it was refused last, of which files, and by which goal.
+"""planted/EVIDENCE: for each wrong body that the prover must refuse, when it was refused last, what that rests on, and by which goal.
 
 A line has seven fields: the crate, the edit, three sums, the date, and the goal that stayed open, with its function. The sums are of the
-edit, of the crate's own files (src, specs and proofs), and of what stands below it (specs and public contracts) with the toolchain. Lines
-that are only a comment are in none of them, since no proof depends on them.
+edit, of its cone (the parts of its crate on which the refusal rests, which tools/cones.py finds), and of what stands below the crate
+(specs and public contracts) with the toolchain. Lines that are only a comment are in none of them, since no proof depends on them. If
+the cone can't be found, the sum of the whole crate (src, specs and proofs) stands in its place.
 """
 
 import dataclasses
 import functools
-import hashlib
 import os
 import re
 import subprocess
 
+from cones import FOLDERS, sum_of, sum_of_cone
 from crate_list import TOP, below, crates
 from edits import FUNCTION, crates_with_edits, edits_of
+from items import files_of, read
 
 FILE = os.path.join(TOP, "planted", "EVIDENCE")
 HEAD = """\
 # Each wrong body, with the goal that the prover left open when it was tried last. Written by tools/planted; docs/PLANTED.md says more.
-# crate edit sum-of-edit sum-of-crate sum-below date function: goal
+# crate edit sum-of-edit sum-of-cone sum-below date function: goal
 """
-DIGITS = 12
 
 
 @dataclasses.dataclass(frozen=True)
@@ -30,33 +31,13 @@ class Line:
     crate: str
     edit: str
     of_edit: str
-    of_crate: str
+    of_cone: str
     of_below: str
     date: str
     goal: str
 
     def __str__(self):
         return " ".join(dataclasses.astuple(self))
-
-
-def sum_of(*parts):
-    """The first digits of the SHA-256 of some bytes."""
-    it = hashlib.sha256()
-    for part in parts:
-        it.update(len(part).to_bytes(8, "little") + part)
-    return it.hexdigest()[:DIGITS]
-
-
-def read(path):
-    with open(path, "rb") as it:
-        return it.read()
-
-
-def files_of(crate, parts):
-    """The files in these folders of a crate, in order, each as its name in the crate and its path."""
-    top = os.path.join(TOP, "crates", crate)
-    found = [os.path.join(at, file) for part in parts for at, _, files in os.walk(os.path.join(top, part)) for file in files]
-    return sorted((os.path.relpath(path, top), path) for path in found)
 
 
 def uncommented(text):
@@ -67,8 +48,14 @@ def uncommented(text):
 @functools.lru_cache(maxsize=None)
 def sum_of_crate(crate):
     """The sum of all that the crate itself has but for comments."""
-    files = files_of(crate, ("src", "specs", "proofs"))
+    files = files_of(crate, FOLDERS)
     return sum_of(*(part.encode() for name, path in files for part in (name, uncommented(read(path).decode()))))
+
+
+def sum_of_own(edit, goal):
+    """The sum of what the refusal of an edit by this goal rests on in its crate: of its cone, or of the crate if that is not known."""
+    whole = sum_of_crate(edit.crate)
+    return sum_of_cone(edit, goal) or whole
 
 
 def contracts(text):
@@ -111,8 +98,8 @@ def sum_below(crate):
 
 
 def line_of(edit, date, goal):
-    """The line of an edit that was refused by this goal. The sums of its crate are those of their first use here."""
-    return Line(edit.crate, edit.name, sum_of(edit.text.encode()), sum_of_crate(edit.crate), sum_below(edit.crate), date, goal)
+    """The line of an edit that was refused by this goal. The sums are of the files as they stood at the crate's first use here."""
+    return Line(edit.crate, edit.name, sum_of(edit.text.encode()), sum_of_own(edit, goal), sum_below(edit.crate), date, goal)
 
 
 def load():
@@ -137,8 +124,8 @@ def fault_of(edit, line):
         return "it was never refused by an open goal"
     if line.of_edit != sum_of(edit.text.encode()):
         return "it has changed since it was tried"
-    if line.of_crate != sum_of_crate(edit.crate):
-        return "its crate has changed since it was tried"
+    if line.of_cone != sum_of_own(edit, line.goal):
+        return "what it rests on has changed since it was tried"
     return None
 
 
