@@ -91,6 +91,8 @@ enum tlx_fault {
   TLX_WRONG_REPLY = 49,
   /* of the end (tlx_judge_end) */
   TLX_INCOMPLETE = 50,    /* requests are left without a whole reply */
+  /* of a beat, at a link with `fifo` */
+  TLX_OUT_OF_ORDER = 51,
   /* of an image (tlx_system_image; the last one of tlx_judge_make and tlx_judge_read) */
   TLX_NO_PORT = 60,       /* the file names no such port */
   TLX_NO_IMAGE = 61,      /* the file names no image for the port */

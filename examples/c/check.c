@@ -117,6 +117,7 @@ const char *words_of(enum tlx_fault fault) {
     case TLX_NOT_GIVEN: return "the port gave no such reply";
     case TLX_WRONG_REPLY: return "wrong reply";
     case TLX_INCOMPLETE: return "requests without reply";
+    case TLX_OUT_OF_ORDER: return "reply out of order";
     case TLX_NO_PORT: return "no such port";
     case TLX_NO_IMAGE: return "the file names no image for the port";
     case TLX_LONG_IMAGE: return "image is longer than its range";

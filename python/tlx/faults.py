@@ -52,6 +52,7 @@ class Fault(enum.IntEnum):
     NOT_GIVEN = 48
     WRONG_REPLY = 49
     INCOMPLETE = 50
+    OUT_OF_ORDER = 51
     NO_PORT = 60
     NO_IMAGE = 61
     LONG_IMAGE = 62

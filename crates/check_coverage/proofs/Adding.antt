@@ -1,20 +1,21 @@
 -- What one beat adds, as it is counted from what is kept of the requests in flight.
-use Rattle.std.proofs.Common.{◌≡◌, ◌∙◌, ℕ, Bool, false, List, [], ◌∷◌, length, Option, Some, None, refl, ap, sym}
-use Rattle.std.specs.Prelude.{if◌then◌else◌, ◌==◌, not, map, filter, find, is_some, option_map, Result, OnOk}
+use Rattle.std.proofs.Common.{◌≡◌, ◌∙◌, ℕ, Bool, ◌&&◌, List, [], ◌∷◌, length, Option, Some, None, refl, ap, sym}
+use Rattle.std.specs.Prelude.{if◌then◌else◌, ◌==◌, not, map, filter, find, take_while, is_some, option_map, Result, OnOk}
+use Rattle.std.specs.Bool.{beq}
 use Rattle.std.specs.List.{list_any}
 use Rattle.std.proofs.lemmas.Option.{none-some, same_Some}
 use Rattle.check_beats.specs.declared.rules.LinkRules.{LinkRules}
-use Rattle.check_coverage.specs.declared.bin.Bin.{Bin}
-use Rattle.check_coverage.specs.declared.bin.Bin.TheVariants as bin
-use Rattle.check_coverage.specs.declared.counts.Counts.{Counts}
+use Rattle.check_bins.specs.declared.bin.Bin.{Bin}
+use Rattle.check_bins.specs.declared.bin.Bin.TheVariants as bin
+use Rattle.check_bins.specs.declared.counts.Counts.{Counts}
 use Rattle.check_coverage.specs.declared.flight.CountedFlight.{CountedFlight}
-use Rattle.check_coverage.specs.Bins.{again, begin_bins, contested_bins, contests, is_of_master, is_of_port, is_younger, overtook_bins, bin_pair, with_one}
+use Rattle.check_coverage.specs.Bins.{again, begin_bins, contested_bins, contests, is_of_master, is_of_port, older, overtook_at, bin_pair, told_source, with_one}
 use Rattle.check_sides.specs.Plan.{Plan}
 use Rattle.check_coverage.specs.Flights.{InFlight, is_of, kept}
 use Rattle.check_coverage.specs.Mirrors.{MirrorsView, mirrors_at}
-use Rattle.check_coverage.specs.View.{Adds}
-use Rattle.check_coverage.proofs.Counted.{adds_ok}
-use Rattle.check_coverage.proofs.Places.{filter_count, find_kept, found_any}
+use Rattle.check_bins.specs.Counting.{Adds}
+use Rattle.check_bins.proofs.Counted.{adds_ok}
+use Rattle.check_coverage.proofs.Places.{any_kept, filter_count, find_kept, found_any, take_while_kept}
 
 -- two bins, and some more by a call that may fail
 pub adds_two : {E : Type 0} (old a b new : Counts) (x y : Bin) (rest : List Bin) (r : Result (Unit {0}) E)
@@ -36,12 +37,15 @@ module _ (before : List InFlight) (this : InFlight) (flights : List CountedFligh
       (λ i. length (filter (λ (other : CountedFlight). other.port == (is_this i).port) (is i)))
       ∙ filter_count (λ (other : CountedFlight). other.port == this.port) before
 
-  pub begin_is : (m p : ℕ) (rules : LinkRules) (time : ℕ) (answered : Option ℕ) (rest : List Bin)
+  pub begin_is : (m p s : ℕ) (rules : LinkRules) (time : ℕ) (answered : Option ℕ)
       → m ≡ with_one (filter (is_of_master this.master) before) → p ≡ with_one (filter (is_of_port this.port) before)
-      → rest ≡ again rules this time answered
-      → (bin.InFlight flight.master m ∷ bin.AtPort flight.port p ∷ rest) ≡ begin_bins rules before this time answered
-  begin_is m p rules time answered rest is_m is_p is_rest =
-      λ i. bin.InFlight (is_this i).master (is_m i) ∷ bin.AtPort (is_this i).port (is_p i) ∷ is_rest i
+      → s ≡ told_source flight.source
+      → (bin.InFlight flight.master m ∷ bin.AtPort flight.port p ∷ bin.Source flight.master s
+      ∷ again rules this time answered) ≡ begin_bins rules before this time answered
+  begin_is m p s rules time answered is_m is_p is_s =
+      λ i. bin.InFlight (is_this i).master (is_m i) ∷ bin.AtPort (is_this i).port (is_p i)
+      ∷ bin.Source (is_this i).master ((is_s ∙ ap (λ (f : CountedFlight). told_source f.source) is_this) i)
+      ∷ again rules this time answered
 
   pub contested_is : (plan : Plan) (mirrors : MirrorsView) (b : Bool) → mirrors ≡ mirrors_at plan this.port
       → b ≡ list_any (contests mirrors this) before
@@ -50,36 +54,21 @@ module _ (before : List InFlight) (this : InFlight) (flights : List CountedFligh
       (λ i. if tells i then bin.Contested (is_this i).port ∷ [] else [])
       ∙ ap (λ m. if list_any (contests m this) before then bin.Contested this.port ∷ [] else []) seen
 
-  -- the oldest one of its master
-  pub oldest_is : find (λ (other : CountedFlight). other.master == flight.master) flights
-      ≡ option_map kept (find (is_of_master this.master) before)
-  oldest_is =
-      (λ i. find (λ (other : CountedFlight). other.master == (is_this i).master) (is i))
-      ∙ find_kept (λ (other : CountedFlight). other.master == this.master) before
-
-younger_by : (this : InFlight) (found : Option InFlight) (oldest : CountedFlight) → Some oldest ≡ option_map kept found
-    → is_younger this found ≡ not (oldest.wide == this.wide)
-younger_by this None oldest is = absurd (none-some oldest (sym is))
-younger_by this (Some first) oldest is =
-    ap (λ (f : CountedFlight). not (f.wide == this.wide)) (sym (same_Some oldest (kept first) is))
-
-older_none : (this : InFlight) (found : Option InFlight) → None ≡ option_map kept found → is_younger this found ≡ false
-older_none this None is = refl
-older_none this (Some first) is = absurd (none-some (kept first) is)
-
-module _ (before : List InFlight) (this : InFlight) where
-  abbrev by : Bool → List Bin
-  by younger = if younger then bin.Overtook (bin_pair this) ∷ [] else []
-
-  pub overtook_some : (oldest : CountedFlight) (wide : ℕ) (younger : Bool)
-      → Some oldest ≡ option_map kept (find (is_of_master this.master) before) → wide ≡ this.wide
-      → not (oldest.wide == wide) ≡ younger → overtook_bins before this ≡ by younger
-  overtook_some oldest wide younger is same told =
-      ap by (younger_by this (find (is_of_master this.master) before) oldest is
-      ∙ ap (λ w. not (oldest.wide == w)) (sym same) ∙ told)
-
-  pub overtook_none : None ≡ option_map kept (find (is_of_master this.master) before) → overtook_bins before this ≡ []
-  overtook_none is = ap by (older_none this (find (is_of_master this.master) before) is)
+  -- an older one of the same master overtaken
+  pub overtook_is : (elsewhere b : Bool)
+      → b ≡ list_any (λ (other : CountedFlight). other.master == flight.master && beq (not (other.port == flight.port)) elsewhere)
+      (take_while (λ (other : CountedFlight). not (other.wide == flight.wide)) flights)
+      → (if b then bin.Overtook (bin_pair this) elsewhere ∷ [] else []) ≡ overtook_at elsewhere before this
+  overtook_is elsewhere b tells =
+      ap (λ t. if t then bin.Overtook (bin_pair this) elsewhere ∷ [] else [])
+      (tells
+      ∙ (λ i. list_any (λ (other : CountedFlight). other.master == (is_this i).master
+      && beq (not (other.port == (is_this i).port)) elsewhere)
+      (take_while (λ (other : CountedFlight). not (other.wide == (is_this i).wide)) (is i)))
+      ∙ ap (list_any (λ (other : CountedFlight). other.master == this.master && beq (not (other.port == this.port)) elsewhere))
+      (take_while_kept (λ (other : CountedFlight). not (other.wide == this.wide)) before)
+      ∙ any_kept (λ (other : CountedFlight). other.master == this.master && beq (not (other.port == this.port)) elsewhere)
+      (older this before))
 
 -- ---- what was found
 

@@ -1,19 +1,22 @@
 -- What is kept as one row more is judged.
-use Rattle.std.proofs.Common.{◌≡◌, ◌∙◌, ℕ, ◌+◌, Bool, true, false, ◌&&◌, List, [], ◌∷◌, ◌++◌, Option, Some, ap, sym, arith, append_assoc, length}
-use Rattle.std.specs.Prelude.{if◌then◌else◌, ◌==◌, map, codes, flat_map, Result, Ok, Err, OnErr, OnOk}
+use Rattle.std.proofs.Common.{◌≡◌, ◌∙◌, ℕ, ◌+◌, Bool, true, false, ◌&&◌, List, [], ◌∷◌, ◌++◌, Option, refl, ap, sym, arith, eqb-true, append_assoc, length}
+use Rattle.std.specs.Prelude.{if◌then◌else◌, ◌==◌, map, codes, flat_map, option_map, unwrap_or, Result, Ok, Err, OnErr, OnOk}
 use Rattle.std.specs.Ordering.{nat_cmp}
-use Rattle.std.specs.BTreeMap.{IsEmpty, IsOrdered, get, is_at}
+use Rattle.std.specs.BTreeMap.{IsEmpty, IsOrdered, is_at}
 use Rattle.std.specs.Map.{lookup}
 use Rattle.check_sides.specs.Plan.{Plan, bus_of}
 use Rattle.check_rows.specs.Row.{SeenRow}
-use Rattle.check_coverage.specs.declared.bin.Bin.{Bin}
+use Rattle.check_bins.specs.declared.bin.Bin.{Bin}
 use Rattle.check_coverage.specs.declared.coverage.Coverage.{Coverage}
-use Rattle.check_coverage.specs.Bins.{bins, bins_by, bins_of}
-use Rattle.check_coverage.specs.Flights.{InFlight, answered_at, end_of, ends_at_reply, flights_after, in_flight, is_counted, kept, wide_at}
+use Rattle.check_coverage.specs.Bins.{after_bins, bins, bins_by, bins_of}
+use Rattle.check_coverage.specs.Flights.{InFlight, end_of, flights_after, in_flight, is_counted, kept, wide_at}
 use Rattle.check_coverage.specs.Mirrors.{HaveSameMirrors, mirrors_in}
-use Rattle.check_coverage.specs.Text.{TellsCoverage, bin_line}
-use Rattle.check_coverage.specs.View.{Covers, IsNoted, bin_cmp, capped, count_of, how_often}
-use Rattle.check_coverage.proofs.Counted.{how_often-append}
+use Rattle.check_bins.specs.Counting.{bin_cmp, capped, count_of, how_often}
+use Rattle.check_coverage.specs.View.{Covers, IsNoted, times_in}
+use Rattle.check_coverage.specs.Latest.{is_last_ask, latest_at, latest_by}
+use Rattle.check_coverage.specs.Times.{no_times, times_after, times_at}
+use Rattle.check_coverage.specs.declared.times.Times.{Times}
+use Rattle.check_bins.proofs.Counted.{how_often-append}
 
 module _ (plan : Plan) (earlier : List Bin) (before : List SeenRow) (row : SeenRow) where
   abbrev flights_by : Bool → List InFlight
@@ -23,18 +26,40 @@ module _ (plan : Plan) (earlier : List Bin) (before : List SeenRow) (row : SeenR
       row.sighting.beat (end_of plan before row)
       else in_flight plan before
 
-  abbrev answered_by : ℕ → Bool → Option ℕ
-  answered_by wide counted =
-      if counted && (ends_at_reply row.sighting.beat (end_of plan before row) && (wide_at plan row.sighting == wide))
-      then Some row.time
-      else answered_at plan before wide
+  abbrev times_by : ℕ → Bool → Times
+  times_by wide counted =
+      if counted && (wide_at plan row.sighting == wide)
+      then times_after row.time row.sighting.beat (end_of plan before row) (times_at plan before wide)
+      else times_at plan before wide
+
+  -- those of the row's own source go on, and no others
+  times_of : (wide : ℕ) (b : Bool) → (wide_at plan row.sighting == wide) ≡ b
+      → (if b then times_after row.time row.sighting.beat (end_of plan before row) (times_at plan before (wide_at plan row.sighting))
+      else times_at plan before wide)
+      ≡ (if b then times_after row.time row.sighting.beat (end_of plan before row) (times_at plan before wide)
+      else times_at plan before wide)
+  times_of wide true is =
+      ap (λ w. times_after row.time row.sighting.beat (end_of plan before row) (times_at plan before w))
+      (eqb-true (wide_at plan row.sighting) wide is)
+  times_of wide false is = refl
 
   abbrev bins_with : Bool → List Bin
   bins_with counted =
       if counted
       then bins_by plan (bus_of plan.layout row.sighting.link) (wide_at plan row.sighting) (in_flight plan before) row.time
-      (answered_at plan before (wide_at plan row.sighting)) row.sighting.beat (end_of plan before row)
+      (times_at plan before (wide_at plan row.sighting)) row.sighting.beat (end_of plan before row)
+      ++ after_bins plan (wide_at plan row.sighting) (is_last_ask row.sighting.beat (end_of plan before row))
+      (flights_after plan (bus_of plan.layout row.sighting.link) (wide_at plan row.sighting) (in_flight plan before)
+      row.sighting.beat (end_of plan before row)) (λ port. latest_at plan before port)
       else []
+
+  abbrev latest_with : ℕ → Bool → Option InFlight
+  latest_with port counted =
+      if counted
+      then latest_by (wide_at plan row.sighting) (is_last_ask row.sighting.beat (end_of plan before row))
+      (flights_after plan (bus_of plan.layout row.sighting.link) (wide_at plan row.sighting) (in_flight plan before)
+      row.sighting.beat (end_of plan before row)) (λ other. latest_at plan before other) port
+      else latest_at plan before port
 
   -- nothing changes where the row is not counted
   pub covers_uncounted : (coverage : Coverage) → Covers plan earlier before coverage
@@ -42,7 +67,8 @@ module _ (plan : Plan) (earlier : List Bin) (before : List SeenRow) (row : SeenR
   covers_uncounted coverage covers is = record {
     mirrors = covers.mirrors;
     flights = covers.flights ∙ ap (λ b. map kept (flights_by b)) (sym is);
-    answered = λ wide. covers.answered wide ∙ ap (λ b. answered_by wide b) (sym is);
+    times = λ wide. covers.times wide ∙ ap (λ b. times_by wide b) (sym is);
+    latest = λ port. covers.latest port ∙ ap (λ b. option_map kept (latest_with port b)) (sym is);
     counts = λ bin. covers.counts bin
         ∙ ap (λ b. capped (how_often bin ((bins_with b ++ bins plan before) ++ earlier))) (sym is);
   }
@@ -58,20 +84,30 @@ module _ (plan : Plan) (earlier : List Bin) (before : List SeenRow) (row : SeenR
         ∙ ap (λ b. map kept (flights_after plan b (wide_at plan row.sighting) (in_flight plan before)
         row.sighting.beat (end_of plan before row))) is_bus
         ∙ ap (λ b. map kept (flights_by b)) (sym is);
-    answered = λ wide. noted.answered wide
-        ∙ ap (λ o. if ends_at_reply row.sighting.beat (end_of plan before row) && (wide_at plan row.sighting == wide)
-        then Some row.time else o) (covers.answered wide)
-        ∙ ap (λ b. answered_by wide b) (sym is);
+    times = λ wide. noted.times wide
+        ∙ (λ i. if wide_at plan row.sighting == wide
+        then times_after row.time row.sighting.beat (end_of plan before row) (covers.times (wide_at plan row.sighting) i)
+        else covers.times wide i)
+        ∙ times_of wide (wide_at plan row.sighting == wide) refl
+        ∙ ap (λ b. times_by wide b) (sym is);
+    latest = λ port. noted.latest (in_flight plan before) covers.flights (λ other. latest_at plan before other) covers.latest port
+        ∙ ap (λ b. option_map kept (latest_by (wide_at plan row.sighting)
+        (is_last_ask row.sighting.beat (end_of plan before row))
+        (flights_after plan b (wide_at plan row.sighting) (in_flight plan before) row.sighting.beat (end_of plan before row))
+        (λ other. latest_at plan before other) port)) is_bus
+        ∙ ap (λ b. option_map kept (latest_with port b)) (sym is);
     counts = λ bin.
         let wide = wide_at plan row.sighting in
         let now = in_flight plan before in
         let was = how_often bin (bins plan before ++ earlier) in
-        let added = noted.counts now covers.flights bin was (covers.counts bin) in
-        let by : ℕ → Option ℕ → List Bin =
-        λ (b : ℕ) (o : Option ℕ). bins_by plan b wide now row.time o row.sighting.beat (end_of plan before row) in
-        let same : by bus (get nat_cmp old.answered wide) ≡ bins_of plan before row =
-        ap (λ o. by bus o) (covers.answered wide)
-        ∙ ap (λ b. by b (answered_at plan before wide)) is_bus
+        let added = noted.counts now covers.flights (λ port. latest_at plan before port) covers.latest bin was (covers.counts bin) in
+        let by : ℕ → Times → List Bin =
+        λ (b : ℕ) (t : Times). bins_by plan b wide now row.time t row.sighting.beat (end_of plan before row)
+        ++ after_bins plan wide (is_last_ask row.sighting.beat (end_of plan before row))
+        (flights_after plan b wide now row.sighting.beat (end_of plan before row)) (λ port. latest_at plan before port) in
+        let same : by bus (times_in old.times wide) ≡ bins_of plan before row =
+        ap (λ t. by bus t) (covers.times wide)
+        ∙ ap (λ b. by b (times_at plan before wide)) is_bus
         ∙ ap (λ b. bins_with b) (sym is) in
         let sum : was + how_often bin (bins_of plan before row) ≡ how_often bin (bins plan (row ∷ before) ++ earlier) =
         (let more = how_often-append bin (bins_of plan before row) (bins plan before ++ earlier) in
@@ -85,36 +121,12 @@ module _ (plan : Plan) (earlier : List Bin) (before : List SeenRow) (row : SeenR
 -- nothing is in flight or answered any more, and counts go on
 pub covers_reset : (plan later : Plan) (earlier : List Bin) (rows : List SeenRow) (old new : Coverage)
     → HaveSameMirrors plan later → Covers plan earlier rows old → new.mirrors ≡ old.mirrors → new.counts ≡ old.counts
-    → new.flights.items ≡ [] → IsEmpty new.answered
+    → new.flights.items ≡ [] → IsEmpty new.times → IsEmpty new.latest
     → Covers later (bins plan rows ++ earlier) [] new
-covers_reset plan later earlier rows old new same covers mirrors counts flights answered = record {
+covers_reset plan later earlier rows old new same covers mirrors counts flights times latest = record {
   mirrors = λ port. ap (λ m. mirrors_in m.items port) mirrors ∙ covers.mirrors port ∙ sym (same port);
   flights = flights;
-  answered = λ wide. ap (λ entries. lookup (is_at (nat_cmp wide)) entries) answered;
+  times = λ wide. ap (λ entries. unwrap_or (lookup (is_at (nat_cmp wide)) entries) no_times) times;
+  latest = λ port. ap (λ entries. lookup (is_at (nat_cmp port)) entries) latest;
   counts = λ bin. ap (λ all. count_of all bin) counts ∙ covers.counts bin;
-}
-
--- ---- the text
-
--- what holds, holds if there is an error
-pub on_err : {T E : Type 0} {P : Type 0} (r : Result T E) → P → OnErr r P
-on_err (Ok done) holds = tt
-on_err (Err fault) holds = holds
-
-pub covered_text : {E : Type 0} (plan : Plan) (earlier : List Bin) (rows : List SeenRow) (coverage : Coverage)
-    (old mid new : List ℕ) (ports : ℕ) (r : Result (Unit {0}) E) → Covers plan earlier rows coverage → mid ≡ old ++ codes "coverage 1\n"
-    → ports ≡ length plan.layout.ports
-    → OnOk r (new ≡ mid ++ flat_map (bin_line ports) coverage.counts.counts.entries)
-    → OnOk r (IsOrdered bin_cmp coverage.counts.counts)
-    → OnOk r (TellsCoverage (length plan.layout.ports) (bins plan rows ++ earlier) old new)
-covered_text plan earlier rows coverage old mid new ports (Err fault) covers head is_ports told ordered = tt
-covered_text plan earlier rows coverage old mid new ports (Ok done) covers head is_ports told ordered = record {
-  entries = coverage.counts.counts.entries;
-  is = told
-      ∙ (λ i. head i ++ flat_map (bin_line (is_ports i)) coverage.counts.counts.entries)
-      ∙ append_assoc old (codes "coverage 1\n")
-      (flat_map (bin_line (length plan.layout.ports)) coverage.counts.counts.entries);
-  sorted = ordered;
-  some = coverage.counts.some;
-  counts = covers.counts;
 }

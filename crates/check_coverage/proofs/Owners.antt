@@ -1,12 +1,15 @@
 -- Whose a wide source is.
-use Rattle.std.proofs.Common.{◌≡◌, ◌∙◌, ℕ, zero, suc, ◌+◌, ◌*◌, ◌<◌, ◌≤◌, ◌⊎◌, inl, inr, Bool, true, false, List, [], ◌∷◌, length, refl, ap, sym, subst, arith, eqb-true, eq-eqb}
-use Rattle.std.specs.Prelude.{◌==◌, if◌then◌else◌}
+use Rattle.std.proofs.Common.{◌≡◌, ◌∙◌, ℕ, zero, suc, ◌+◌, ◌-◌, ◌*◌, ◌/◌, ◌<◌, ◌≤◌, ◌⊎◌, inl, inr, Bool, true, false, List, [], ◌∷◌, Some, slice_get, length, refl, ap, sym, subst, arith, eqb-true, eq-eqb}
+use Rattle.std.specs.Prelude.{◌==◌, if◌then◌else◌, All}
 use Rattle.std.specs.List.{list_any, range_with_len}
+use Rattle.std.proofs.Math.Nat.{mul-div_cancel_left}
+use Rattle.std.proofs.lemmas.List.Elements.{All-get_or}
+use Rattle.std.proofs.lemmas.Option.{get_or_from_slice_get, slice_get_within}
 use Rattle.std.proofs.lemmas.Bool.{cases_eq, or_cases, or_left, or_right, true≢false}
 use Rattle.tl_map.specs.Owner.{IsOf, IsWideSource, Widens}
-use Rattle.tl_map.specs.Owners.{AreLawfulOwners}
+use Rattle.tl_map.specs.Owners.{AreLawfulOwners, IsLawfulOwner}
 use Rattle.tl_map.specs.declared.owners.Owner.{Owner}
-use Rattle.check_coverage.specs.Flights.{master_of, owns}
+use Rattle.check_coverage.specs.Flights.{master_of, own_source, owns}
 
 -- ---- one owner
 
@@ -104,3 +107,61 @@ master_none (owner ∷ owners) wide none =
     go false is rest =
         let here : length (owner ∷ owners) ≡ master_of owners wide + 1 = omega (arith, rest) in
         here ∙ sym (ap (λ b. if b then 0 else master_of owners wide + 1) is)
+
+-- ---- the master's own source
+
+source_at : (owner : Owner) (source wide : ℕ) → 0 < owner.stride → Widens owner source wide
+    → source ≡ (wide - owner.first) / owner.stride
+source_at owner source wide positive widens =
+    let at = widens.at in
+    let apart : owner.stride * source ≡ wide - owner.first = omega (arith, at) in
+    sym (mul-div_cancel_left source positive) ∙ ap (λ n. n / owner.stride) apart
+
+source_by : (owners : List Owner) (m source wide : ℕ)
+    → ((k : ℕ) (owner : Owner) → slice_get owners k ≡ Some owner → 0 < owner.stride)
+    → IsWideSource owners m source wide → m ≡ master_of owners wide → source ≡ own_source owners wide
+source_by [] m source wide positive is at = absurd is
+source_by (owner ∷ owners) m source wide positive is at =
+    go (owns owner wide) refl m is at
+    (λ k of there. source_by owners k source wide (λ j o found. positive (suc j) o found) of there)
+  where
+    by : Bool → ℕ
+    by b = if b then (wide - owner.first) / owner.stride else own_source owners wide
+
+    place : Bool → ℕ
+    place b = if b then 0 else master_of owners wide + 1
+
+    go : (b : Bool) → owns owner wide ≡ b → (k : ℕ) → IsWideSource (owner ∷ owners) k source wide
+        → k ≡ master_of (owner ∷ owners) wide
+        → ((j : ℕ) → IsWideSource owners j source wide → j ≡ master_of owners wide → source ≡ own_source owners wide)
+        → source ≡ own_source (owner ∷ owners) wide
+    go true so zero of there rest =
+        source_at owner source wide (positive 0 owner refl) of ∙ sym (ap (λ b. by b) so)
+    go true so (suc k) of there rest =
+        let none : suc k ≡ 0 = there ∙ ap (λ b. place b) so in absurd (omega (arith, none))
+    go false so zero of there rest = absurd (true≢false (sym (owns_wide owner source wide of) ∙ so))
+    go false so (suc k) of there rest =
+        let next : suc k ≡ master_of owners wide + 1 = there ∙ ap (λ b. place b) so in
+        rest k of (omega (arith, next)) ∙ sym (ap (λ b. by b) so)
+
+lawful_at : (owners : List Owner) (k : ℕ) (owner : Owner) → All IsLawfulOwner owners → slice_get owners k ≡ Some owner
+    → IsLawfulOwner owner
+lawful_at owners k owner all there =
+    subst IsLawfulOwner (get_or_from_slice_get owners k owner owner there)
+    (All-get_or IsLawfulOwner owners k owner (slice_get_within owners k owner there) all)
+
+pub source_is : (owners : List Owner) (m source wide : ℕ) → AreLawfulOwners owners → IsWideSource owners m source wide
+    → source ≡ own_source owners wide
+source_is owners m source wide lawful is =
+    source_by owners m source wide (λ k owner there. (lawful_at owners k owner lawful.each there).apart) is
+    (master_is owners m source wide lawful is)
+
+pub source_none : (owners : List Owner) (wide : ℕ) → ((m source : ℕ) → IsWideSource owners m source wide → ⊥)
+    → 0 ≡ own_source owners wide
+source_none [] wide none = refl
+source_none (owner ∷ owners) wide none =
+    go (owns owner wide) refl (source_none owners wide (λ m source has. none (suc m) source has))
+  where
+    go : (b : Bool) → owns owner wide ≡ b → 0 ≡ own_source owners wide → 0 ≡ own_source (owner ∷ owners) wide
+    go true is rest = let has = source_owned owner wide is in absurd (none 0 has.0 has.1)
+    go false is rest = rest ∙ sym (ap (λ b. if b then (wide - owner.first) / owner.stride else own_source owners wide) is)

@@ -1,10 +1,11 @@
 -- Requests in flight, and how they are kept.
-use Rattle.std.proofs.Common.{◌≡◌, ◌∙◌, ℕ, zero, suc, ◌+◌, ◌<◌, ◌≤◌, Bool, true, false, cond, ◌||◌, List, [], ◌∷◌, length, get_or, take, Some, slice_get, refl, ap, sym, subst, arith}
-use Rattle.std.specs.Prelude.{map, filter, find, is_some, option_map, slice_set}
+use Rattle.std.proofs.Common.{◌≡◌, ◌∙◌, ℕ, zero, suc, ◌+◌, ◌<◌, ◌≤◌, Bool, true, false, cond, ◌||◌, List, [], ◌∷◌, length, get_or, take, Some, None, slice_get, refl, ap, sym, subst, arith}
+use Rattle.std.specs.Prelude.{map, filter, find, take_while, is_some, option_map, slice_set}
 use Rattle.std.specs.List.{list_any}
 use Rattle.std.proofs.lemmas.Bool.{or_from}
 use Rattle.std.proofs.lemmas.List.{get_or-map, take_all}
 use Rattle.std.proofs.lemmas.List.Folds.{list_any_at, list_any_more}
+use Rattle.std.proofs.lemmas.List.Sums.{take_while-cons}
 use Rattle.std.proofs.lemmas.Option.{same_Some, slice_get-get_or}
 use Rattle.check_coverage.specs.declared.flight.CountedFlight.{CountedFlight}
 use Rattle.check_coverage.specs.Flights.{InFlight, kept}
@@ -38,6 +39,33 @@ length_kept (x ∷ xs) = ap suc (length_kept xs)
 pub filter_count : (test : CountedFlight → Bool) (flights : List InFlight)
     → length (filter test (map kept flights)) ≡ length (filter (λ flight. test (kept flight)) flights)
 filter_count test flights = ap length (filter_kept test flights) ∙ length_kept (filter (λ flight. test (kept flight)) flights)
+
+pub any_kept : (test : CountedFlight → Bool) (flights : List InFlight)
+    → list_any test (map kept flights) ≡ list_any (λ flight. test (kept flight)) flights
+any_kept test [] = refl
+any_kept test (x ∷ xs) = ap (λ b. test (kept x) || b) (any_kept test xs)
+
+pub take_while_kept : (test : CountedFlight → Bool) (flights : List InFlight)
+    → take_while test (map kept flights) ≡ map kept (take_while (λ flight. test (kept flight)) flights)
+take_while_kept test [] = refl
+take_while_kept test (x ∷ xs) =
+    take_while-cons test (kept x) (map kept xs) ∙ go (test (kept x)) (take_while_kept test xs)
+    ∙ ap (map kept) (sym (take_while-cons (λ flight. test (kept flight)) x xs))
+  where
+    go : (b : Bool) → take_while test (map kept xs) ≡ map kept (take_while (λ flight. test (kept flight)) xs)
+        → cond b (kept x ∷ take_while test (map kept xs)) []
+        ≡ map kept (cond b (x ∷ take_while (λ flight. test (kept flight)) xs) [])
+    go true rest = ap (λ l. kept x ∷ l) rest
+    go false rest = refl
+
+-- what is passed over, and passes no test, says nothing of the rest
+pub passed_over : (test passes : CountedFlight → Bool) (flight : CountedFlight) (rest : List CountedFlight)
+    → passes flight ≡ true → test flight ≡ false
+    → list_any test (take_while passes rest) ≡ list_any test (take_while passes (flight ∷ rest))
+passed_over test passes flight rest passed fails =
+    let whole : take_while passes (flight ∷ rest) ≡ flight ∷ take_while passes rest =
+    take_while-cons passes flight rest ∙ ap (λ b. cond b (flight ∷ take_while passes rest) []) passed in
+    sym (ap (list_any test) whole ∙ ap (λ b. b || list_any test (take_while passes rest)) fails)
 
 -- whether one was found is whether there is one
 pub found_any : (test : InFlight → Bool) (flights : List InFlight) → is_some (find test flights) ≡ list_any test flights
@@ -119,8 +147,11 @@ abbrev pub no_flight : InFlight
 no_flight = record {
   wide = 0;
   master = 0;
+  source = 0;
   port = 0;
   first = record { opcode = 0; param = 0; size = 0; source = 0; address = 0; mask = 0; corrupt = false };
+  is_found = false;
+  place = None;
   given = [];
   is_whole = false;
 }
@@ -129,10 +160,13 @@ abbrev pub not_kept : CountedFlight
 not_kept = record {
   wide = 0;
   master = 0;
+  source = 0;
   port = 0;
   first = record { opcode = 0; param = 0; size = 0; source = 0; address = 0; mask = 0; corrupt = false };
   span = 0;
   is_unaligned = false;
+  is_found = false;
+  place = None;
   marks = record { places = 0; given = 0; low = false; high = false; even = false; odd = false };
   is_whole = false;
 }

@@ -1,6 +1,6 @@
--- Which requests are in flight after some rows, of those that are counted, and when the last reply to each source ended.
--- Lists of rows have the latest first; they are rows of links that are watched. This project's own.
-use Rattle.std.specs.Prelude.{ℕ, ◌+◌, ◌≤◌, ◌*◌, ◌%◌, ◌^◌, ◌&&◌, ◌==◌, Bool, true, false, not, if◌then◌else◌, List, [], ◌∷◌, ◌++◌, map, filter, Option, Some, None}
+-- Which requests are in flight after some rows, of those that are counted. Lists of rows have the latest first; they are rows of
+-- links that are watched. This project's own.
+use Rattle.std.specs.Prelude.{ℕ, ◌+◌, ◌-◌, ◌≤◌, ◌*◌, ◌/◌, ◌%◌, ◌^◌, ◌==◌, Bool, true, false, not, nat_lt, if◌then◌else◌, List, [], ◌∷◌, ◌++◌, length, map, filter, Option}
 use Rattle.std.specs.List.{list_any, range_with_len}
 use Rattle.tl_types.specs.declared.limits.TheConstants.{MAX_SIZE}
 use Rattle.tl_map.specs.declared.owners.Owner.{Owner}
@@ -17,9 +17,10 @@ use Rattle.check_watch.specs.declared.links.Links.{Links}
 use Rattle.check_watch.specs.declared.links.Links.TheVariants.{Both, Masters, Ports, Each}
 use Rattle.check_sides.specs.Lawful.{what_is_seen}
 use Rattle.check_sides.specs.Plan.{Plan, bus_of}
-use Rattle.check_rows.specs.Row.{SeenRow}
-use Rattle.check_unanswered.specs.Began.{beats_of}
+use Rattle.check_rows.specs.Row.{SeenRow, beats_of}
+use Rattle.check_coverage.specs.Ranges.{place_at}
 use Rattle.check_coverage.specs.Shape.{given_in, marks_of}
+use Rattle.check_coverage.specs.declared.ranges.RangePlace.{RangePlace}
 use Rattle.check_coverage.specs.declared.flight.CountedFlight.{CountedFlight}
 
 -- messages are counted at the masters' links if these are watched, else at the ports'
@@ -48,6 +49,12 @@ abbrev pub master_of : List Owner → ℕ → ℕ
 master_of [] wide = 0
 master_of (owner ∷ owners) wide = if owns owner wide then 0 else master_of owners wide + 1
 
+-- the master's own source that has a wide source: it stands so many strides after the owner's first one
+abbrev pub own_source : List Owner → ℕ → ℕ
+own_source [] wide = 0
+own_source (owner ∷ owners) wide =
+    if owns owner wide then (wide - owner.first) / owner.stride else own_source owners wide
+
 -- ---- beats
 
 -- the size of the beat's message is within the limit
@@ -59,11 +66,13 @@ HasSize (D beat) = beat.size ≤ MAX_SIZE
 abbrev pub end_of : Plan → List SeenRow → SeenRow → Ended
 end_of plan before row = ended_by (what_is_seen plan (beats_of before) row.sighting)
 
+-- a beat ends a request
 abbrev pub ends_an_ask : Ended → Bool
 ends_an_ask ends.Part = false
 ends_an_ask ends.Ask = true
 ends_an_ask ends.Reply = false
 
+-- a beat ends a reply
 abbrev pub ends_a_reply : Ended → Bool
 ends_a_reply ends.Part = false
 ends_a_reply ends.Ask = false
@@ -71,26 +80,38 @@ ends_a_reply ends.Reply = true
 
 -- ---- requests in flight
 
--- a request in flight: its wide source, its master, its port, its first beat, whether its beats so far give each of
--- their bytes, and whether it is whole
+-- a request in flight: its wide source, its master, the master's own source, its port, its first beat, whether decoders find
+-- a port for it, where it stands in the ranges of its port, whether its beats so far give each of their bytes, and whether it
+-- is whole
 pub record InFlight : Type 0 where
   pub wide : ℕ
   pub master : ℕ
+  pub source : ℕ
   pub port : ℕ
   pub first : AskHead
+  pub is_found : Bool
+  pub place : Option RangePlace
   pub given : List Bool
   pub is_whole : Bool
 
+-- the request is of this wide source
 abbrev pub is_of : ℕ → InFlight → Bool
 is_of wide flight = flight.wide == wide
+
+-- decoders find a port for a request
+abbrev pub is_found : Plan → AskHead → Bool
+is_found plan beat = nat_lt (plan.decode beat.address beat.size) (length plan.layout.ports)
 
 -- the request that begins with a beat
 abbrev pub begun : Plan → ℕ → AskHead → InFlight
 begun plan wide beat = record {
   wide = wide;
   master = master_of plan.layout.owners wide;
+  source = own_source plan.layout.owners wide;
   port = route_of plan (master_of plan.layout.owners wide) beat.address beat.size;
   first = beat;
+  is_found = is_found plan beat;
+  place = place_at plan (route_of plan (master_of plan.layout.owners wide) beat.address beat.size) beat;
   given = [];
   is_whole = false;
 }
@@ -125,35 +146,24 @@ in_flight plan (row ∷ before) =
     row.sighting.beat (end_of plan before row)
     else in_flight plan before
 
--- ---- replies
-
--- the beat is one of channel D, and ends a reply
-abbrev pub ends_at_reply : Beat → Ended → Bool
-ends_at_reply (A beat) end = false
-ends_at_reply (D beat) end = ends_a_reply end
-
--- when the last reply to a wide source ended, if one did
-abbrev pub answered_at : Plan → List SeenRow → ℕ → Option ℕ
-answered_at plan [] wide = None
-answered_at plan (row ∷ before) wide =
-    if is_counted plan.layout.links row.sighting.link
-    && (ends_at_reply row.sighting.beat (end_of plan before row) && (wide_at plan row.sighting == wide))
-    then Some row.time
-    else answered_at plan before wide
-
 -- ---- how a request in flight is kept
 
+-- the address is no multiple of the size
 abbrev pub is_unaligned : AskHead → Bool
 is_unaligned beat = not (beat.address % 2 ^ beat.size == 0)
 
+-- what is kept of a request in flight
 abbrev pub kept : InFlight → CountedFlight
 kept flight = record {
   wide = flight.wide;
   master = flight.master;
+  source = flight.source;
   port = flight.port;
   first = flight.first;
   span = 2 ^ flight.first.size;
   is_unaligned = is_unaligned flight.first;
+  is_found = flight.is_found;
+  place = flight.place;
   marks = marks_of flight.first.size flight.given;
   is_whole = flight.is_whole;
 }

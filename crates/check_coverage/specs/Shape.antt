@@ -5,8 +5,8 @@ use Rattle.std.specs.Int.{bit_at}
 use Rattle.std.specs.List.{range_with_len}
 use Rattle.check_beats.specs.Bus.{low}
 use Rattle.check_beats.specs.declared.beat.AskHead.{AskHead}
-use Rattle.check_coverage.specs.declared.bin.Shape.{Shape}
-use Rattle.check_coverage.specs.declared.bin.Shape.TheVariants.{Empty, Full, One, Hole, Low, High, Even, Odd, Other}
+use Rattle.check_bins.specs.declared.bin.Shape.{Shape}
+use Rattle.check_bins.specs.declared.bin.Shape.TheVariants.{Empty, Full, One, Hole, Low, High, Even, Odd, Other}
 use Rattle.check_coverage.specs.declared.marks.Marks.{Marks}
 
 -- whether the bit of each of so many lanes from one on is set
@@ -32,6 +32,7 @@ fits places place (given ∷ rest) = beq given (places place) && fits places (su
 abbrev pub is_low : ℕ → ℕ → Bool
 is_low size place = nat_lt (place * 2) (2 ^ size)
 
+-- the place is even
 abbrev pub is_even : ℕ → Bool
 is_even place = place % 2 == 0
 

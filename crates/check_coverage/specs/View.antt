@@ -1,58 +1,60 @@
 -- What is kept of the rows that were judged. This project's own.
-use Rattle.std.specs.Prelude.{◌≡◌, ℕ, ◌+◌, ◌^◌, ◌-◌, ◌&&◌, ◌==◌, if◌then◌else◌, min, List, [], ◌∷◌, ◌++◌, map, Some, unwrap_or}
-use Rattle.std.specs.Ordering.{is_eq, nat_cmp}
-use Rattle.std.specs.BTreeMap.{get}
-use Rattle.std.specs.declared.cmp.Ordering.{Ordering}
+use Rattle.std.specs.Prelude.{◌≡◌, ℕ, ◌==◌, if◌then◌else◌, List, ◌++◌, map, Option, option_map, unwrap_or}
+use Rattle.std.specs.Ordering.{nat_cmp}
+use Rattle.std.specs.BTreeMap.{BTreeMap, get}
 use Rattle.check_watch.specs.declared.beat.Beat.{Beat}
 use Rattle.check_watch.specs.declared.seen.Ended.{Ended}
 use Rattle.check_sides.specs.Plan.{Plan}
 use Rattle.check_rows.specs.Row.{SeenRow}
-use Rattle.check_coverage.specs.Bins.{bins, bins_by}
-use Rattle.check_coverage.specs.Flights.{InFlight, answered_at, ends_at_reply, flights_after, in_flight, kept}
+use Rattle.check_coverage.specs.Bins.{after_bins, bins, bins_by}
+use Rattle.check_coverage.specs.Flights.{InFlight, flights_after, in_flight, kept}
 use Rattle.check_coverage.specs.Mirrors.{HasMirrors}
-use Rattle.check_coverage.specs.contracts.bin.BinOrd.TheImpl as bin_ord
-use Rattle.check_coverage.specs.declared.bin.Bin.{Bin}
-use Rattle.check_coverage.specs.declared.counts.Counts.{Counts}
+use Rattle.check_coverage.specs.Latest.{is_last_ask, latest_at, latest_by}
+use Rattle.check_coverage.specs.Times.{no_times, times_after, times_at}
+use Rattle.check_coverage.specs.declared.times.Times.{Times}
+use Rattle.check_bins.specs.declared.bin.Bin.{Bin}
+use Rattle.check_bins.specs.Counting.{Adds, AreCounted}
 use Rattle.check_coverage.specs.declared.coverage.Coverage.{Coverage}
 
--- the order of bins
-unfoldable pub bin_cmp : Bin → Bin → Ordering
-bin_cmp = (bin_ord.ghosts).cmp
+-- the times that are kept of a wide source
+abbrev pub times_in : BTreeMap ℕ Times → ℕ → Times
+times_in times wide = unwrap_or (get nat_cmp times wide) no_times
 
--- how often a bin is among these
-abbrev pub how_often : Bin → List Bin → ℕ
-how_often bin [] = 0
-how_often bin (other ∷ rest) = if is_eq (bin_cmp other bin) then how_often bin rest + 1 else how_often bin rest
-
--- the count of a bin
-abbrev pub count_of : Counts → Bin → ℕ
-count_of counts bin = unwrap_or (get bin_cmp counts.counts bin) 0
-
--- a count stops there
-abbrev pub capped : ℕ → ℕ
-capped count = min count (2 ^ 64 - 1)
-
--- these bins were counted: of each bin that occurred so often before, how often it occurred then
-abbrev pub Adds : Counts → Counts → List Bin → Type 0
-Adds old new bins =
-    (bin : Bin) (before : ℕ) → count_of old bin ≡ capped before
-    → count_of new bin ≡ capped (before + how_often bin bins)
-
--- one beat more was noted, of a wide source and at a link that is counted: its bus has so many bytes, and it ends this
-pub record IsNoted (plan : Plan) (bus wide time : ℕ) (beat : Beat) (end : Ended) (old new : Coverage) : Type 0 where
+-- one beat more was counted, of a wide source and at a link that is counted: its bus has so many bytes, the messages of its
+-- source have these times, and it ends this. The times are kept as they were
+pub record CountsBeat (plan : Plan) (bus wide time : ℕ) (times : Times) (beat : Beat) (end : Ended)
+    (old new : Coverage) : Type 0 where
   pub mirrors : new.mirrors ≡ old.mirrors
-  pub answered : (other : ℕ) → get nat_cmp new.answered other
-      ≡ (if ends_at_reply beat end && (wide == other) then Some time else get nat_cmp old.answered other)
+  pub times_stay : new.times ≡ old.times
+  pub latest_stays : new.latest ≡ old.latest
   pub flights : (before : List InFlight) → old.flights.items ≡ map kept before
       → new.flights.items ≡ map kept (flights_after plan bus wide before beat end)
   pub counts : (before : List InFlight) → old.flights.items ≡ map kept before
-      → Adds old.counts new.counts (bins_by plan bus wide before time (get nat_cmp old.answered wide) beat end)
+      → Adds old.counts new.counts (bins_by plan bus wide before time times beat end)
+
+-- it was noted: the times and the latest requests go on too
+pub record IsNoted (plan : Plan) (bus wide time : ℕ) (beat : Beat) (end : Ended) (old new : Coverage) : Type 0 where
+  pub mirrors : new.mirrors ≡ old.mirrors
+  pub times : (other : ℕ) → times_in new.times other
+      ≡ (if wide == other then times_after time beat end (times_in old.times wide) else times_in old.times other)
+  pub flights : (before : List InFlight) → old.flights.items ≡ map kept before
+      → new.flights.items ≡ map kept (flights_after plan bus wide before beat end)
+  pub counts : (before : List InFlight) → old.flights.items ≡ map kept before
+      → (latest : ℕ → Option InFlight)
+      → ((port : ℕ) → get nat_cmp old.latest port ≡ option_map kept (latest port))
+      → Adds old.counts new.counts (bins_by plan bus wide before time (times_in old.times wide) beat end
+      ++ after_bins plan wide (is_last_ask beat end) (flights_after plan bus wide before beat end) latest)
+  pub latest : (before : List InFlight) → old.flights.items ≡ map kept before → (latest : ℕ → Option InFlight)
+      → ((port : ℕ) → get nat_cmp old.latest port ≡ option_map kept (latest port)) → (port : ℕ)
+      → get nat_cmp new.latest port ≡ option_map kept
+      (latest_by wide (is_last_ask beat end) (flights_after plan bus wide before beat end) latest port)
 
 -- this is what is kept of the rows since the last reset, before which these bins were added: from where the memories of
--- the ports are seen, which requests are in flight after the rows, when the last reply to each source ended, and of each
--- bin how often it was added before the reset and by the rows, up to 2 ^ 64 - 1
+-- the ports are seen, which requests are in flight after the rows, when the beats of each source crossed,
+-- which request of each port is the latest, and of each bin how often it was added before the reset and by the rows, up to 2 ^ 64 - 1
 pub record Covers (plan : Plan) (earlier : List Bin) (rows : List SeenRow) (coverage : Coverage) : Type 0 where
   pub mirrors : HasMirrors plan coverage.mirrors.items
   pub flights : coverage.flights.items ≡ map kept (in_flight plan rows)
-  pub answered : (wide : ℕ) → get nat_cmp coverage.answered wide ≡ answered_at plan rows wide
-  pub counts : (bin : Bin) → count_of coverage.counts bin ≡ capped (how_often bin (bins plan rows ++ earlier))
+  pub times : (wide : ℕ) → times_in coverage.times wide ≡ times_at plan rows wide
+  pub latest : (port : ℕ) → get nat_cmp coverage.latest port ≡ option_map kept (latest_at plan rows port)
+  pub counts : AreCounted coverage.counts (bins plan rows ++ earlier)

@@ -1,31 +1,37 @@
 //! What the rows that were judged have covered.
-ghost use Rattle.std.specs.Prelude.{◌≡◌, ◌≤◌, ◌↔◌, [], ◌∷◌, ◌++◌, ℕ, List, find, length, map, OnErr, OnOk};
+ghost use Rattle.std.specs.Prelude.{◌≡◌, ◌≤◌, ◌↔◌, [], ◌∷◌, ◌++◌, ℕ, ◌==◌, List, find, length, map, Option, Some, option_map, OnErr, OnOk, if◌then◌else◌};
 ghost use Rattle.std.specs.Ordering.{nat_cmp};
 ghost use Rattle.std.specs.BTreeMap.{get};
 ghost use Rattle.tl_text.specs.Text.{BeginsWith};
 ghost use Rattle.check_beats.specs.Bus.{beat_count_on_bus, bus_bytes};
 ghost use Rattle.tl_map.specs.Owner.{IsWideSource};
-ghost use Rattle.check_rows.specs.Row.{SeenRow};
+ghost use Rattle.check_rows.specs.Row.{SeenRow, beats_of, row_with};
 ghost use Rattle.check_sides.specs.Plan.{HasLink, Plan};
 ghost use Rattle.check_sides.specs.View.{Keeps, Suits};
-ghost use Rattle.check_unanswered.specs.Began.{beats_of, row_with};
 ghost use Rattle.check_watch.specs.declared.beat.Beat.TheVariants.{A, D};
-ghost use Rattle.check_coverage.specs.Bins.{ask_bins, begin_bins, bins, contested_bins, first_bins, last_bins, mask_bins, of_found, reply_bins, step_of, with_one};
-ghost use Rattle.check_coverage.specs.Flights.{HasSize, InFlight, begun, end_of, is_counted, is_of, ends_an_ask, kept, master_of, with_begun};
-ghost use Rattle.check_coverage.specs.Mirrors.{HasMirrors, HaveSameMirrors};
-ghost use Rattle.check_coverage.specs.Text.{TellsCoverage};
-ghost use Rattle.check_coverage.specs.View.{Adds, Covers, IsNoted};
-ghost use Rattle.check_coverage.specs.declared.bin.Bin.{Bin as IsBin};
+ghost use Rattle.check_coverage.specs.Bins.{after_bins, after_by, ask_bins, begin_bins, bins, contested_bins, end_bins, first_bins, gap_bins, lane_bins, last_bins, mask_bins, of_found, overtook_at, place_bins, reply_bins, reply_times_bins, told_source, with_one};
+ghost use Rattle.check_coverage.specs.Flights.{HasSize, InFlight, begun, end_of, is_found, is_counted, is_of, kept, master_of, own_source, with_begun};
+ghost use Rattle.check_coverage.specs.Latest.{latest_by};
+ghost use Rattle.check_coverage.specs.Mirrors.{HasMirrors, HaveSameMirrors, mirrors_at};
+ghost use Rattle.check_coverage.specs.Ranges.{place_at};
+ghost use Rattle.check_bins.specs.Text.{TellsCoverage};
+ghost use Rattle.check_bins.specs.Counting.{Adds};
+ghost use Rattle.check_coverage.specs.View.{Covers, CountsBeat, IsNoted, times_in};
+ghost use Rattle.check_bins.specs.declared.bin.Bin.{Bin as IsBin};
+ghost use Rattle.check_bins.specs.declared.bin.CountedChannel.TheVariants as channel;
 
-use crate::bin::{Bin, CountedChannel};
-use crate::counts::Counts;
 use crate::flight::CountedFlight;
+use crate::latest::{count_after, is_last_ask};
 use crate::lists::{
-    count_of_master, count_of_port, find_of, grow, is_contested, oldest_of, remove,
+    count_of_master, count_of_port, find_of, grow, is_contested, is_overtaken, leave,
 };
 use crate::marks::Marks;
 use crate::mirrors::Mirrors;
+use crate::ranges::{RangePlace, place_in};
+use crate::times::{Times, ends_a_reply, ends_an_ask};
+use crate::waits::{count_again, count_gap, count_reply_times};
 use check_beats::{AskHead, Bus, LinkRules, ReplyHead, beat_count_on_bus};
+use check_bins::{Bin, CountedChannel, Counts};
 use check_rows::Row;
 use check_sides::{Beat, Ended, Link, Links, Watch};
 use std::alloc::{AllocError, Global};
@@ -36,6 +42,9 @@ use tl_types::{MAX_SIZE, width};
 /// The most requests in flight that are told apart.
 pub const MOST_IN_FLIGHT: usize = 64;
 
+/// The sources of a master that are told apart are those below this.
+pub const SOURCES_APART: usize = 64;
+
 /// What the rows that were judged have covered.
 #[derive(Drop)]
 pub struct Coverage {
@@ -43,8 +52,10 @@ pub struct Coverage {
     mirrors: Vec<Mirrors>,
     /// Those that are counted, the one that began first in front.
     flights: Vec<CountedFlight>,
-    /// When the last reply to each wide source ended.
-    answered: BTreeMap<u16, u64>,
+    /// When the beats of each wide source crossed.
+    times: BTreeMap<u16, Times>,
+    /// The latest request of each port that is whole.
+    latest: BTreeMap<usize, CountedFlight>,
     counts: Counts,
 }
 
@@ -58,16 +69,6 @@ pub fn is_counted(links: Links, link: Link) -> bool
     }
 }
 
-/// Whether it is a request.
-fn ends_an_ask(end: Ended) -> bool
-    ensures { result ≡ ends_an_ask end }
-{
-    match end {
-        Ended::Ask => true,
-        Ended::Part | Ended::Reply => false,
-    }
-}
-
 /// The master that has a wide source.
 fn master_of(sources: &SourceOwners, wide: u16) -> usize
     ensures { result ≡ master_of sources.now wide }
@@ -76,6 +77,17 @@ fn master_of(sources: &SourceOwners, wide: u16) -> usize
     match sources.owner(wide) {
         Some((master, _)) => master,
         None => masters,
+    }
+}
+
+/// The master's own source that has a wide source.
+fn own_source(sources: &SourceOwners, wide: u16) -> u16
+    ensures { result ≡ own_source sources.now wide }
+{
+    let _masters = sources.masters();
+    match sources.owner(wide) {
+        Some((_, source)) => source,
+        None => 0,
     }
 }
 
@@ -91,6 +103,35 @@ fn wide_source(sources: &SourceOwners, link: Link, source: u16) -> Option<u16>
     }
 }
 
+/// Where a request to a port stands in its ranges.
+fn place_at(watch: &Watch, port: usize, beat: &AskHead) -> Option<RangePlace>
+    requires { beat.now.size ≤ MAX_SIZE }
+    ensures { (plan : Plan) → Suits plan watch.now → result ≡ place_at plan port beat.now }
+{
+    let map = watch.map();
+    if port >= map.ports() - 1 {
+        return None;
+    }
+    let decoded = width(watch.rules().decoded_size(beat.size)) as u64;
+    place_in(
+        map.ranges(port),
+        beat.address,
+        decoded,
+        width(beat.size) as u64,
+    )
+}
+
+/// Whether decoders find a port for a request.
+fn is_found(watch: &Watch, beat: &AskHead) -> bool
+    requires { beat.now.size ≤ MAX_SIZE }
+    ensures { (plan : Plan) → Suits plan watch.now → result ≡ is_found plan beat.now }
+{
+    let map = watch.map();
+    let size = watch.rules().decoded_size(beat.size);
+    let port = map.route_bytes(beat.address, size);
+    port < map.ports() - 1
+}
+
 /// The request that begins with a beat.
 fn begun(watch: &Watch, wide: u16, beat: &AskHead) -> CountedFlight
     requires { beat.now.size ≤ MAX_SIZE }
@@ -98,27 +139,19 @@ fn begun(watch: &Watch, wide: u16, beat: &AskHead) -> CountedFlight
 {
     let span = width(beat.size) as u64;
     let master = master_of(watch.sources(), wide);
+    let port = watch.route(master, beat.address, beat.size);
     CountedFlight {
         wide,
         master,
-        port: watch.route(master, beat.address, beat.size),
+        source: own_source(watch.sources(), wide),
+        port,
         first: *beat,
         span,
         is_unaligned: beat.address % span != 0,
+        is_found: is_found(watch, beat),
+        place: place_at(watch, port, beat),
         marks: Marks::new(),
         is_whole: false,
-    }
-}
-
-/// The least of the step that so many clocks are in.
-fn step_of(clocks: u64) -> u64
-    ensures { result ≡ step_of clocks }
-{
-    match clocks {
-        0..=3 => clocks,
-        4..=7 => 4,
-        8..=15 => 8,
-        _ => 16,
     }
 }
 
@@ -127,6 +160,13 @@ fn with_one(count: usize) -> usize
     ensures { (flights : List InFlight) → count ≡ length flights → result ≡ with_one flights }
 {
     count.saturating_add(1).min(MOST_IN_FLIGHT)
+}
+
+/// A source of a master, up to the first that is not told apart.
+fn told_source(source: u16) -> usize
+    ensures { result ≡ told_source source }
+{
+    usize::from(source).min(SOURCES_APART)
 }
 
 /// Counts what the first beat of a request adds.
@@ -145,13 +185,8 @@ fn count_begin(
     let of_port = with_one(count_of_port(flights, flight.port));
     counts.add(Bin::InFlight(flight.master, of_master))?;
     counts.add(Bin::AtPort(flight.port, of_port))?;
-    match answered {
-        Some(answered) => counts.add(Bin::Again(
-            flight.master,
-            step_of(rules.clocks(time.saturating_sub(answered))),
-        )),
-        None => Ok(()),
-    }
+    counts.add(Bin::Source(flight.master, told_source(flight.source)))?;
+    count_again(counts, rules, flight, time, answered)
 }
 
 /// Counts the bytes that a partial put gives.
@@ -160,7 +195,11 @@ fn count_mask(counts: &mut Counts, flight: &CountedFlight) -> Result<(), AllocEr
         → OnOk result (Adds counts.old counts.new (mask_bins this)) }
 {
     if flight.first.opcode == 1 {
-        counts.add(Bin::Mask(flight.pair(), flight.marks.shape(flight.span)))
+        counts.add(Bin::Mask(
+            flight.pair(),
+            flight.first.size,
+            flight.marks.shape(flight.span),
+        ))
     } else {
         Ok(())
     }
@@ -184,6 +223,37 @@ fn count_contested(
     }
 }
 
+/// Counts the range of a port that has a request, and the ends of the range that the request has.
+fn count_place(
+    counts: &mut Counts,
+    port: usize,
+    place: Option<RangePlace>,
+) -> Result<(), AllocError>
+    ensures { OnOk result (Adds counts.old counts.new (place_bins port place)) }
+{
+    match place {
+        Some(place) => {
+            counts.add(Bin::Range(port, place.number))?;
+            counts.add_if(place.has_first, Bin::Edge(port, place.number, false))?;
+            counts.add_if(place.has_last, Bin::Edge(port, place.number, true))
+        }
+        None => Ok(()),
+    }
+}
+
+/// Counts a request that is narrower than the bus.
+fn count_lane(counts: &mut Counts, flight: &CountedFlight, bus: Bus) -> Result<(), AllocError>
+    ensures { (this : InFlight) → flight.now ≡ kept this
+        → OnOk result (Adds counts.old counts.new (lane_bins (bus_bytes bus) this)) }
+{
+    let bytes = bus.bytes() as u64;
+    let offset = (flight.first.address % bytes) as usize;
+    counts.add_if(
+        flight.span < bytes,
+        Bin::Lane(flight.master, flight.first.size, offset),
+    )
+}
+
 /// Counts what the last beat of a request adds. The memories of the ports are seen from here.
 fn count_ask(
     counts: &mut Counts,
@@ -202,7 +272,26 @@ fn count_ask(
     counts.add(Bin::Asked(flight.pair(), flight.operation(), flight.is_unaligned))?;
     counts.add(Bin::Beats(flight.pair(), CountedChannel::A, beats))?;
     count_mask(counts, flight)?;
-    count_contested(counts, flights, flight, mirrors)
+    count_contested(counts, flights, flight, mirrors)?;
+    count_place(counts, flight.port, flight.place)?;
+    count_lane(counts, flight, bus)
+}
+
+/// Counts a reply that overtakes an older one of the same master: of another port, if that is asked, else of the same.
+fn count_overtaken(
+    counts: &mut Counts,
+    flights: &[CountedFlight],
+    flight: &CountedFlight,
+    elsewhere: bool,
+) -> Result<(), AllocError>
+    ensures { (before : List InFlight) (this : InFlight) → flights.now ≡ map kept before → flight.now ≡ kept this
+        → OnOk result (Adds counts.old counts.new (overtook_at elsewhere before this)) }
+{
+    if is_overtaken(flights, flight, elsewhere) {
+        counts.add(Bin::Overtook(flight.pair(), elsewhere))
+    } else {
+        Ok(())
+    }
 }
 
 /// Counts what the last beat of a reply adds.
@@ -220,16 +309,9 @@ fn count_reply(
     let beats = beat_count_on_bus(bus, beat.opcode == 1, beat.size);
     counts.add(Bin::Answered(flight.pair(), flight.operation(), beat.denied))?;
     counts.add(Bin::Beats(flight.pair(), CountedChannel::D, beats))?;
-    match oldest_of(flights, flight.master) {
-        Some(oldest) => {
-            if oldest.wide == flight.wide {
-                Ok(())
-            } else {
-                counts.add(Bin::Overtook(flight.pair()))
-            }
-        }
-        None => Ok(()),
-    }
+    count_overtaken(counts, flights, flight, false)?;
+    count_overtaken(counts, flights, flight, true)?;
+    counts.add_if(beat.denied, Bin::Refused(flight.port, flight.cause()))
 }
 
 impl Coverage {
@@ -241,35 +323,45 @@ impl Coverage {
         Coverage {
             mirrors,
             flights: Vec::new(alloc),
-            answered: BTreeMap::new(alloc),
+            times: BTreeMap::new(alloc),
+            latest: BTreeMap::new(alloc),
             counts: Counts::new(alloc),
         }
     }
 
-    /// Counts the first beat of a request and keeps the request, if none of its source is in flight.
+    /// The times that are kept of a wide source.
+    fn times_of(&self, wide: u16) -> Times
+        ensures { result ≡ times_in self.now.times wide }
+    {
+        self.times.get(&wide).copied().unwrap_or(Times::new())
+    }
+
+    /// Counts the first beat of a request and keeps the request, if none of its source is in flight. The last reply to its
+    /// source ended then, if one did.
     fn begin(
         &mut self,
         watch: &Watch,
         wide: u16,
         time: u64,
         beat: &AskHead,
+        answered: Option<u64>,
     ) -> Result<(), AllocError>
         requires { beat.now.size ≤ MAX_SIZE }
         ensures mirrors { self.new.mirrors ≡ self.old.mirrors }
-        ensures answered { self.new.answered ≡ self.old.answered }
+        ensures times { self.new.times ≡ self.old.times }
+        ensures latest { self.new.latest ≡ self.old.latest }
         ensures flights { (plan : Plan) (before : List InFlight) → Suits plan watch.now
             → self.old.flights.items ≡ map kept before
             → OnOk result (self.new.flights.items ≡ map kept (with_begun plan wide beat.now before)) }
         ensures counts { (plan : Plan) (before : List InFlight) → Suits plan watch.now
             → self.old.flights.items ≡ map kept before
             → OnOk result (Adds self.old.counts self.new.counts
-            (first_bins plan wide before time (get nat_cmp self.old.answered wide) beat.now)) }
+            (first_bins plan wide before time answered beat.now)) }
     {
         if find_of(&self.flights, wide).is_some() {
             return Ok(());
         }
         let flight = begun(watch, wide, beat);
-        let answered = self.answered.get(&wide).copied();
         count_begin(
             &mut self.counts,
             watch.rules(),
@@ -286,7 +378,8 @@ impl Coverage {
     fn end(&mut self, wide: u16, beat: &AskHead, bus: Bus, end: Ended) -> Result<(), AllocError>
         requires { beat.now.size ≤ MAX_SIZE }
         ensures mirrors { self.new.mirrors ≡ self.old.mirrors }
-        ensures answered { self.new.answered ≡ self.old.answered }
+        ensures times { self.new.times ≡ self.old.times }
+        ensures latest { self.new.latest ≡ self.old.latest }
         ensures flights { self.new.flights ≡ self.old.flights }
         ensures counts { (plan : Plan) (after : List InFlight) → HasMirrors plan self.old.mirrors.items
             → self.old.flights.items ≡ map kept after
@@ -309,79 +402,192 @@ impl Coverage {
         }
     }
 
-    /// Notes a beat of channel A.
-    fn note_ask(
+    /// Counts a beat of a request that is in flight, if one of the same request came before.
+    fn ask_gap(
+        &mut self,
+        rules: LinkRules,
+        wide: u16,
+        time: u64,
+        before: Option<u64>,
+    ) -> Result<(), AllocError>
+        ensures mirrors { self.new.mirrors ≡ self.old.mirrors }
+        ensures times { self.new.times ≡ self.old.times }
+        ensures latest { self.new.latest ≡ self.old.latest }
+        ensures flights { self.new.flights ≡ self.old.flights }
+        ensures counts { (after : List InFlight) → self.old.flights.items ≡ map kept after
+            → OnOk result (Adds self.old.counts self.new.counts
+            (of_found (find (is_of wide) after) (gap_bins rules channel.A time before))) }
+    {
+        match find_of(&self.flights, wide) {
+            Some(flight) => count_gap(
+                &mut self.counts,
+                rules,
+                CountedChannel::A,
+                time,
+                before,
+                &flight,
+            ),
+            None => Ok(()),
+        }
+    }
+
+    /// Counts a beat of channel A. The messages of its source have these times.
+    fn count_ask_beat(
         &mut self,
         watch: &Watch,
         wide: u16,
         time: u64,
+        times: Times,
         beat: &AskHead,
         bus: Bus,
         end: Ended,
     ) -> Result<(), AllocError>
         requires { beat.now.size ≤ MAX_SIZE }
         ensures { (plan : Plan) → Suits plan watch.now → HasMirrors plan self.old.mirrors.items
-            → OnOk result (IsNoted plan (bus_bytes bus) wide time (A beat.now) end self.old self.new) }
+            → OnOk result (CountsBeat plan (bus_bytes bus) wide time times (A beat.now) end self.old self.new) }
     {
-        self.begin(watch, wide, time, beat)?;
+        self.begin(watch, wide, time, beat, times.answered)?;
         grow(&mut self.flights, wide, bus, beat, ends_an_ask(end));
-        self.end(wide, beat, bus, end)
+        self.end(wide, beat, bus, end)?;
+        self.ask_gap(watch.rules(), wide, time, times.asked)
     }
 
-    /// Counts the last beat of a reply.
-    fn answer(&mut self, wide: u16, beat: &ReplyHead, bus: Bus) -> Result<(), AllocError>
+    /// Counts the last beat of a reply, if it is that.
+    fn answer(
+        &mut self,
+        wide: u16,
+        beat: &ReplyHead,
+        bus: Bus,
+        end: Ended,
+    ) -> Result<(), AllocError>
         requires { beat.now.size ≤ MAX_SIZE }
         ensures mirrors { self.new.mirrors ≡ self.old.mirrors }
-        ensures answered { self.new.answered ≡ self.old.answered }
+        ensures times { self.new.times ≡ self.old.times }
+        ensures latest { self.new.latest ≡ self.old.latest }
         ensures flights { self.new.flights ≡ self.old.flights }
         ensures counts { (before : List InFlight) → self.old.flights.items ≡ map kept before
-            → OnOk result (Adds self.old.counts self.new.counts
-            (of_found (find (is_of wide) before) (reply_bins (bus_bytes bus) before beat.now))) }
+            → OnOk result (Adds self.old.counts self.new.counts (end_bins (bus_bytes bus) wide before beat.now end)) }
     {
+        if !ends_a_reply(end) {
+            return Ok(());
+        }
         match find_of(&self.flights, wide) {
             Some(flight) => count_reply(&mut self.counts, &self.flights, &flight, bus, beat),
             None => Ok(()),
         }
     }
 
-    /// Notes the last beat of a reply.
-    fn note_reply(
+    /// Counts a beat of a reply by its time.
+    fn reply_times(
         &mut self,
+        rules: LinkRules,
         wide: u16,
         time: u64,
-        beat: &ReplyHead,
-        bus: Bus,
+        times: Times,
     ) -> Result<(), AllocError>
-        requires { beat.now.size ≤ MAX_SIZE }
-        ensures { (plan : Plan)
-            → OnOk result (IsNoted plan (bus_bytes bus) wide time (D beat.now) Ended.Reply self.old self.new) }
+        ensures mirrors { self.new.mirrors ≡ self.old.mirrors }
+        ensures times { self.new.times ≡ self.old.times }
+        ensures latest { self.new.latest ≡ self.old.latest }
+        ensures flights { self.new.flights ≡ self.old.flights }
+        ensures counts { (before : List InFlight) → self.old.flights.items ≡ map kept before
+            → OnOk result (Adds self.old.counts self.new.counts
+            (of_found (find (is_of wide) before) (reply_times_bins rules time times))) }
     {
-        self.answer(wide, beat, bus)?;
-        remove(&mut self.flights, wide);
-        self.answered.insert(wide, time)?;
-        Ok(())
+        match find_of(&self.flights, wide) {
+            Some(flight) => count_reply_times(&mut self.counts, rules, time, times, &flight),
+            None => Ok(()),
+        }
     }
 
-    /// Notes a beat of channel D.
-    fn note_reply_beat(
+    /// Counts a beat of channel D. The messages of its source have these times.
+    fn count_reply_beat(
         &mut self,
+        rules: LinkRules,
         wide: u16,
         time: u64,
+        times: Times,
         beat: &ReplyHead,
         bus: Bus,
         end: Ended,
     ) -> Result<(), AllocError>
         requires { beat.now.size ≤ MAX_SIZE }
-        ensures { (plan : Plan)
-            → OnOk result (IsNoted plan (bus_bytes bus) wide time (D beat.now) end self.old self.new) }
+        ensures { (plan : Plan) → rules ≡ plan.layout.rules
+            → OnOk result (CountsBeat plan (bus_bytes bus) wide time times (D beat.now) end self.old self.new) }
     {
-        match end {
-            Ended::Reply => self.note_reply(wide, time, beat, bus),
-            Ended::Part | Ended::Ask => Ok(()),
+        self.answer(wide, beat, bus, end)?;
+        self.reply_times(rules, wide, time, times)?;
+        leave(&mut self.flights, wide, end);
+        Ok(())
+    }
+
+    /// Counts a beat at a link that is counted, if its size is within the limit, as that of a lawful beat is.
+    fn count_beat(
+        &mut self,
+        watch: &Watch,
+        wide: u16,
+        time: u64,
+        times: Times,
+        beat: &Beat,
+        bus: Bus,
+        end: Ended,
+    ) -> Result<(), AllocError>
+        ensures { (plan : Plan) → Suits plan watch.now → HasMirrors plan self.old.mirrors.items → HasSize beat.now
+            → OnOk result (CountsBeat plan (bus_bytes bus) wide time times beat.now end self.old self.new) }
+    {
+        match beat {
+            Beat::A(beat) if beat.size <= MAX_SIZE => {
+                self.count_ask_beat(watch, wide, time, times, beat, bus, end)
+            }
+            Beat::D(beat) if beat.size <= MAX_SIZE => {
+                self.count_reply_beat(watch.rules(), wide, time, times, beat, bus, end)
+            }
+            Beat::A(_) | Beat::D(_) => Ok(()),
         }
     }
 
-    /// Notes a beat at a link that is counted, if its size is within the limit, as that of a lawful beat is.
+    /// Counts a request that is whole by the latest one of its port before it, and keeps it as the latest.
+    fn note_end(&mut self, flight: CountedFlight) -> Result<(), AllocError>
+        ensures mirrors { self.new.mirrors ≡ self.old.mirrors }
+        ensures times { self.new.times ≡ self.old.times }
+        ensures flights { self.new.flights ≡ self.old.flights }
+        ensures latest { OnOk result ((port : ℕ) → get nat_cmp self.new.latest port
+            ≡ (if flight.port == port then Some flight else get nat_cmp self.old.latest port)) }
+        ensures counts { (plan : Plan) (this : InFlight) (before : Option InFlight)
+            → HasMirrors plan self.old.mirrors.items → flight ≡ kept this
+            → get nat_cmp self.old.latest this.port ≡ option_map kept before
+            → OnOk result (Adds self.old.counts self.new.counts (after_by (mirrors_at plan this.port) this before)) }
+    {
+        let latest = self.latest.get(&flight.port).copied();
+        count_after(&mut self.counts, &self.mirrors, &flight, latest)?;
+        self.latest.insert(flight.port, flight)?;
+        Ok(())
+    }
+
+    /// The same of the request of a wide source, if it is whole now.
+    fn note_latest(&mut self, wide: u16, is_asked: bool) -> Result<(), AllocError>
+        ensures mirrors { self.new.mirrors ≡ self.old.mirrors }
+        ensures times { self.new.times ≡ self.old.times }
+        ensures flights { self.new.flights ≡ self.old.flights }
+        ensures latest { (after : List InFlight) (before : ℕ → Option InFlight)
+            → self.old.flights.items ≡ map kept after
+            → ((port : ℕ) → get nat_cmp self.old.latest port ≡ option_map kept (before port))
+            → OnOk result ((port : ℕ) → get nat_cmp self.new.latest port
+            ≡ option_map kept (latest_by wide is_asked after before port)) }
+        ensures counts { (plan : Plan) (after : List InFlight) (before : ℕ → Option InFlight)
+            → HasMirrors plan self.old.mirrors.items → self.old.flights.items ≡ map kept after
+            → ((port : ℕ) → get nat_cmp self.old.latest port ≡ option_map kept (before port))
+            → OnOk result (Adds self.old.counts self.new.counts (after_bins plan wide is_asked after before)) }
+    {
+        if !is_asked {
+            return Ok(());
+        }
+        match find_of(&self.flights, wide) {
+            Some(flight) => self.note_end(flight),
+            None => Ok(()),
+        }
+    }
+
+    /// Notes a beat at a link that is counted.
     fn note_beat(
         &mut self,
         watch: &Watch,
@@ -394,15 +600,11 @@ impl Coverage {
         ensures { (plan : Plan) → Suits plan watch.now → HasMirrors plan self.old.mirrors.items → HasSize beat.now
             → OnOk result (IsNoted plan (bus_bytes bus) wide time beat.now end self.old self.new) }
     {
-        match beat {
-            Beat::A(beat) if beat.size <= MAX_SIZE => {
-                self.note_ask(watch, wide, time, beat, bus, end)
-            }
-            Beat::D(beat) if beat.size <= MAX_SIZE => {
-                self.note_reply_beat(wide, time, beat, bus, end)
-            }
-            Beat::A(_) | Beat::D(_) => Ok(()),
-        }
+        let times = self.times_of(wide);
+        self.count_beat(watch, wide, time, times, beat, bus, end)?;
+        self.note_latest(wide, is_last_ask(beat, end))?;
+        self.times.insert(wide, times.after(time, beat, end))?;
+        Ok(())
     }
 
     /// Counts what a row covers that the judge has taken after those before it, and that ended this.
@@ -431,18 +633,17 @@ impl Coverage {
             → Covers plan earlier rows self.old → Covers later (bins plan rows ++ earlier) [] self.new }
     {
         self.flights.clear();
-        self.answered.clear();
+        self.times.clear();
+        self.latest.clear();
     }
 
     /// Appends the text of what was covered of the judge's crossbar, before resets too.
-    #[tactic(auto, using(tl_text::proofs::TextLemmas::begins))]
     pub fn append(&self, watch: &Watch, text: &mut Vec<u8>) -> Result<(), AllocError>
         ensures told { (plan : Plan) (earlier : List IsBin) (rows : List SeenRow) → Covers plan earlier rows self.now
             → watch.now.layout ≡ plan.layout → OnOk result (TellsCoverage (length plan.layout.ports)
             (bins plan rows ++ earlier) text.old.items text.new.items) }
         ensures err { OnErr result (BeginsWith text.old.items text.new.items) }
     {
-        text.extend_from_slice(b"coverage 1\n")?;
         self.counts.append(watch.map().ports() - 1, text)
     }
 }

@@ -5,8 +5,8 @@ ghost use Rattle.std.specs.Int.{bit_at};
 ghost use Rattle.check_beats.specs.Bus.{bus_bytes, low};
 ghost use Rattle.check_coverage.specs.Shape.{given_in, marks_of, pattern_of, shape_of};
 
-use crate::bin::Shape;
 use check_beats::{AskHead, Bus};
+use check_bins::Shape;
 use tl_types::{MAX_SIZE, width};
 
 /// What is kept of which bytes of a request are given, of those that its beats have so far: how many there are and how

@@ -22,7 +22,7 @@ impl Model for Mirrors {
 }
 
 /// Whether a range from a base on holds so many bytes from an address on.
-fn holds(base: u64, length: u64, address: u64, span: u64) -> bool
+pub(crate) fn holds(base: u64, length: u64, address: u64, span: u64) -> bool
     ensures { result ≡ (nat_le base address && nat_le (address + span) (base + length)) }
 {
     base <= address

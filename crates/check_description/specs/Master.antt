@@ -7,8 +7,8 @@ use Rattle.check_keys.specs.Bus.{bus_in_table}
 use Rattle.check_keys.specs.Key.{key_name}
 use Rattle.check_keys.specs.Name.{name_at}
 use Rattle.tl_text.specs.Reading.{◌>>=◌, each}
-use Rattle.check_keys.specs.Value.{value_at, number_at, number_if_any, tables_of, one_up_to}
-use Rattle.check_keys.specs.declared.fault.Key.TheVariants.{Master as MasterKey, Sources, First, Stride}
+use Rattle.check_keys.specs.Value.{flag_at, value_at, number_at, number_if_any, tables_of, one_up_to}
+use Rattle.check_keys.specs.declared.fault.Key.TheVariants.{Fifo, Master as MasterKey, Sources, First, Stride}
 use Rattle.check_keys.specs.declared.fault.SystemFault.{SystemFault}
 use Rattle.tl_map.specs.Blocks.{AreBlocks, AreFew}
 use Rattle.tl_map.specs.Owners.{IsFirstSourceOwnerFault}
@@ -20,8 +20,8 @@ use Rattle.check_description.specs.Reach.{reach_at}
 use Rattle.check_description.specs.declared.masters.Master as code_master
 
 -- a master: its name, how many sources it has, the wide source of its source 0 where the file says it, how far apart the
--- wide sources of its next sources are, the data bus of its link, and for each port whether it has a path to it, where the
--- file says it
+-- wide sources of its next sources are, the data bus of its link, for each port whether it has a path to it, where the file
+-- says it, and whether replies at its link come in order
 pub record Master : Type 0 where
   pub name : Option (List ℕ)
   pub sources : ℕ
@@ -29,6 +29,7 @@ pub record Master : Type 0 where
   pub stride : ℕ
   pub bus : Bus
   pub reach : Option (List Bool)
+  pub fifo : Bool
 
 -- the table says where the master's wide sources begin
 abbrev pub has_first : Members → Bool
@@ -52,7 +53,16 @@ master_of bus ports placed members = do
   stride ← stride_at members
   own ← bus_in_table bus members
   reach ← reach_at ports members
-  Ok (record { name = name; sources = sources; first = first; stride = stride; bus = own; reach = reach })
+  fifo ← flag_at Fifo members
+  Ok (record {
+    name = name;
+    sources = sources;
+    first = first;
+    stride = stride;
+    bus = own;
+    reach = reach;
+    fifo = fifo;
+  })
 
 -- the tables of the masters, of which there is at least one
 unfoldable pub master_tables : Members → Result (List Members) SystemFault
@@ -64,6 +74,10 @@ master_tables members = do
 unfoldable pub masters_of : Bus → List (Option (List ℕ)) → Members → Result (List Master) SystemFault
 masters_of bus ports members =
     master_tables members >>= (λ tables. each (master_of bus ports (list_any has_first tables)) tables)
+
+-- of each master, whether replies at its link come in order
+abbrev pub master_fifos : List Master → List Bool
+master_fifos masters = map (λ (master : Master). master.fifo) masters
 
 -- ---- the wide sources of masters
 
@@ -110,4 +124,5 @@ master_view master = record {
   stride = master.stride;
   bus = master.bus;
   reach = option_map (λ flags. flags.items) master.reach;
+  fifo = master.fifo;
 }

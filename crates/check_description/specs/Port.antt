@@ -9,8 +9,8 @@ use Rattle.check_keys.specs.Bus.{bus_in_table}
 use Rattle.check_keys.specs.Key.{key_name}
 use Rattle.check_keys.specs.Name.{name_at}
 use Rattle.tl_text.specs.Reading.{◌>>=◌, each}
-use Rattle.check_keys.specs.Value.{tables_of, up_to}
-use Rattle.check_keys.specs.declared.fault.Key.TheVariants.{Port as PortKey}
+use Rattle.check_keys.specs.Value.{flag_at, tables_of, up_to}
+use Rattle.check_keys.specs.declared.fault.Key.TheVariants.{Fifo, Port as PortKey}
 use Rattle.check_keys.specs.declared.fault.SystemFault.{SystemFault}
 use Rattle.check_description.specs.Contents.{Contents, contents_at}
 use Rattle.check_description.specs.Crossing.{is_apart_by, port_crossing_at}
@@ -32,8 +32,8 @@ use Rattle.check_description.specs.declared.port.PortOrders.{PortOrders}
 
 -- a slave port: its name, what stands there, where its bytes are, what it holds before any request, the sizes that it
 -- supports, when its requests take effect, its data bus, whether its ranges are one memory, the addresses of the bytes
--- that change by themselves, what a reset of the whole system does to its bytes, the masters that it lists, and what is
--- compared of messages to it. No sizes are those of its kind; no order on a side is the command line's
+-- that change by themselves, what a reset of the whole system does to its bytes, the masters that it lists, what is compared
+-- of messages to it, and whether replies at its link come in order. No sizes are those of its kind; no order on a side is the command line's
 pub record Port : Type 0 where
   pub name : Option (List ℕ)
   pub kind : PortKind
@@ -47,6 +47,7 @@ pub record Port : Type 0 where
   pub on_reset : OnReset
   pub listed : Option ListedMasters
   pub crossing : PortCrossing
+  pub fifo : Bool
 
 -- resets leave its bytes, but for those that requests may write which a reset cuts short: nobody knows these afterwards
 abbrev pub keeps_bytes : OnReset → Bool
@@ -74,6 +75,7 @@ port_of bus resets members = do
   on_reset ← on_reset_at resets kind members
   listed ← listed_at members
   crossing ← port_crossing_at members
+  fifo ← flag_at Fifo members
   Ok (record {
     name = name;
     kind = kind;
@@ -87,6 +89,7 @@ port_of bus resets members = do
     on_reset = on_reset;
     listed = listed;
     crossing = crossing;
+    fifo = fifo;
   })
 
 -- the tables in a value, which may not be there
@@ -109,6 +112,10 @@ names_of_ports ports = map (λ (port : Port). port.name) ports
 -- of each port, whether its link is judged by itself if both sides are watched
 abbrev pub apart_of : List Port → List Bool
 apart_of ports = map (λ (port : Port). is_apart_by port.crossing) ports
+
+-- of each port, whether replies at its link come in order
+abbrev pub port_fifos : List Port → List Bool
+port_fifos ports = map (λ (port : Port). port.fifo) ports
 
 -- ---- what contracts see
 
@@ -133,4 +140,5 @@ port_view port = record {
   on_reset = port.on_reset;
   listed = option_map list_view port.listed;
   crossing = port.crossing;
+  fifo = port.fifo;
 }

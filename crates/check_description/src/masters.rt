@@ -11,8 +11,8 @@ use crate::port::Port;
 use crate::reach::reach_at;
 use check_beats::Bus;
 use check_keys::{
-    Key, SystemFault, array_of, bus_in_table, find_value, name_at, number_at, number_if_any,
-    tables_of, value_at,
+    Key, SystemFault, array_of, bus_in_table, find_value, flag_at, name_at, number_at,
+    number_if_any, tables_of, value_at,
 };
 use std::alloc::Global;
 use tl_map::{MAX_JUDGED_MASTERS, MAX_JUDGED_SOURCES, MAX_WIDE};
@@ -28,6 +28,8 @@ pub struct Master {
     pub stride: u16,
     pub bus: Bus,
     pub reach: Option<Vec<bool>>,
+    /// Whether replies at its link begin in the order in which their requests began there.
+    pub fifo: bool,
 }
 
 /// Whether a master's table says where its wide sources begin.
@@ -90,6 +92,7 @@ fn read_master(
     let stride = stride_at(table)?;
     let bus = bus_in_table(table, bus)?;
     let reach = reach_at(alloc, ports, table)?;
+    let fifo = flag_at(table, Key::Fifo)?;
     Ok(Master {
         name,
         sources: sources as u32,
@@ -97,6 +100,7 @@ fn read_master(
         stride,
         bus,
         reach,
+        fifo,
     })
 }
 

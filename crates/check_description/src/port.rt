@@ -48,6 +48,8 @@ pub struct Port {
     pub listed: Option<ListedMasters>,
     /// What is compared of messages to it if both sides are watched.
     pub crossing: PortCrossing,
+    /// Whether replies at its link begin in the order in which their requests began there.
+    pub fifo: bool,
     ghost lawful: { AreRangesOfPort ranges.items },
     ghost given: { length contents.reset.items ≤ first_length ranges.items },
 }

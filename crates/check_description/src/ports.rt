@@ -18,7 +18,9 @@ use crate::ranges::{first_length, ranges_at};
 use crate::sizes::sizes_at;
 use crate::volatile::volatile_at;
 use check_beats::Bus;
-use check_keys::{Key, SystemFault, array_of, bus_in_table, find_value, name_at, tables_of};
+use check_keys::{
+    Key, SystemFault, array_of, bus_in_table, find_value, flag_at, name_at, tables_of,
+};
 use std::alloc::Global;
 use tl_map::MAX_JUDGED_PORTS;
 use toml::Table;
@@ -40,6 +42,7 @@ pub fn read_port(alloc: Global, bus: Bus, resets: bool, table: &Table) -> Result
     let on_reset = on_reset_at(resets, kind, table)?;
     let listed = listed_at(alloc, table)?;
     let crossing = port_crossing_at(table)?;
+    let fifo = flag_at(table, Key::Fifo)?;
     Ok(Port {
         name,
         kind,
@@ -53,6 +56,7 @@ pub fn read_port(alloc: Global, bus: Bus, resets: bool, table: &Table) -> Result
         on_reset,
         listed,
         crossing,
+        fifo,
     })
 }
 

@@ -8,11 +8,10 @@ use Rattle.tl_streams.specs.Streams.{AppendsPart}
 use Rattle.check_vcd.specs.Words.{Both}
 use Rattle.check_rows.specs.Row.{SeenRow}
 use Rattle.check_rows.specs.Column.{column_parts}
-use Rattle.check_lines.specs.declared.verdict.VerdictCounts.{VerdictCounts}
-use Rattle.check_unanswered.specs.declared.request.Left.{Left as LeftOver}
+use Rattle.check_review.specs.Verdict.{VerdictCounts, HasCounts, HasLeft, IsFirstUnlawful, IsLawfulFile, IsStop, IsToldBefore, IsToldEarlier, IsToldFile, IsToldPart, OfUnlawful, SystemPlan}
+use Rattle.check_rows.specs.declared.request.Left.{Left as LeftOver}
 use Rattle.check_review.specs.Covered.{CoversStop, IsCoveredBefore, IsCoveredFile}
 use Rattle.check_review.specs.Order.{HasRowFault}
-use Rattle.check_review.specs.Verdict.{HasCounts, HasLeft, IsFirstUnlawful, IsLawfulFile, IsStop, IsToldBefore, IsToldEarlier, IsToldFile, IsToldPart, OfUnlawful}
 use Rattle.check_review.specs.View.{HasTold, JudgeView, Judges, TellsStop, is_asked, is_traced}
 use Rattle.check_review.specs.declared.stop.Ending.{Ending}
 use Rattle.check_review.specs.declared.stop.Refusal.{Refusal}
@@ -23,7 +22,6 @@ use Rattle.check_review.specs.declared.tally.Tally.{Tally}
 use Rattle.check_review.proofs.Judging.{part_before, part_of_file, told_earlier, told_none}
 use Rattle.check_samples.specs.Left.{End, RowsLeft}
 use Rattle.check_samples.specs.declared.channel.UnknownBit.{UnknownBit}
-use Rattle.check_start.specs.Loads.{SystemPlan}
 use Rattle.check_text.specs.Buses.{LinkBuses, row_on}
 use Rattle.check_text.specs.Out.{Moves, WritesPart, Wrote}
 use Rattle.check_text.specs.Rows.{IsToldBy, Took}

@@ -8,7 +8,7 @@ use Rattle.check_rows.specs.declared.fault.RowFault.{RowFault}
 use Rattle.check_review.specs.Stretches.{Stretches}
 use Rattle.check_review.specs.Covered.{HasCovered, IsCoveredBefore}
 use Rattle.check_review.specs.Order.{HasRowFault, IsLater}
-use Rattle.check_review.specs.Verdict.{HasCounts, HasLeft, IsFirstUnlawful, IsLawfulFile, IsToldEarlier, IsToldFile, IsToldPart}
+use Rattle.check_review.specs.Verdict.{HasCounts, HasLeft, IsFirstUnlawful, IsLawfulFile, IsToldEarlier, IsToldFile, IsToldPart, SystemPlan}
 use Rattle.check_review.specs.View.{HasTold, JudgeView, Judges, is_asked, is_traced}
 use Rattle.check_review.specs.declared.stop.Ending.{Ending}
 use Rattle.check_review.specs.declared.stop.Refusal.{Refusal}
@@ -19,7 +19,6 @@ use Rattle.check_review.specs.declared.tally.Tally.{Tally}
 use Rattle.check_samples.specs.EdgeFault.{edge_fault_view}
 use Rattle.check_samples.specs.Left.{End, RowsLeft}
 use Rattle.check_samples.specs.Left.End.{BeforeBeat, BeforeLine, Whole, WithoutEdges}
-use Rattle.check_start.specs.Loads.{SystemPlan}
 use Rattle.check_text.specs.Buses.{LinkBuses, row_on}
 use Rattle.check_text.specs.Out.{WritesAll, WritesFront, WritesPart, Wrote}
 use Rattle.check_text.specs.Rows.{IsToldBy, OfJudged, TellsBefore, verdict_at_end}

@@ -3,7 +3,7 @@ ghost use Rattle.std.specs.Prelude.{◌≡◌, ◌≤◌, ◌+◌, [], List, Non
 ghost use Rattle.check_rows.specs.Buses.{IsLinkOfRow};
 ghost use Rattle.check_rows.specs.Column.{column_parts};
 ghost use Rattle.check_rows.specs.Row.{SeenRow, row_of, seen_row};
-ghost use Rattle.check_start.specs.Loads.{SystemPlan};
+ghost use Rattle.check_review.specs.Verdict.{SystemPlan};
 ghost use Rattle.check_review.specs.View.{Judges, is_asked, is_covered, is_traced};
 ghost use Rattle.check_text.specs.Buses.{HasBuses, link_buses};
 ghost use Rattle.check_text.specs.Rows.{Took};

@@ -1,7 +1,7 @@
 -- The keys of a system file. This project's own.
 use Rattle.std.specs.Prelude.{ℕ, List, codes}
 use Rattle.check_keys.specs.declared.fault.Key.{Key}
-use Rattle.check_keys.specs.declared.fault.Key.TheVariants.{Bus, Unaligned, Decode, Resets, Period, Port, Name, Kind, Base, Length, Ranges, Reset, Image, Unknown, Sizes, Order, Mirror, Volatile, OnReset, Hosts, Master, Sources, Crossing, First, Stride, Reach}
+use Rattle.check_keys.specs.declared.fault.Key.TheVariants.{Bus, Unaligned, Decode, Resets, Period, Port, Name, Kind, Base, Length, Ranges, Reset, Image, Unknown, Sizes, Order, Mirror, Volatile, OnReset, Hosts, Master, Sources, Crossing, First, Stride, Reach, Fifo}
 
 -- the key, as a file has it
 abbrev pub key_name : Key → List ℕ
@@ -31,3 +31,4 @@ key_name Crossing = codes "crossing"
 key_name First = codes "first"
 key_name Stride = codes "stride"
 key_name Reach = codes "reach"
+key_name Fifo = codes "fifo"

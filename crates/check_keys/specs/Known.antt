@@ -29,10 +29,10 @@ known_keys Names = wire_keys
 known_keys Port =
     codes "name" ∷ codes "kind" ∷ codes "base" ∷ codes "length" ∷ codes "ranges" ∷ codes "reset" ∷
     codes "image" ∷ codes "unknown" ∷ codes "sizes" ∷ codes "order" ∷ codes "bus" ∷ codes "mirror" ∷
-    codes "volatile" ∷ codes "on_reset" ∷ codes "hosts" ∷ codes "sources" ∷ codes "crossing" ∷ codes "signals" ∷ codes "wires" ∷
-    codes "bits" ∷ codes "clock" ∷ codes "link_reset" ∷ codes "reset_active" ∷ codes "edge" ∷ codes "extra" ∷ []
+    codes "volatile" ∷ codes "on_reset" ∷ codes "hosts" ∷ codes "sources" ∷ codes "crossing" ∷ codes "fifo" ∷ codes "signals" ∷
+    codes "wires" ∷ codes "bits" ∷ codes "clock" ∷ codes "link_reset" ∷ codes "reset_active" ∷ codes "edge" ∷ codes "extra" ∷ []
 known_keys Master =
-    codes "name" ∷ codes "sources" ∷ codes "first" ∷ codes "stride" ∷ codes "bus" ∷ codes "reach" ∷ codes "signals" ∷
+    codes "name" ∷ codes "sources" ∷ codes "first" ∷ codes "stride" ∷ codes "bus" ∷ codes "reach" ∷ codes "fifo" ∷ codes "signals" ∷
     codes "wires" ∷ codes "bits" ∷ codes "clock" ∷ codes "link_reset" ∷ codes "reset_active" ∷ codes "edge" ∷
     codes "ops" ∷ codes "extra" ∷ []
 known_keys Sizes =

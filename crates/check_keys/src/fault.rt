@@ -39,6 +39,7 @@ pub enum Key {
     First,
     Stride,
     Reach,
+    Fifo,
 }
 
 impl Key {
@@ -73,6 +74,7 @@ impl Key {
             Key::First => "first",
             Key::Stride => "stride",
             Key::Reach => "reach",
+            Key::Fifo => "fifo",
         }
     }
 }

@@ -11,15 +11,15 @@ use Rattle.check_watch.specs.declared.beat.Beat.TheVariants.{A, D}
 use Rattle.check_watch.specs.declared.beat.Link.{Link}
 use Rattle.check_watch.specs.declared.beat.Link.TheVariants.{Master, Port}
 use Rattle.check_watch.specs.declared.fault.Fault.{Fault}
-use Rattle.check_watch.specs.declared.fault.Fault.TheVariants.{Form, NoSuchSource, SourceBusy, WrongPort, NoRequest, EarlyReply, WrongSize, WrongOpcode, UnknownData, NotSent, NotGiven, WrongReply}
+use Rattle.check_watch.specs.declared.fault.Fault.TheVariants.{Form, NoSuchSource, SourceBusy, WrongPort, NoRequest, EarlyReply, OutOfOrder, WrongSize, WrongOpcode, UnknownData, NotSent, NotGiven, WrongReply}
 use Rattle.check_lines.specs.Names.{NamesView, name_of_link}
 use Rattle.check_lines.specs.Reply.{pattern_text}
 use Rattle.tl_script.specs.Trace.{target_text}
 use Rattle.check_lines.specs.Target.{name_text}
 use Rattle.check_lines.specs.declared.verdict.VerdictCounts.{VerdictCounts}
 use Rattle.check_rows.specs.declared.row.Row.{Row}
-use Rattle.check_unanswered.specs.declared.request.Began.{Began}
-use Rattle.check_unanswered.specs.declared.request.Left.{Left}
+use Rattle.check_rows.specs.declared.request.Began.{Began}
+use Rattle.check_rows.specs.declared.request.Left.{Left}
 use Rattle.check_watch.specs.declared.pending.Origin.{Origin}
 
 -- a master or a port by its letter and its number
@@ -57,6 +57,7 @@ fault_text SourceBusy = codes "source in flight"
 fault_text WrongPort = codes "not this port's address"
 fault_text NoRequest = codes "reply without request"
 fault_text EarlyReply = codes "reply before its request ended"
+fault_text OutOfOrder = codes "reply out of order"
 fault_text WrongSize = codes "size of another request"
 fault_text WrongOpcode = codes "opcode of another operation"
 fault_text UnknownData = codes "unknown data"

@@ -4,7 +4,7 @@ ghost use Rattle.tl_text.specs.Text.{BeginsWith};
 ghost use Rattle.check_lines.specs.Verdict.{asked_text, began_text, incomplete_line, owner_text};
 
 use crate::target::name_word;
-use check_unanswered::{Began, Left};
+use check_rows::{Began, Left};
 use check_watch::{Beat, Origin};
 use std::alloc::AllocError;
 use tl_script::push_target;

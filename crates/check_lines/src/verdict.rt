@@ -94,6 +94,7 @@ fn push_fault(text: &mut Vec<u8>, fault: &Fault) -> Result<(), AllocError>
         Fault::WrongPort => push_words(text, "not this port's address"),
         Fault::NoRequest => push_words(text, "reply without request"),
         Fault::EarlyReply => push_words(text, "reply before its request ended"),
+        Fault::OutOfOrder => push_words(text, "reply out of order"),
         Fault::WrongSize => push_words(text, "size of another request"),
         Fault::WrongOpcode => push_words(text, "opcode of another operation"),
         Fault::UnknownData => push_words(text, "unknown data"),

@@ -5,11 +5,7 @@ use Rattle.std.specs.Io.KnownBytes.{Appends}
 use Rattle.std.proofs.KnownBytes.{Keeps-refl}
 use Rattle.check_beats.specs.declared.bus.Bus.{Bus}
 use Rattle.check_description.specs.Description.{Description, Makes}
-use Rattle.check_review.specs.Stretches.{Stretches}
-use Rattle.check_review.specs.Covered.{AppendsCoverage, HasCovered}
-use Rattle.check_review.specs.View.{Judges, is_asked, is_covered, is_traced}
-use Rattle.check_review.specs.declared.judge.Judge.{Judge}
-use Rattle.check_review.specs.declared.tally.Tally.{Tally}
+use Rattle.check_text.specs.Review.{Stretches, AppendsCoverage, HasCovered, Judges, is_asked, is_covered, is_traced, Judge, Tally}
 use Rattle.check_rows.specs.Row.{SeenRow}
 use Rattle.check_samples.specs.Left.{RowsLeft}
 use Rattle.check_start.specs.Loads.{SystemPlan}

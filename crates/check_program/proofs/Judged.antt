@@ -2,11 +2,7 @@
 use Rattle.std.proofs.Common.{◌≡◌, ◌∙◌, ℕ, Bool, List, [], Option, None, Some, Result, Ok, Err, IfOk, IfSome, ap, refl, subst, sym}
 use Rattle.check_beats.specs.declared.bus.Bus.{Bus}
 use Rattle.check_description.specs.Description.{Description, Makes}
-use Rattle.check_review.specs.Stretches.{Stretches}
-use Rattle.check_review.specs.Covered.{AppendsCoverage, HasCovered}
-use Rattle.check_review.specs.View.{Judges, is_asked, is_covered, is_traced}
-use Rattle.check_review.specs.declared.judge.Judge.{Judge}
-use Rattle.check_review.specs.declared.tally.Tally.{Tally}
+use Rattle.check_text.specs.Review.{Stretches, AppendsCoverage, HasCovered, Judges, is_asked, is_covered, is_traced, Judge, Tally}
 use Rattle.check_rows.specs.Row.{SeenRow}
 use Rattle.check_records.specs.Text.{TextPlace, text_start}
 use Rattle.check_rows.specs.PortNumbers.{PortNumbers}

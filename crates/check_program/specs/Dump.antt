@@ -3,8 +3,7 @@ use Rattle.std.specs.Prelude.{◌≡◌, ◌⊎◌, ℕ, ◌+◌, Bool, true, fa
 use Rattle.std.specs.Io.KnownBytes.{Appends, Keeps}
 use Rattle.tl_streams.specs.Streams.{AppendsPart}
 use Rattle.check_description.specs.Description.{Description, Makes}
-use Rattle.check_review.specs.Covered.{AppendsCoverage}
-use Rattle.check_review.specs.Order.{are_masters_watched, are_ports_watched}
+use Rattle.check_text.specs.Review.{AppendsCoverage, are_masters_watched, are_ports_watched}
 use Rattle.check_samples.specs.Left.{RowsLeft}
 use Rattle.check_start.specs.Loads.{SystemPlan}
 use Rattle.check_signals.specs.Names.{LinkNames, SignalNames, names_of_file}

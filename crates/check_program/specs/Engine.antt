@@ -6,7 +6,7 @@ use Rattle.check_keys.specs.declared.fault.SystemFault.{SystemFault}
 use Rattle.check_description.specs.File.{Parts}
 use Rattle.check_description.specs.Description.{Description, IsFirstFaultOf, Makes}
 use Rattle.check_beats.specs.declared.bus.Bus.{Bus}
-use Rattle.check_review.specs.View.{Judges, is_asked, is_covered, is_traced}
+use Rattle.check_text.specs.Review.{Judges, is_asked, is_covered, is_traced}
 use Rattle.check_start.specs.Loads.{SystemPlan}
 use Rattle.check_lines.specs.Names.{NamesView}
 use Rattle.check_lines.specs.Verdict.{empty_line, incomplete_line, lawful_line, unlawful_line}

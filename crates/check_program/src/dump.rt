@@ -1,7 +1,7 @@
 //! A dump in the place of a capture: where its signals are, and the verdict over its rows.
 ghost use Rattle.std.specs.Prelude.{◌≡◌, ◌≤◌, ℕ, List, Option, None, Ok, length, map, IfOk, IfErr};
 ghost use Rattle.check_description.specs.File.{Parts as PartsView};
-ghost use Rattle.check_review.specs.Order.{are_masters_watched, are_ports_watched};
+ghost use Rattle.check_text.specs.Review.{are_masters_watched, are_ports_watched};
 ghost use Rattle.check_signals.specs.Names.{link_view, names_of_file, names_view};
 ghost use Rattle.check_rows.specs.PortNumbers.{numbers_in};
 ghost use Rattle.check_text.specs.Buses.{HasBuses};
@@ -14,9 +14,8 @@ use crate::engine::{Prepared, tell};
 use crate::fault::{CheckFault, UnnamedLink};
 use check_dump::judge_dump;
 use check_rows::Buses;
-use check_sides::Links;
 use check_signals::{LinkNames, SignalNames, read_names};
-use check_watch::Link;
+use check_watch::{Link, Links};
 use check_waves::{WaveLinks, open_dump};
 use std::alloc::{AllocError, Global};
 use std::io::{Read, Write};

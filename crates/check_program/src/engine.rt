@@ -2,14 +2,11 @@
 ghost use Rattle.std.specs.Prelude.{◌≡◌, ◌+◌, ◌≤◌, ◌++◌, ℕ, List, [], Option, if◌then◌else◌, is_some, length, map, IfOk, IfErr, IfSome, OnOk};
 ghost use Rattle.std.specs.Io.KnownBytes.{Appends};
 ghost use Rattle.check_description.specs.File.{parts_view, Parts as PartsView};
-ghost use Rattle.check_sides.specs.Plan.{Plan};
-ghost use Rattle.check_sides.specs.View.{Keeps};
-ghost use Rattle.check_unanswered.specs.View.{Holds};
 ghost use Rattle.check_start.specs.Loads.{AreLoadsOf, SystemPlan};
 ghost use Rattle.check_start.specs.Start.{IsPlanOf};
 ghost use Rattle.check_start.specs.declared.start.Terms.{Terms as IsTerms};
 ghost use Rattle.check_coverage.specs.View.{Covers};
-ghost use Rattle.check_review.specs.View.{Judges, is_asked, is_covered, is_traced};
+ghost use Rattle.check_text.specs.Review.{Judges, is_asked, is_covered, is_traced};
 ghost use Rattle.check_lines.specs.Verdict.{empty_line, lawful_line};
 ghost use Rattle.check_rows.specs.PortNumbers.{numbers_in};
 ghost use Rattle.check_text.specs.Buses.{HasBuses};
@@ -27,12 +24,10 @@ use check_beats::Bus;
 use check_coverage::Coverage;
 use check_description::{Description, Parts, describe};
 use check_lines::{Names, VerdictCounts, push_empty, push_incomplete, push_lawful, push_unlawful};
-use check_review::Judge;
 use check_rows::{Buses, PortNumbers};
-use check_sides::{Links, Watch};
-use check_start::{Loads, begin, pending_of};
-use check_text::{Verdict, judge_capture};
-use check_unanswered::Pending;
+use check_start::begin;
+use check_text::{Judge, Verdict, judge_capture};
+use check_watch::Links;
 use std::alloc::{AllocError, Global};
 use std::io::{Read, Write};
 use tl_map::{MAX_JUDGED_MASTERS, MAX_JUDGED_PORTS};
@@ -89,19 +84,6 @@ fn is_lawful(complete: bool, verdict: &Verdict) -> bool
     }
 }
 
-/// The requests in flight of a judge that has seen no beat, if it is asked which are left at the end.
-fn pending_if(alloc: Global, watch: &Watch, asked: bool) -> Result<Option<Pending>, AllocError>
-    ensures asked { IfOk result (λ pending. is_some pending ≡ asked) }
-    ensures none_yet { IfOk result (λ pending. (plan : Plan) → Keeps plan [] watch.now
-        → IfSome pending (Holds plan [])) }
-{
-    if asked {
-        Ok(Some(pending_of(alloc, watch)?))
-    } else {
-        Ok(None)
-    }
-}
-
 /// What a judge of a system has covered that has seen no beat, if it is asked for.
 fn coverage_if(
     alloc: Global,
@@ -117,27 +99,6 @@ fn coverage_if(
     } else {
         Ok(None)
     }
-}
-
-/// The judge of a capture, of a judge of beats that has seen none and of what a reset loads, which tells what is asked for. If it
-/// is given what is covered, which is nothing yet, it counts what the rows cover.
-fn judge_of(
-    alloc: Global,
-    watch: Watch,
-    loads: Loads,
-    coverage: Option<Coverage>,
-    asked: Asked,
-) -> Result<Judge, AllocError>
-    requires { length loads ≡ length watch.layout.ports + 1 }
-    ensures judges { IfOk result (λ judge. (plan : SystemPlan) → Keeps plan.begins [] watch → AreLoadsOf plan loads
-        → IfSome coverage (Covers plan.begins [] []) → Judges plan [] judge) }
-    ensures layout { IfOk result (λ judge. judge.tally.watch.layout ≡ watch.layout) }
-    ensures trace { IfOk result (λ judge. is_traced judge ≡ asked.trace) }
-    ensures complete { IfOk result (λ judge. is_asked judge ≡ asked.complete) }
-    ensures coverage { IfOk result (λ judge. is_covered judge ≡ is_some coverage) }
-{
-    let pending = pending_if(alloc, &watch, asked.complete)?;
-    Ok(Judge::new(watch, loads, asked.trace, pending, coverage))
 }
 
 /// What a capture is judged by: a judge that has seen no beat, whether it is asked which requests are left, the names and the
@@ -173,7 +134,14 @@ fn prepare(
     let system = describe(alloc, parts)?;
     let coverage = coverage_if(alloc, &system, asked.coverage)?;
     let begun = begin(alloc, system, images, asked.terms)?;
-    let judge = judge_of(alloc, begun.watch, begun.loads, coverage, asked)?;
+    let judge = Judge::before_rows(
+        alloc,
+        begun.watch,
+        begun.loads,
+        asked.trace,
+        asked.complete,
+        coverage,
+    )?;
     Ok(Prepared {
         judge,
         complete: asked.complete,

@@ -29,6 +29,9 @@ mod shown;
 mod system;
 
 pub use asked::Asked;
+pub use check_signals::{KeyFault, SignalKey};
+pub use check_text::CaptureFault;
+pub use check_waves::WaveFault;
 pub use coverage::write_coverage;
 pub use engine::check;
 pub use fault::{CheckFault, DumpFault, UnnamedLink};

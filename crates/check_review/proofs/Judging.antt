@@ -6,8 +6,8 @@ use Rattle.std.proofs.lemmas.List.{length_push}
 use Rattle.std.proofs.lemmas.List.Elements.{All-append, All-contains, All-weaker, All-from_recursion, recursion_from_All, Contains-append_left}
 use Rattle.std.proofs.lemmas.List.Sorted.{IsPermutation-refl, IsPermutation-sym, IsPermutation-trans, IsPermutation-cons, IsPermutation-append, IsPermutation-reverse, IsPermutation-push_more, All-permutation, Contains-permutation, length_permutation, IsNonDecreasingBy-push, IsNonDecreasingBy-short}
 use Rattle.check_start.specs.Loads.{AreLoadsOf, SystemPlan}
-use Rattle.check_sides.specs.View.{Keeps}
-use Rattle.check_sides.specs.Lawful.{IsLawful}
+use Rattle.check_turns.specs.View.{KeepsOrdered}
+use Rattle.check_turns.specs.Lawful.{IsLawfulInOrder}
 use Rattle.check_rows.specs.Moment.{Moment, IsMoment, Takes, HasFault}
 use Rattle.check_rows.specs.declared.fault.RowFault.{RowFault}
 use Rattle.check_rows.specs.declared.fault.RowFault.TheVariants as fault
@@ -33,7 +33,7 @@ use Rattle.check_review.proofs.Unique.{crossing_is_unique}
 -- ---- none yet
 
 pub judges_none : (plan : SystemPlan) (judge : JudgeView) → judge.moment ≡ record { time = 0; rows = [] } → judge.rows ≡ 0
-    → judge.tally.requests ≡ 0 → judge.tally.answered ≡ 0 → Keeps plan.begins [] judge.tally.watch
+    → judge.tally.requests ≡ 0 → judge.tally.answered ≡ 0 → KeepsOrdered plan.begins [] judge.tally.watch
     → AreLoadsOf plan judge.tally.loads → IfSome judge.tally.pending (Holds plan.begins [])
     → IfSome judge.tally.coverage (Covers plan.begins [] []) → Judges plan [] judge
 judges_none plan judge fresh rows requests answered keeps loads pending covers =
@@ -285,8 +285,8 @@ not_lawful plan file found first whole =
     let here = one_course plan first.before now first.course.now last.1 first.course.ended on.2 first.course.are in
     let unlawful : IsUnlawfulAfter now first.row found =
     subst (λ (s : Stretch). IsUnlawfulAfter s first.row found) (sym here.0) first.is in
-    unlawful.unlawful (subst (IsLawful now.plan) (seen_one now.plan.layout first.row on.0 unlawful.watched)
-    (subst (λ l. IsLawful now.plan (sightings_of now.plan.layout l)) on.1 last.3))
+    unlawful.unlawful (subst (IsLawfulInOrder now.plan) (seen_one now.plan.layout first.row on.0 unlawful.watched)
+    (subst (λ l. IsLawfulInOrder now.plan (sightings_of now.plan.layout l)) on.1 last.3))
 
 -- ---- what is told
 

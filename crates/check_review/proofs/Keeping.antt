@@ -7,9 +7,8 @@ use Rattle.std.proofs.lemmas.List.Sorted.{All-permutation}
 use Rattle.std.proofs.lemmas.Option.{get_or_from_slice_get}
 use Rattle.check_beats.specs.Bus.{bus_bytes}
 use Rattle.check_sides.specs.Plan.{Layout, bus_of}
-use Rattle.check_rows.specs.Row.{SeenRow, seen_row}
+use Rattle.check_rows.specs.Row.{SeenRow, seen_row, row_with}
 use Rattle.check_rows.specs.declared.row.Row.{Row}
-use Rattle.check_unanswered.specs.Began.{row_with}
 use Rattle.check_review.specs.declared.stop.Refusal.{Refusal}
 use Rattle.check_review.specs.declared.stop.Refusal.TheVariants as refusal
 use Rattle.check_review.specs.declared.stop.Unlawful.{Unlawful}

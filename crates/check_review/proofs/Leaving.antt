@@ -1,15 +1,15 @@
 -- The requests that are left, if these are asked for.
 use Rattle.std.proofs.Common.{◌≡◌, ◌∙◌, true, false, List, ◌∷◌, Option, Some, None, IfNone, IfSome, is_some, ap, sym, subst}
 use Rattle.check_watch.specs.declared.pending.Change.{Change}
-use Rattle.check_sides.specs.Lawful.{IsLawful}
+use Rattle.check_turns.specs.Lawful.{IsLawfulInOrder}
 use Rattle.check_sides.specs.Pending.{IsChange}
 use Rattle.check_sides.specs.Plan.{Plan}
-use Rattle.check_sides.specs.View.{Keeps}
+use Rattle.check_turns.specs.View.{KeepsOrdered}
 use Rattle.check_rows.specs.Row.{SeenRow}
 use Rattle.check_coverage.specs.View.{Covers}
 use Rattle.check_unanswered.specs.Began.{IsComplete, IsLeft}
 use Rattle.check_unanswered.specs.View.{Holds, PendingView}
-use Rattle.check_unanswered.specs.declared.request.Left.{Left}
+use Rattle.check_rows.specs.declared.request.Left.{Left}
 use Rattle.check_review.specs.declared.tally.Tally.{Tally}
 use Rattle.check_review.specs.Count.{answered_in, answered_in_past, asked_in, asked_in_past}
 use Rattle.check_review.specs.Stretches.{Earlier, bins_in}
@@ -36,7 +36,7 @@ pub record IsNoted (earlier : Earlier) (plan : Plan) (before : List SeenRow) (ro
   pub tallied : Tallied earlier plan (row ∷ before) mid
   pub same : mid.pending ≡ old.pending
   pub asked : is_some what ≡ is_some old.pending
-  pub change : IsLawful plan (row.sighting ∷ sightings_of plan.layout before)
+  pub change : IsLawfulInOrder plan (row.sighting ∷ sightings_of plan.layout before)
       → IfSome what (IsChange plan (sightings_of plan.layout before) row.sighting)
   pub noted : Tallied earlier plan (row ∷ before) mid → Tallied earlier plan (row ∷ before) new
   pub holds : IfSome mid.pending (Holds plan (watched plan.layout before)) → is_some what ≡ is_some mid.pending
@@ -47,8 +47,8 @@ pub kept_noted : (earlier : Earlier) (plan : Plan) (before : List SeenRow) (row 
     (change : Option Change) → Kept earlier plan before old → IsNoted earlier plan before row old mid new change
     → Kept earlier plan (row ∷ before) new
 kept_noted earlier plan before row old mid new change kept step =
-    let lawful : IsLawful plan (row.sighting ∷ sightings_of plan.layout before) =
-    subst (IsLawful plan) (seen_one plan.layout row before step.here) step.tallied.keeps.lawful in
+    let lawful : IsLawfulInOrder plan (row.sighting ∷ sightings_of plan.layout before) =
+    subst (IsLawfulInOrder plan) (seen_one plan.layout row before step.here) step.tallied.keeps.lawful in
     let H : Option PendingView → Type 0 = λ p. IfSome p (Holds plan (watched plan.layout before)) in
     let R : List SeenRow → Type 0 = λ rows. IfSome new.pending (Holds plan rows) in
     record {
@@ -67,7 +67,7 @@ kept_unwatched earlier plan before row tally other kept =
     let R : List SeenRow → Type 0 = λ rows. IfSome tally.pending (Holds plan rows) in
     record {
       tallied = record {
-        keeps = subst (λ past. Keeps plan past tally.watch) same kept.tallied.keeps;
+        keeps = subst (λ past. KeepsOrdered plan past tally.watch) same kept.tallied.keeps;
         loads = kept.tallied.loads;
         requests = kept.tallied.requests ∙ ap (asked_in_past (asked_in earlier.ended) plan) same;
         answered = kept.tallied.answered ∙ ap (answered_in_past (answered_in earlier.ended) plan) same;

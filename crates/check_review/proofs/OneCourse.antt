@@ -4,7 +4,7 @@ use Rattle.std.specs.Prelude.{IsTrue}
 use Rattle.check_flight.specs.PortSlave.{PortSlave}
 use Rattle.check_watch.specs.Reset.{loaded_at}
 use Rattle.check_sides.specs.Groups.{are_apart}
-use Rattle.check_sides.specs.Lawful.{IsLawful}
+use Rattle.check_turns.specs.Lawful.{IsLawfulInOrder}
 use Rattle.check_sides.specs.Plan.{Layout, Plan}
 use Rattle.check_sides.proofs.OneReset.{one_reset}
 use Rattle.check_rows.specs.Row.{SeenRow}
@@ -78,7 +78,7 @@ lawful_by false system row Before now ended on lawful = (
   ended,
   on.2,
   lawful_rest now.plan (row ∷ []) on.0
-      (subst (λ l. IsLawful now.plan (sightings_of now.plan.layout l)) on.1 lawful),
+      (subst (λ l. IsLawfulInOrder now.plan (sightings_of now.plan.layout l)) on.1 lawful),
 )
 lawful_by true system row Before now ended on lawful = (on.0, on.1, on.4, on.5.lawful)
 

@@ -5,13 +5,13 @@ use Rattle.check_flight.specs.PortSlave.{PortSlave}
 use Rattle.check_sides.specs.Groups.{are_apart}
 use Rattle.check_sides.specs.Plan.{Layout, Plan}
 use Rattle.check_sides.specs.Reset.{IsReset}
-use Rattle.check_sides.specs.View.{Keeps}
+use Rattle.check_turns.specs.View.{KeepsOrdered}
 use Rattle.check_rows.specs.Row.{SeenRow}
 use Rattle.check_unanswered.specs.View.{Holds}
 use Rattle.check_coverage.specs.Bins.{bins}
 use Rattle.check_coverage.specs.Mirrors.{HaveSameMirrors}
 use Rattle.check_coverage.specs.View.{Covers}
-use Rattle.check_coverage.specs.declared.bin.Bin.{Bin}
+use Rattle.check_bins.specs.declared.bin.Bin.{Bin}
 use Rattle.check_start.specs.Loads.{AreLoads, AreLoadsOf, SystemPlan}
 use Rattle.check_review.specs.Stretches.{Stretches, EndsStretch, bins_in, sightings_in, stretches, watched_in}
 use Rattle.check_review.specs.View.{KeepsOn, KeptIn}
@@ -36,7 +36,7 @@ pub keeps_after_reset : (system : SystemPlan) (before : List SeenRow) (course : 
     → row.is_reset ≡ true → KeptIn system before course old
     → IsResetTally course.now.plan (watched_in course.now) (bins_in course.ended) old new loaded own
     → IsReset course.now.plan (sightings_in course.now) loaded own resets slaves
-    → Keeps (record course.now.plan { resets = resets; own = slaves }) [] new.watch
+    → KeepsOrdered (record course.now.plan { resets = resets; own = slaves }) [] new.watch
     → KeepsOn system before course (row ∷ before) trace new text text
 keeps_after_reset system before course row trace text old new loaded own resets slaves is kept reset left keeps =
     let plan : Plan = course.now.plan in

@@ -14,7 +14,7 @@ use Rattle.check_watch.specs.declared.seen.Seen.TheVariants.{Part, WholeAsk, Who
 use Rattle.check_sides.specs.Plan.{IsPlan}
 use Rattle.check_sides.specs.Groups.{plan_at, port_plan}
 use Rattle.check_watch.specs.Scene.{Scene}
-use Rattle.check_sides.specs.Lawful.{scene, what_is_seen}
+use Rattle.check_turns.specs.Lawful.{scene, what_is_seen}
 use Rattle.check_watch.specs.Lawful.{IsAllowed, IsAllowedBeat}
 use Rattle.check_rows.specs.Row.{SeenRow}
 use Rattle.check_coverage.specs.Flights.{is_counted}

@@ -6,7 +6,8 @@ use Rattle.check_watch.specs.declared.beat.Link.TheVariants.{Master, Port}
 use Rattle.check_watch.specs.declared.links.Links.{Links}
 use Rattle.check_watch.specs.declared.links.Links.TheVariants.{Both, Masters, Ports, Each}
 use Rattle.check_sides.specs.Plan.{Layout, Plan, HasLink, IsWatched}
-use Rattle.check_sides.specs.Lawful.{IsLawful}
+use Rattle.check_turns.specs.Lawful.{IsLawfulInOrder}
+use Rattle.check_turns.proofs.Judging.{lawful_before}
 use Rattle.check_rows.specs.Row.{SeenRow}
 use Rattle.check_review.specs.Order.{are_masters_watched, are_ports_watched, is_watched, sightings_of, watched}
 
@@ -65,14 +66,14 @@ watched_other layout row before is = rw is refl
 -- ---- a beginning of what is lawful is lawful
 
 drop_first : (plan : Plan) (row : SeenRow) (rest : List SeenRow) (b : Bool) → is_watched plan.layout row.sighting.link ≡ b
-    → IsLawful plan (sightings_of plan.layout (row ∷ rest)) → IsLawful plan (sightings_of plan.layout rest)
+    → IsLawfulInOrder plan (sightings_of plan.layout (row ∷ rest)) → IsLawfulInOrder plan (sightings_of plan.layout rest)
 drop_first plan row rest true is lawful =
-    let all : IsLawful plan (row.sighting ∷ sightings_of plan.layout rest) =
-    subst (IsLawful plan) (seen_one plan.layout row rest is) lawful in all.0
-drop_first plan row rest false is lawful = subst (IsLawful plan) (seen_other plan.layout row rest is) lawful
+    let all : IsLawfulInOrder plan (row.sighting ∷ sightings_of plan.layout rest) =
+    subst (IsLawfulInOrder plan) (seen_one plan.layout row rest is) lawful in lawful_before plan row.sighting (sightings_of plan.layout rest) all
+drop_first plan row rest false is lawful = subst (IsLawfulInOrder plan) (seen_other plan.layout row rest is) lawful
 
-pub lawful_rest : (plan : Plan) (after before : List SeenRow) → IsLawful plan (sightings_of plan.layout (after ++ before))
-    → IsLawful plan (sightings_of plan.layout before)
+pub lawful_rest : (plan : Plan) (after before : List SeenRow) → IsLawfulInOrder plan (sightings_of plan.layout (after ++ before))
+    → IsLawfulInOrder plan (sightings_of plan.layout before)
 lawful_rest plan [] before lawful = lawful
 lawful_rest plan (row ∷ after) before lawful =
     lawful_rest plan after before (drop_first plan row (after ++ before)

@@ -5,12 +5,14 @@ use Rattle.check_watch.specs.declared.seen.Seen.{Seen}
 use Rattle.check_coverage.specs.Flights.{ends_a_reply, ends_an_ask, is_counted}
 use Rattle.check_sides.specs.Plan.{Plan}
 use Rattle.check_watch.specs.Scene.{ended_by}
-use Rattle.check_sides.specs.Lawful.{what_is_seen}
+use Rattle.check_turns.specs.Lawful.{what_is_seen}
 use Rattle.check_review.specs.Stretches.{Stretch, sightings_in}
 
+-- what was seen ends a request
 abbrev pub is_whole_ask : Seen → Bool
 is_whole_ask seen = ends_an_ask (ended_by seen)
 
+-- what was seen ends a reply
 abbrev pub is_whole_reply : Seen → Bool
 is_whole_reply seen = ends_a_reply (ended_by seen)
 
@@ -38,6 +40,7 @@ abbrev pub asked_in : List Stretch → ℕ
 asked_in [] = 0
 asked_in (stretch ∷ ended) = asked_in_past (asked_in ended) stretch.plan (sightings_in stretch)
 
+-- how many whole replies are seen of some stretches, the latest first
 abbrev pub answered_in : List Stretch → ℕ
 answered_in [] = 0
 answered_in (stretch ∷ ended) = answered_in_past (answered_in ended) stretch.plan (sightings_in stretch)

@@ -3,7 +3,7 @@
 use Rattle.std.specs.Prelude.{◌≡◌, ℕ, Bool, true, false, List, ◌++◌, reverse, length, IfSome}
 use Rattle.check_start.specs.Loads.{SystemPlan}
 use Rattle.check_rows.specs.Row.{SeenRow}
-use Rattle.check_coverage.specs.Text.{TellsCoverage}
+use Rattle.check_bins.specs.Text.{TellsCoverage}
 use Rattle.check_coverage.specs.View.{Covers}
 use Rattle.check_review.specs.declared.tally.Tally.{Tally}
 use Rattle.check_review.specs.declared.stop.Stop.{Stop}
@@ -35,6 +35,7 @@ pub record OfBefore (plan : SystemPlan) (file : List SeenRow) (found : Unlawful)
 abbrev pub IsCoveredFile : SystemPlan → List SeenRow → Tally → Type 0
 IsCoveredFile plan file tally = OfLawful plan file (λ crossed course. HasCovered plan crossed course tally)
 
+-- this was counted of the rows before the first unlawful one
 abbrev pub IsCoveredBefore : SystemPlan → List SeenRow → Tally → Unlawful → Type 0
 IsCoveredBefore plan file tally found = OfBefore plan file found (λ crossed course. HasCovered plan crossed course tally)
 

@@ -52,12 +52,14 @@ IsLater file row = All (λ other. other.time < row.time) file
 
 -- ---- what is seen of them
 
+-- the masters' links are watched
 abbrev pub are_masters_watched : Links → Bool
 are_masters_watched Both = true
 are_masters_watched Masters = true
 are_masters_watched Ports = false
 are_masters_watched Each = true
 
+-- the ports' links are watched
 abbrev pub are_ports_watched : Links → Bool
 are_ports_watched Both = true
 are_ports_watched Masters = false

@@ -5,12 +5,12 @@ use Rattle.check_watch.specs.Plan.{Sighting}
 use Rattle.check_memory.specs.declared.slave.Slave.{Slave}
 use Rattle.check_flight.specs.PortSlave.{PortSlave}
 use Rattle.check_sides.specs.Groups.{are_apart}
-use Rattle.check_sides.specs.Lawful.{IsLawful}
+use Rattle.check_turns.specs.Lawful.{IsLawfulInOrder}
 use Rattle.check_sides.specs.Plan.{IsPlan, Plan}
 use Rattle.check_sides.specs.Reset.{IsReset}
 use Rattle.check_rows.specs.Row.{SeenRow}
 use Rattle.check_coverage.specs.Bins.{bins}
-use Rattle.check_coverage.specs.declared.bin.Bin.{Bin}
+use Rattle.check_bins.specs.declared.bin.Bin.{Bin}
 use Rattle.check_start.specs.Loads.{AreLoads, SystemPlan}
 use Rattle.check_review.specs.Order.{sightings_of, watched}
 
@@ -23,11 +23,13 @@ pub record Stretch : Type 0 where
 abbrev pub watched_in : Stretch → List SeenRow
 watched_in stretch = watched stretch.plan.layout stretch.rows
 
+-- what was seen of the rows of a stretch at the links that are watched
 abbrev pub sightings_in : Stretch → List Sighting
 sightings_in stretch = sightings_of stretch.plan.layout stretch.rows
 
+-- that is lawful
 abbrev pub IsLawfulStretch : Stretch → Type 0
-IsLawfulStretch stretch = IsLawful stretch.plan (sightings_in stretch)
+IsLawfulStretch stretch = IsLawfulInOrder stretch.plan (sightings_in stretch)
 
 -- a reset ends a lawful stretch, and after it the system goes on by this plan: ports hold what is loaded into them, or what
 -- the reset has left

@@ -7,7 +7,7 @@ use Rattle.check_watch.specs.Plan.{Sighting, source_of}
 use Rattle.check_watch.specs.declared.seen.Seen.{Seen}
 use Rattle.check_watch.specs.declared.seen.Seen.TheVariants.{Part, WholeAsk, WholeReply}
 use Rattle.check_sides.specs.Plan.{Plan}
-use Rattle.check_sides.specs.Lawful.{what_is_seen}
+use Rattle.check_turns.specs.Lawful.{what_is_seen}
 use Rattle.check_watch.specs.declared.links.Links.{Links}
 use Rattle.check_lines.specs.Trace.{HasOwner, IsLine}
 use Rattle.check_coverage.specs.Flights.{is_counted}

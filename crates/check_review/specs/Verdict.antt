@@ -2,13 +2,13 @@
 use Rattle.std.specs.Prelude.{◌≡◌, ◌⊎◌, ℕ, ◌%◌, ◌^◌, ◌<◌, Bool, true, false, List, [], ◌∷◌, ◌++◌, Option, Some, None, IsTrue, length, reverse}
 use Rattle.std.specs.List.{AllByRecursion}
 use Rattle.check_sides.specs.Plan.{Plan}
-use Rattle.check_sides.specs.Lawful.{IsLawful, IsFirstFault, MayNeedMemory}
-use Rattle.check_start.specs.Loads.{SystemPlan}
-use Rattle.check_rows.specs.Row.{SeenRow}
+use Rattle.check_turns.specs.Lawful.{IsLawfulInOrder, IsFirstFaultInOrder, MayNeedMemory}
+pub use Rattle.check_start.specs.Loads.{SystemPlan}
+use Rattle.check_rows.specs.Row.{SeenRow, row_with}
 use Rattle.check_rows.specs.declared.row.Row.{Row}
-use Rattle.check_unanswered.specs.Began.{IsComplete, IsLeft, row_with}
-use Rattle.check_unanswered.specs.declared.request.Left.{Left}
-use Rattle.check_lines.specs.declared.verdict.VerdictCounts.{VerdictCounts}
+use Rattle.check_unanswered.specs.Began.{IsComplete, IsLeft}
+use Rattle.check_rows.specs.declared.request.Left.{Left}
+pub use Rattle.check_lines.specs.declared.verdict.VerdictCounts.{VerdictCounts}
 use Rattle.check_review.specs.declared.stop.Refusal.{Refusal}
 use Rattle.check_review.specs.declared.stop.Refusal.TheVariants as refusal
 use Rattle.check_review.specs.declared.stop.Stop.{Stop}
@@ -60,8 +60,8 @@ pub record IsUnlawfulAfter (stretch : Stretch) (row : SeenRow) (found : Unlawful
   pub named : IsNamedBy row found.row
   pub watched : IsTrue (is_watched stretch.plan.layout row.sighting.link)
   pub lawful : IsLawfulStretch stretch
-  pub unlawful : IsLawful stretch.plan (row.sighting ∷ sightings_in stretch) → ⊥
-  pub fault : IsFirstFault stretch.plan (sightings_in stretch) row.sighting found.fault
+  pub unlawful : IsLawfulInOrder stretch.plan (row.sighting ∷ sightings_in stretch) → ⊥
+  pub fault : IsFirstFaultInOrder stretch.plan (sightings_in stretch) row.sighting found.fault
 
 -- the row is the first one, in the order in which beats cross, that makes the file unlawful, with its first fault
 pub record IsFirstUnlawful (plan : SystemPlan) (file : List SeenRow) (found : Unlawful) : Type 0 where
@@ -128,7 +128,7 @@ pub record StopsTelling (trace : Bool) (plan : SystemPlan) (rows before : List S
 -- it, if it is to be, or for what is kept
 abbrev pub MayWantAfter : Bool → Stretch → SeenRow → Type 0
 MayWantAfter wants stretch row =
-    (row.is_reset ≡ true) ⊎ ((wants ≡ true) ⊎ (IsLawful stretch.plan (row.sighting ∷ sightings_in stretch)
+    (row.is_reset ≡ true) ⊎ ((wants ≡ true) ⊎ (IsLawfulInOrder stretch.plan (row.sighting ∷ sightings_in stretch)
     × MayNeedMemory stretch.plan (sightings_in stretch) row.sighting))
 
 -- it can be refused to one of these rows, which cross in this order after those before

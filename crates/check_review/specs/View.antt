@@ -1,9 +1,10 @@
 -- What a judge knows of the rows that it has taken. Lists of what crossed have the latest first. This project's own.
 use Rattle.std.specs.Prelude.{◌≡◌, ℕ, ◌+◌, ◌<◌, ◌≤◌, All, ◌%◌, ◌^◌, ◌||◌, Bool, false, List, [], ◌++◌, reverse, length, is_some, IfSome}
 use Rattle.std.specs.List.{AllByRecursion}
-use Rattle.check_sides.specs.Plan.{Layout, Plan, bus_of}
+pub use Rattle.check_sides.specs.Plan.{Layout, bus_of}
+use Rattle.check_sides.specs.Plan.{Plan}
 use Rattle.check_rows.specs.Moment.{Moment}
-use Rattle.check_sides.specs.View.{Keeps}
+use Rattle.check_turns.specs.View.{KeepsOrdered}
 use Rattle.check_rows.specs.Row.{SeenRow}
 use Rattle.check_unanswered.specs.View.{Holds}
 use Rattle.check_coverage.specs.View.{Covers}
@@ -20,7 +21,7 @@ use Rattle.check_review.specs.Verdict.{IsToldBefore}
 -- the rows of the stretch that goes on are lawful, and this is kept and counted of them and of those before, with what they
 -- cover if that is asked for
 pub record Tallied (earlier : Earlier) (plan : Plan) (crossed : List SeenRow) (tally : Tally) : Type 0 where
-  pub keeps : Keeps plan (sightings_of plan.layout crossed) tally.watch
+  pub keeps : KeepsOrdered plan (sightings_of plan.layout crossed) tally.watch
   pub loads : AreLoadsOf earlier.system tally.loads
   pub requests : tally.requests ≡ asked_in_past (asked_in earlier.ended) plan (sightings_of plan.layout crossed)
   pub answered : tally.answered ≡ answered_in_past (answered_in earlier.ended) plan (sightings_of plan.layout crossed)

@@ -3,7 +3,7 @@ ghost use Rattle.std.specs.Prelude.{◌≡◌, ◌+◌, ◌%◌, ◌^◌, ◌<�
 ghost use Rattle.tl_text.specs.Text.{BeginsWith};
 ghost use Rattle.check_beats.specs.Bus.{bus_bytes};
 ghost use Rattle.check_sides.specs.Plan.{bus_of};
-ghost use Rattle.check_sides.specs.View.{Keeps};
+ghost use Rattle.check_turns.specs.View.{KeepsOrdered};
 ghost use Rattle.check_rows.specs.Moment.{HasFault, IsLink, IsMoment, Takes};
 ghost use Rattle.check_rows.specs.Row.{SeenRow, seen_row};
 ghost use Rattle.check_unanswered.specs.View.{Holds};
@@ -20,8 +20,8 @@ use crate::tally::Tally;
 use check_coverage::Coverage;
 use check_lines::VerdictCounts;
 use check_rows::{Moment, Row, RowFault};
-use check_sides::Watch;
 use check_start::Loads;
+use check_turns::OrderedWatch;
 use check_unanswered::Pending;
 use std::alloc::{AllocError, Global};
 use std::marker::Model;
@@ -53,15 +53,15 @@ impl Judge {
     /// The judge of a capture, with a judge of beats that has seen none, and what a reset of the whole system loads; it
     /// tells replies if they are traced. If it is given the requests in flight, which are none yet, it says at the end
     /// which are left. If it is given what is covered, which is nothing yet, it counts what the rows cover.
-    pub fn new(
-        watch: Watch,
+    pub(crate) fn new(
+        watch: OrderedWatch,
         loads: Loads,
         trace: bool,
         pending: Option<Pending>,
         coverage: Option<Coverage>,
     ) -> Judge
         requires { length loads ≡ length watch.layout.ports + 1 }
-        ensures judges { (plan : SystemPlan) → Keeps plan.begins [] watch → AreLoadsOf plan loads
+        ensures judges { (plan : SystemPlan) → KeepsOrdered plan.begins [] watch → AreLoadsOf plan loads
             → IfSome pending (Holds plan.begins []) → IfSome coverage (Covers plan.begins [] []) → Judges plan [] result }
         ensures layout { result.tally.watch.layout ≡ watch.layout }
         ensures trace { is_traced result ≡ trace }
@@ -281,7 +281,7 @@ impl Judge {
         ensures err { OnErr result (BeginsWith text.old.items text.new.items) }
     {
         match &self.tally.coverage {
-            Some(coverage) => coverage.append(&self.tally.watch, text),
+            Some(coverage) => coverage.append(self.tally.watch.beats(), text),
             None => Ok(()),
         }
     }

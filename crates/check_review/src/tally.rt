@@ -2,19 +2,17 @@
 ghost use Rattle.std.specs.Prelude.{◌≡◌, ◌+◌, ◌≤◌, ℕ, ◌&&◌, false, true, List, ◌∷◌, ◌++◌, [], All, length, reverse, is_some, IsTrue, OnOk, IfOk, IfErr, IfSome};
 ghost use Rattle.check_watch.specs.Plan.{Sighting, seen_at, source_of};
 ghost use Rattle.check_sides.specs.Groups.{are_apart};
-ghost use Rattle.check_sides.specs.Lawful.{IsLawful};
+ghost use Rattle.check_turns.specs.Lawful.{IsLawfulInOrder};
 ghost use Rattle.check_sides.specs.Pending.{IsChange};
 ghost use Rattle.check_sides.specs.Plan.{CanCross, Plan, HasLink, bus_of};
-ghost use Rattle.check_sides.specs.View.{Keeps};
-ghost use Rattle.check_rows.specs.Row.{SeenRow};
-ghost use Rattle.check_unanswered.specs.Began.{beats_of, row_with};
+ghost use Rattle.check_turns.specs.View.{KeepsOrdered};
+ghost use Rattle.check_rows.specs.Row.{SeenRow, beats_of, row_with};
 ghost use Rattle.check_unanswered.specs.View.{Holds};
-ghost use Rattle.check_coverage.specs.Flights.{end_of};
+ghost use Rattle.check_coverage.specs.Flights.{end_of, ends_a_reply, ends_an_ask, is_counted};
 ghost use Rattle.check_coverage.specs.View.{Covers};
-ghost use Rattle.check_coverage.specs.Flights.{ends_a_reply, ends_an_ask, is_counted};
 ghost use Rattle.check_coverage.specs.Bins.{bins};
 ghost use Rattle.check_coverage.specs.Mirrors.{HaveSameMirrors};
-ghost use Rattle.check_coverage.specs.declared.bin.Bin.{Bin};
+ghost use Rattle.check_bins.specs.declared.bin.Bin.{Bin};
 ghost use Rattle.check_start.specs.Loads.{SystemPlan};
 ghost use Rattle.check_review.specs.Count.{one_more};
 ghost use Rattle.check_review.specs.Stretches.{Stretches, Earlier};
@@ -30,8 +28,8 @@ use check_coverage::{Coverage, is_counted};
 use check_lines::push_answer;
 use check_memory::Slave;
 use check_rows::{Moment, Row};
-use check_sides::{Beat, Change, Ended, Link, Links, Seen, StepError, Watch};
 use check_start::Loads;
+use check_turns::{Beat, Change, Ended, Link, Links, OrderedWatch, Seen, StepError};
 use check_unanswered::{Left, Pending};
 use std::alloc::{AllocError, Global};
 
@@ -53,7 +51,7 @@ pub fn count_end(links: Links, link: Link, end: Ended, requests: &mut u64, answe
 /// The judge of beats in the order in which they cross, with how many whole requests and replies it has seen.
 #[derive(Drop)]
 pub struct Tally {
-    pub watch: Watch,
+    pub watch: OrderedWatch,
     /// What a reset of the whole system loads.
     pub loads: Loads,
     /// Whether replies are told.
@@ -92,13 +90,13 @@ impl Tally {
         ensures covered { is_some self.new.coverage ≡ is_some self.old.coverage }
         ensures covers { (plan : Plan) (earlier : List Bin) (rows : List SeenRow) (lanes : List ℕ)
             → IfSome self.old.coverage (Covers plan earlier rows)
-            → Keeps plan (beats_of (row_with row.now lanes ∷ rows)) self.old.watch
+            → KeepsOrdered plan (beats_of (row_with row.now lanes ∷ rows)) self.old.watch
             → end ≡ end_of plan rows (row_with row.now lanes)
             → OnOk result (IfSome self.new.coverage (Covers plan earlier (row_with row.now lanes ∷ rows))) }
         ensures memory { IfErr result (λ _. is_some self.old.coverage ≡ true) }
     {
         match &mut self.coverage {
-            Some(coverage) => coverage.note(&self.watch, row, end),
+            Some(coverage) => coverage.note(self.watch.beats(), row, end),
             None => Ok(()),
         }
     }
@@ -219,8 +217,8 @@ impl Tally {
     fn change(&self, row: &Row) -> Option<Change>
         requires { HasLink self.now.watch.layout row.now.link }
         ensures asked { is_some result ≡ is_some self.now.pending }
-        ensures change { (plan : Plan) (past : List Sighting) (lanes : List ℕ) → Keeps plan past self.now.watch
-            → IsLawful plan (seen_at row.now.link row.now.beat row.now.known lanes ∷ past)
+        ensures change { (plan : Plan) (past : List Sighting) (lanes : List ℕ) → KeepsOrdered plan past self.now.watch
+            → IsLawfulInOrder plan (seen_at row.now.link row.now.beat row.now.known lanes ∷ past)
             → IfSome result (IsChange plan past (seen_at row.now.link row.now.beat row.now.known lanes)) }
     {
         match self.pending {

@@ -1,5 +1,5 @@
 -- The row that the columns of a record spell, or the first fault that they have, from the left. This project's own.
-use Rattle.std.specs.Prelude.{ℕ, ◌^◌, ◌-◌, ◌==◌, Bool, true, false, ◌&&◌, List, [], ◌∷◌, length, drop, take, Option, Some, None, Result, Ok, Err, if◌then◌else◌}
+use Rattle.std.specs.Prelude.{ℕ, ◌^◌, ◌-◌, ◌==◌, Bool, true, false, ◌&&◌, List, [], ◌∷◌, map, length, drop, take, Option, Some, None, Result, Ok, Err, if◌then◌else◌}
 use Rattle.check_beats.specs.Bus.{bus_bytes}
 use Rattle.check_beats.specs.declared.bus.Bus.{Bus}
 use Rattle.check_watch.specs.Plan.{Sighting, seen_at}
@@ -32,6 +32,19 @@ pub record SeenRow : Type 0 where
   pub time : ℕ
   pub is_reset : Bool
   pub sighting : Sighting
+
+-- a row with these lanes
+abbrev pub row_with : Row → List ℕ → SeenRow
+row_with row lanes = record {
+  line = row.line;
+  time = row.time;
+  is_reset = row.is_reset;
+  sighting = seen_at row.link row.beat row.known lanes;
+}
+
+-- what crossed
+abbrev pub beats_of : List SeenRow → List Sighting
+beats_of rows = map (λ (row : SeenRow). row.sighting) rows
 
 -- what stands there in a row of a reset
 abbrev pub nothing_seen : Sighting

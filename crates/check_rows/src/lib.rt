@@ -25,6 +25,7 @@ mod moment;
 mod number;
 mod port_numbers;
 mod quick;
+mod request;
 mod row;
 
 pub use buses::Buses;
@@ -32,4 +33,5 @@ pub use column::{COLUMNS, column_name};
 pub use fault::RowFault;
 pub use moment::Moment;
 pub use port_numbers::{PortNumbers, SourcePlace, number_row};
+pub use request::{Began, Left, Open};
 pub use row::{Row, read_bare_row, read_row};

@@ -313,6 +313,7 @@ port_same members store plain some is =
         on_reset = Never;
         listed = None;
         crossing = Same;
+        fifo = false;
       };
       reads = rw (
         plain.name,
@@ -332,6 +333,7 @@ port_same members store plain some is =
         plain.hosts,
         plain.sources,
         plain.crossing,
+        plain.fifo,
       ) refl;
       is = record {
         plain = record {
@@ -349,6 +351,7 @@ port_same members store plain some is =
         on_reset = refl;
         listed = refl;
         crossing = refl;
+        fifo = refl;
       };
     }
 

@@ -143,14 +143,14 @@ sources_read (Ok count) (Ok ls) master is =
 master_same : (ports : List (Option (List ℕ))) (members : Members) (master : OldMaster) → IsPlainMaster members
     → 0 < master.sources → old_master_of members ≡ Ok master
     → master_of Eight ports false members ≡ Ok (plain_master master.sources)
-unfolding old_master_of master_of name_at first_at stride_at bus_in_table reach_at text_if_any number_if_any
+unfolding old_master_of master_of name_at first_at stride_at bus_in_table reach_at flag_at text_if_any number_if_any
 master_same ports members master plain some is =
     let read = sources_read (old_number_at OldSources 0 65535 members) (old_lines_at members) master is in
     let few = (number_at_within OldSources 0 65535 master.sources members read).1 in
     let sources : number_at Sources 1 MAX_JUDGED_SOURCES members ≡ Ok master.sources =
     number_at_same OldSources Sources 0 65535 1 MAX_JUDGED_SOURCES master.sources members refl read (omega (arith, some))
     (omega (arith, few)) in
-    rw (plain.name, sources, plain.stride, plain.bus, plain.reach) refl
+    rw (plain.name, sources, plain.stride, plain.bus, plain.reach, plain.fifo) refl
 
 -- how many sources the masters of a script have
 abbrev pub said_counts : List OldMaster → List ℕ

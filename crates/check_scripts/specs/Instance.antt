@@ -10,7 +10,7 @@ use Rattle.check_beats.specs.declared.bus.Bus.TheVariants.{Eight}
 use Rattle.check_beats.specs.declared.rules.LinkRules.{LinkRules}
 use Rattle.check_keys.specs.Key.{key_name}
 use Rattle.check_keys.specs.declared.fault.Key.{Key}
-use Rattle.check_keys.specs.declared.fault.Key.TheVariants.{Bus, Unaligned, Decode, Resets, Period, Name, Ranges, Image, Unknown, Sizes, Order, Mirror, Volatile, OnReset, Hosts, Sources, Crossing, First, Stride, Reach}
+use Rattle.check_keys.specs.declared.fault.Key.TheVariants.{Bus, Unaligned, Decode, Resets, Period, Name, Ranges, Image, Unknown, Sizes, Order, Mirror, Volatile, OnReset, Hosts, Sources, Crossing, Fifo, First, Stride, Reach}
 use Rattle.check_description.specs.Laws.{IsPlainMemory, store_at_reset}
 use Rattle.check_description.specs.Order.{no_orders}
 use Rattle.check_description.specs.declared.crossing.PortCrossing.TheVariants.{Same}
@@ -41,6 +41,7 @@ pub record IsPlainPort (members : Members) : Type 0 where
   pub hosts : IsAbsent Hosts members
   pub sources : IsAbsent Sources members
   pub crossing : IsAbsent Crossing members
+  pub fifo : IsAbsent Fifo members
 
 -- a master's table has no such key
 pub record IsPlainMaster (members : Members) : Type 0 where
@@ -49,6 +50,7 @@ pub record IsPlainMaster (members : Members) : Type 0 where
   pub stride : IsAbsent Stride members
   pub bus : IsAbsent Bus members
   pub reach : IsAbsent Reach members
+  pub fifo : IsAbsent Fifo members
 
 -- the file says nothing of its links, nor of resets, and no table of a port or of a master has such a key
 pub record SaysNothingNew (bytes : List ℕ) : Type 0 where
@@ -76,6 +78,7 @@ pub record IsPortOf (store : Store) (port : Port) : Type 0 where
   pub on_reset : port.on_reset ≡ Never
   pub listed : port.listed ≡ None
   pub crossing : port.crossing ≡ Same
+  pub fifo : port.fifo ≡ false
 
 -- a port for each store, in order
 abbrev pub ArePortsOf : List Store → List Port → Type 0
@@ -86,7 +89,15 @@ ArePortsOf (store ∷ stores) (port ∷ ports) = IsPortOf store port × ArePorts
 
 -- a master that says only how many sources it has
 abbrev pub plain_master : ℕ → Master
-plain_master count = record { name = None; sources = count; first = None; stride = 1; bus = Eight; reach = None }
+plain_master count = record {
+  name = None;
+  sources = count;
+  first = None;
+  stride = 1;
+  bus = Eight;
+  reach = None;
+  fifo = false;
+}
 
 -- requests are aligned, and decoders look at all their bytes
 abbrev pub strict_rules : LinkRules

@@ -20,7 +20,7 @@ use Rattle.check_watch.specs.View as group_view
 use Rattle.check_watch.proofs.Resetting.{alike_left_port}
 use Rattle.check_sides.specs.Groups.{are_apart, is_alone, port_past, port_plan, shared_past}
 use Rattle.check_sides.specs.Plan.{IsPlan, Plan}
-use Rattle.check_sides.specs.Reset.{AreResetLinks, IsCutIn, IsReset, IsResetLink, IsResetOf, reset_plan}
+use Rattle.check_sides.specs.Reset.{AreResetLinks, IsCutIn, IsReset, IsResetLink, IsResetOf, plan_after_reset}
 use Rattle.check_sides.specs.View.{HaveBuses, IsSized, Keeps, KeepsPort, PortView, View, flight_in}
 use Rattle.check_sides.proofs.Fresh.{shared_none}
 use Rattle.check_sides.proofs.Grouping.{apart_from}
@@ -269,11 +269,11 @@ module _ (plan : Plan) (past : List Sighting) (old new : View) (keeps : Keeps pl
   }
 
   pub keeps_on : group_view.KeepsGroup (group_reset.reset_plan plan resets) [] new.shared
-      → Keeps (reset_plan plan resets own_after) [] new
+      → Keeps (plan_after_reset plan resets own_after) [] new
   keeps_on shared = record {
     suits = record { lawful = lawful; layout = layout ∙ keeps.suits.layout };
     lawful = tt;
-    shared = subst (λ p. group_view.KeepsGroup (reset_plan plan resets own_after) p new.shared)
+    shared = subst (λ p. group_view.KeepsGroup (plan_after_reset plan resets own_after) p new.shared)
         (sym (shared_none plan.layout)) (record {
           suits = record { lawful = lawful; layout = shared.suits.layout };
           lawful = tt;
@@ -282,7 +282,7 @@ module _ (plan : Plan) (past : List Sighting) (old new : View) (keeps : Keeps pl
     ports = λ port alone later found. fresh_port port alone later found;
   }
     where
-      lawful : IsPlan (reset_plan plan resets own_after)
+      lawful : IsPlan (plan_after_reset plan resets own_after)
       lawful = record {
         owners = keeps.suits.lawful.owners;
         wide = keeps.suits.lawful.wide;
@@ -290,7 +290,7 @@ module _ (plan : Plan) (past : List Sighting) (old new : View) (keeps : Keeps pl
       }
 
       fresh_port : (port : ℕ) → IsTrue (is_alone plan.layout (Port port)) → (later : PortView)
-          → slice_get new.ports port ≡ Some later → KeepsPort (port_plan (reset_plan plan resets own_after)) port [] later
+          → slice_get new.ports port ≡ Some later → KeepsPort (port_plan (plan_after_reset plan resets own_after)) port [] later
       fresh_port port alone later found =
           let inside = within new.ports port later found in
           let link = some_there old.ports port (omega (arith, counted, within new.ports port later found)) in

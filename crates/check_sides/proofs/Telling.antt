@@ -26,6 +26,7 @@ wrong_reason here beat known lanes faults.SourceBusy is = absurd is
 wrong_reason here beat known lanes faults.WrongPort is = absurd is
 wrong_reason here beat known lanes faults.NoRequest is = absurd is
 wrong_reason here beat known lanes faults.EarlyReply is = absurd is
+wrong_reason here beat known lanes faults.OutOfOrder is = absurd is
 wrong_reason here beat known lanes faults.WrongSize is = absurd is
 wrong_reason here beat known lanes faults.WrongOpcode is = absurd is
 wrong_reason here beat known lanes faults.UnknownData is = absurd is

@@ -53,6 +53,7 @@ port_plan plan = record {
   layout = record {
     links = Ports;
     apart = [];
+    fifos = plan.layout.fifos;
     rules = plan.layout.rules;
     owners = everybody ∷ [];
     ports = plan.layout.ports;

@@ -2,11 +2,13 @@
 -- judged with its own. What is lawful of links that are judged together is said by `check_watch`.
 use Rattle.std.specs.Prelude.{◌≡◌, ℕ, ◌⊎◌, List, [], ◌∷◌, IsTrue}
 use Rattle.std.specs.List.{AllByRecursion}
+use Rattle.check_beats.specs.State.{Under}
 use Rattle.check_watch.specs.declared.beat.Beat.{Beat}
 use Rattle.check_watch.specs.declared.beat.Beat.TheVariants.{A, D}
+use Rattle.check_watch.specs.declared.beat.Link.{Link}
 use Rattle.check_watch.specs.declared.fault.Fault.{Fault}
 use Rattle.check_watch.specs.declared.seen.Seen.{Seen}
-use Rattle.check_watch.specs.Plan.{Sighting}
+use Rattle.check_watch.specs.Plan.{Sighting, link_number, side_of}
 use Rattle.check_watch.specs.Scene.{Scene}
 use Rattle.check_watch.specs.Past as group
 use Rattle.check_watch.specs.Lawful as group_lawful
@@ -14,6 +16,11 @@ use Rattle.check_watch.specs.Lawful.{IsAllowed}
 pub use Rattle.check_watch.specs.Lawful.{OfFault}
 use Rattle.check_sides.specs.Plan.{Plan}
 use Rattle.check_sides.specs.Groups.{is_alone, plan_at, past_at}
+
+-- the messages under way at a link
+abbrev pub under_way : Plan → List Sighting → Link → Under
+under_way plan past link =
+    (group.state (plan_at plan link) (past_at plan.layout link past)).links (side_of link) (link_number link)
 
 -- what a beat finds
 abbrev pub scene : Plan → List Sighting → Sighting → Scene

@@ -43,8 +43,8 @@ IsResetLink plan port state load later =
 -- ---- all links
 
 -- the system as it goes on with these slaves, and with these of ports' links by themselves
-abbrev pub reset_plan : Plan → List PortSlave → List PortSlave → Plan
-reset_plan plan resets own = record plan { resets = resets; own = own }
+abbrev pub plan_after_reset : Plan → List PortSlave → List PortSlave → Plan
+plan_after_reset plan resets own = record plan { resets = resets; own = own }
 
 -- the slaves of ports' links that are judged each by itself, after a reset with which this is loaded: one of each port, and
 -- of another port what stood there

@@ -1,5 +1,5 @@
 -- What a judge keeps of the beats so far. It is this project's own.
-use Rattle.std.specs.Prelude.{◌≡◌, ℕ, ◌<◌, ◌≤◌, if◌then◌else◌, ◌==◌, List, [], map, Option, Some, None, IsTrue, IsSomeAnd, length, slice_get}
+use Rattle.std.specs.Prelude.{◌≡◌, ℕ, ◌<◌, if◌then◌else◌, ◌==◌, List, [], map, Option, Some, None, IsTrue, IsSomeAnd, length, slice_get}
 use Rattle.std.specs.List.{zip}
 use Rattle.tl_types.specs.Request.{Request}
 use Rattle.tl_map.specs.declared.range.Range.{Range}

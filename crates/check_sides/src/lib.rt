@@ -21,12 +21,14 @@ mod groups;
 mod pending;
 mod port;
 mod port_steps;
+mod reasons;
 mod reset;
 mod steps;
 mod watch;
 
 pub use check_watch::{
-    Beat, Change, Ended, Fault, Link, Links, Origin, Paths, Reason, Seen, SeenEntry, StepError,
+    Beat, Change, Ended, Fault, FifoLinks, Link, Links, Origin, Paths, Reason, Seen, SeenEntry,
+    StepError,
 };
 pub use groups::{is_port_alone, is_some_alone};
 pub use watch::Watch;

@@ -13,7 +13,7 @@ ghost use Rattle.check_watch.specs.Allowed.{IsAllowedAsk, IsAllowedReply, IsMust
 ghost use Rattle.check_watch.specs.Faults.{HasEndReason, IsFirstAskReason, IsFirstReplyReason, IsWrongReply};
 ghost use Rattle.check_watch.specs.Lawful.{IsFirstGroupFault, IsFirstReason, IsLawfulGroup, seen_in_group};
 ghost use Rattle.check_watch.specs.Plan.{Layout, Plan, Sighting, seen_at};
-ghost use Rattle.check_watch.specs.Scene.{seen};
+ghost use Rattle.check_watch.specs.Scene.{begins, seen};
 ghost use Rattle.check_watch.specs.View.{FitsBeat};
 ghost use Rattle.check_sides.specs.View.{Beyond, IsOwnPort, KeepsPort, captured_in, due_in, fresh_link, port_scene};
 
@@ -61,6 +61,16 @@ impl PortLink {
             under: UnderWay::new(bus),
             flights: Flights::new(alloc),
             slave,
+        }
+    }
+
+    /// Whether a beat is the first of its message.
+    pub(crate) fn begins(&self, beat: &Beat) -> bool
+        ensures { result ≡ begins self.now.under beat.now }
+    {
+        match beat {
+            Beat::A(_) => self.under.begins_ask(),
+            Beat::D(_) => self.under.begins_reply(),
         }
     }
 

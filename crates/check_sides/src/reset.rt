@@ -5,7 +5,7 @@ ghost use Rattle.check_flight.specs.PortSlave.{PortSlave};
 ghost use Rattle.check_watch.specs.Plan.{Sighting};
 ghost use Rattle.check_watch.specs.Reset.{IsLeftPort, loaded_at};
 ghost use Rattle.check_sides.specs.Plan.{Plan};
-ghost use Rattle.check_sides.specs.Reset.{AreResetLinks, IsCutIn, IsReset, IsResetOf, reset_plan};
+ghost use Rattle.check_sides.specs.Reset.{AreResetLinks, IsCutIn, IsReset, IsResetOf, plan_after_reset};
 ghost use Rattle.check_sides.specs.View.{HaveBuses, Keeps};
 ghost use Rattle.check_beats.specs.declared.bus.Bus.{Bus};
 
@@ -99,7 +99,7 @@ impl Watch {
         ensures layout { self.new.layout ≡ self.old.layout }
         ensures reset { (plan : Plan) (past : List Sighting) → Keeps plan past self.old → OnOk result
             ((resets : List PortSlave) × (slaves : List PortSlave) × IsReset plan past loaded.items own.items resets slaves
-            × Keeps (reset_plan plan resets slaves) [] self.new) }
+            × Keeps (plan_after_reset plan resets slaves) [] self.new) }
     {
         self.sized();
         self.shared.reset(alloc, loaded)?;

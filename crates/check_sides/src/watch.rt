@@ -12,7 +12,7 @@ use crate::groups::{is_port_alone, is_some_alone};
 use crate::port::PortLink;
 use check_beats::{Bus, LinkRules};
 use check_flight::PortSlave;
-use check_watch::{GroupWatch, Link, Links, Paths};
+use check_watch::{FifoLinks, GroupWatch, Link, Links, Paths};
 use std::alloc::{AllocError, Global};
 use std::marker::Model;
 use tl_map::{AddressMap, SourceOwners};
@@ -68,6 +68,7 @@ impl Watch {
         alloc: Global,
         links: Links,
         apart: Vec<bool>,
+        fifos: FifoLinks,
         rules: LinkRules,
         map: AddressMap,
         paths: Paths,
@@ -84,6 +85,7 @@ impl Watch {
         ensures layout { IfOk result (λ watch. watch.layout ≡ record {
           links = links;
           apart = apart.items;
+          fifos = fifos;
           rules = rules;
           owners = sources;
           ports = map;
@@ -97,6 +99,7 @@ impl Watch {
             → plan.layout ≡ record {
               links = links;
               apart = apart.items;
+              fifos = fifos;
               rules = rules;
               owners = sources;
               ports = map;
@@ -112,6 +115,7 @@ impl Watch {
             alloc,
             links,
             apart,
+            fifos,
             rules,
             map,
             paths,

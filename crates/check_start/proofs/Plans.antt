@@ -4,8 +4,8 @@ use Rattle.std.specs.Prelude.{IsTrue}
 use Rattle.std.proofs.lemmas.List.{length-map}
 use Rattle.check_description.specs.Description.{Description}
 use Rattle.check_description.specs.Port.{Port}
-use Rattle.check_sides.specs.Groups.{are_apart}
-use Rattle.check_sides.specs.Plan.{IsPlan, Layout, Plan}
+use Rattle.check_turns.specs.View.{are_apart}
+use Rattle.check_watch.specs.Plan.{IsPlan, Layout, Plan}
 use Rattle.check_start.specs.Loads.{AreLoads, AreLoadsOf, SystemPlan, loads_at_reset, loads_of}
 use Rattle.check_start.specs.Slaves.{own_slaves, shared_side, shared_slaves}
 use Rattle.check_start.specs.Start.{IsPlanOf, layout_of}

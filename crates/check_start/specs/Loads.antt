@@ -4,8 +4,8 @@ use Rattle.check_memory.specs.declared.slave.Slave.{Slave}
 use Rattle.check_flight.specs.PortSlave.{PortSlave}
 use Rattle.check_watch.specs.Past.{slave_at}
 use Rattle.check_watch.specs.Reset.{loaded_at}
-use Rattle.check_sides.specs.Groups.{are_apart}
-use Rattle.check_sides.specs.Plan.{Plan}
+use Rattle.check_turns.specs.View.{are_apart}
+use Rattle.check_watch.specs.Plan.{Plan}
 use Rattle.check_description.specs.Port.{Port}
 use Rattle.check_description.specs.Ranges.{first_length}
 use Rattle.check_description.specs.Slave.{kept_at_reset}

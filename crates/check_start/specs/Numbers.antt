@@ -2,7 +2,7 @@
 use Rattle.std.specs.Prelude.{ℕ, Bool, if◌then◌else◌, List, map, Option, None, option_map, slice_get}
 use Rattle.std.specs.List.{filter_map, zip}
 use Rattle.tl_map.specs.declared.owners.Owner.{Owner}
-use Rattle.check_sides.specs.Groups.{is_port_alone}
+use Rattle.check_turns.specs.View.{is_port_alone}
 use Rattle.check_watch.specs.declared.links.Links.{Links}
 use Rattle.check_rows.specs.PortNumbers.{PortNumbers}
 use Rattle.check_rows.specs.declared.port_numbers.SourcePlace.{SourcePlace}
@@ -31,5 +31,6 @@ numbers_there links owners nobody port =
 abbrev pub numbers_by : Links → List Owner → ℕ → List Bool → List (Option (List PlacedMaster)) → List (Option PortNumbers)
 numbers_by links owners nobody apart lists = map (numbers_there links owners nobody) (zip apart lists)
 
+-- the numbers of sources at each port's link of a system
 abbrev pub numbers_of : Links → Description → List (Option PortNumbers)
 numbers_of links system = numbers_by links system.owners system.nobody (apart_of system.ports) system.lists

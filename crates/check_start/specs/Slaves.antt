@@ -20,9 +20,11 @@ use Rattle.check_start.specs.declared.start.Terms.{Terms}
 abbrev pub order_at_masters : SideOrders → Port → Order
 order_at_masters orders port = unwrap_or port.orders.masters orders.masters
 
+-- the same of the ports' side
 abbrev pub order_at_ports : SideOrders → Port → Order
 order_at_ports orders port = unwrap_or port.orders.ports orders.ports
 
+-- the order of a port as its slave is seen
 abbrev pub order_of : SlaveSide → SideOrders → Port → Order
 order_of Masters orders port = order_at_masters orders port
 order_of Ports orders port = order_at_ports orders port
@@ -58,5 +60,6 @@ slaves_at_reset side orders images ports =
 abbrev pub shared_slaves : Terms → List (List ℕ) → List Port → Result (List PortSlave) SystemFault
 shared_slaves terms images ports = slaves_at_reset (shared_side terms.links) terms.orders images ports
 
+-- the slaves of ports' links that are judged each by itself
 abbrev pub own_slaves : Terms → List (List ℕ) → List Port → Result (List PortSlave) SystemFault
 own_slaves terms images ports = slaves_at_reset Ports terms.orders images ports

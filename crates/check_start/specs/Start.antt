@@ -1,19 +1,21 @@
 -- How the judge of a system begins. This project's own.
 use Rattle.std.specs.Prelude.{◌≡◌, ℕ, List, map, Ok, IsTrue}
 use Rattle.check_beats.specs.declared.bus.Bus.{Bus}
-use Rattle.check_description.specs.Port.{Port, apart_of}
+use Rattle.check_description.specs.Port.{Port, apart_of, port_fifos}
 use Rattle.check_description.specs.Description.{Description, ranges_of}
-use Rattle.check_description.specs.Master.{Master}
-use Rattle.check_sides.specs.Groups.{are_apart}
-use Rattle.check_sides.specs.Plan.{IsPlan, Layout}
+use Rattle.check_description.specs.Master.{Master, master_fifos}
+use Rattle.check_turns.specs.View.{are_apart}
+use Rattle.check_watch.specs.Plan.{IsPlan, Layout}
 use Rattle.check_lines.specs.Names.{NamesView}
 use Rattle.check_start.specs.Loads.{SystemPlan, loads_of}
 use Rattle.check_start.specs.Slaves.{own_slaves, shared_slaves}
 use Rattle.check_start.specs.declared.start.Terms.{Terms}
 
+-- the bus of each master's link
 abbrev pub master_buses : List Master → List Bus
 master_buses masters = map (λ (master : Master). master.bus) masters
 
+-- the bus of each port's link
 abbrev pub port_buses : List Port → List Bus
 port_buses ports = map (λ (port : Port). port.bus) ports
 
@@ -22,6 +24,7 @@ abbrev pub layout_of : Terms → Description → Layout
 layout_of terms system = record {
   links = terms.links;
   apart = apart_of system.ports;
+  fifos = record { masters = master_fifos system.masters; ports = port_fifos system.ports };
   rules = system.rules;
   owners = system.owners;
   ports = ranges_of system.ports;

@@ -7,7 +7,7 @@ ghost use Rattle.check_start.specs.Numbers.{numbers_by as numbers_by_lists, plac
 
 use check_description::{Described, PlacedMaster};
 use check_rows::{PortNumbers, SourcePlace};
-use check_sides::{Links, is_port_alone};
+use check_turns::{Links, is_port_alone};
 use std::alloc::{AllocError, Global};
 use tl_map::{Owner, SourceOwners};
 

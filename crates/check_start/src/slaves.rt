@@ -8,7 +8,7 @@ ghost use Rattle.check_start.specs.Slaves.{image_at, order_at_masters as masters
 use check_description::{Port, error_slave, slave_of};
 use check_flight::{Order, PortSlave, SideOrders};
 use check_keys::SystemFault;
-use check_sides::Links;
+use check_turns::Links;
 use std::alloc::Global;
 
 /// The side on which a slave sees its requests.

@@ -4,10 +4,8 @@ ghost use Rattle.tl_map.specs.declared.limits.TheConstants.{MAX_JUDGED_MASTERS, 
 ghost use Rattle.check_keys.specs.declared.fault.SystemFault.TheVariants.{Memory};
 ghost use Rattle.check_description.specs.Port.{port_view};
 ghost use Rattle.check_description.specs.Master.{master_view};
-ghost use Rattle.check_sides.specs.Groups.{is_some_alone as is_some_by};
-ghost use Rattle.check_sides.specs.Plan.{Plan};
-ghost use Rattle.check_sides.specs.View.{Keeps};
-ghost use Rattle.check_unanswered.specs.View.{Holds};
+ghost use Rattle.check_turns.specs.View.{is_some_alone as is_some_by, KeepsOrdered};
+ghost use Rattle.check_watch.specs.Plan.{Plan};
 ghost use Rattle.check_lines.specs.Names.{texts_of};
 ghost use Rattle.check_rows.specs.PortNumbers.{numbers_in};
 ghost use Rattle.check_start.specs.Loads.{AreLoadsOf};
@@ -16,6 +14,7 @@ ghost use Rattle.check_start.specs.Slaves.{own_slaves as slaves_of_links, shared
 ghost use Rattle.check_start.specs.Start.{ByThePlan, layout_of, master_buses as buses_of_masters, system_names, port_buses as buses_of_ports};
 
 use crate::crossing::apart_of;
+use crate::fifos::fifos_of;
 use crate::loads::Loads;
 use crate::numbers::numbers_by;
 use crate::slaves::{SlaveSide, shared_side, slaves_of};
@@ -25,8 +24,7 @@ use check_flight::{PortSlave, SideOrders};
 use check_keys::SystemFault;
 use check_lines::Names;
 use check_rows::PortNumbers;
-use check_sides::{Links, Paths, Watch, is_some_alone};
-use check_unanswered::Pending;
+use check_turns::{Links, OrderedWatch, Paths, is_some_alone};
 use std::alloc::{AllocError, Global};
 use tl_map::{AddressMap, SourceOwners};
 
@@ -41,7 +39,7 @@ pub struct Terms {
 /// The judge of a system's beats, the names and buses of its links, what a reset loads, and the numbers of sources at ports' links.
 #[derive(Drop)]
 pub struct Beginning {
-    pub watch: Watch,
+    pub watch: OrderedWatch,
     pub names: Names,
     pub master_buses: Vec<Bus>,
     pub port_buses: Vec<Bus>,
@@ -208,7 +206,7 @@ pub fn begin(
 ) -> Result<Beginning, SystemFault>
     ensures layout { IfOk result (λ begun. begun.watch.layout ≡ layout_of terms system) }
     ensures keeps { IfOk result (λ begun.
-        ByThePlan terms system (map (λ image. image.items) images.now) (λ plan. Keeps plan.begins [] begun.watch)) }
+        ByThePlan terms system (map (λ image. image.items) images.now) (λ plan. KeepsOrdered plan.begins [] begun.watch)) }
     ensures resets { IfOk result (λ begun. begun.resets ≡ system.resets) }
     ensures loads { IfOk result (λ begun.
         ByThePlan terms system (map (λ image. image.items) images.now) (λ plan. AreLoadsOf plan begun.loads)) }
@@ -224,6 +222,7 @@ pub fn begin(
     let names = system_names(alloc, &system)?;
     let parts = system.into_parts();
     let apart = apart_of(alloc, &parts.ports)?;
+    let fifos = fifos_of(alloc, &parts.masters, &parts.ports)?;
     let slaves = reset_slaves(alloc, &parts.ports, images, terms, &apart)?;
     // one for the judge, and one for the reader of rows
     let buses = buses_of(alloc, &parts)?;
@@ -231,10 +230,11 @@ pub fn begin(
     let numbers = numbers_by(alloc, terms.links, &apart, &parts)?;
     let paths = Paths::new(parts.paths);
     let loads = Loads::of(alloc, parts.ports, images)?;
-    let watch = Watch::new(
+    let watch = OrderedWatch::new(
         alloc,
         terms.links,
         apart,
+        fifos,
         parts.rules,
         parts.addresses,
         paths,
@@ -253,11 +253,4 @@ pub fn begin(
         loads,
         numbers,
     })
-}
-
-/// The requests in flight of a judge that has seen no beat: none yet.
-pub fn pending_of(alloc: Global, watch: &Watch) -> Result<Pending, AllocError>
-    ensures { IfOk result (λ pending. (plan : Plan) → Keeps plan [] watch.now → Holds plan [] pending) }
-{
-    Pending::new(alloc, watch.sources())
 }

@@ -4,11 +4,9 @@ use Rattle.std.specs.Prelude.{Result, IfErr, IfOk}
 use Rattle.std.specs.Io.KnownBytes.{Appends, Keeps}
 use Rattle.csv.specs.Reading.{strip_bom}
 use Rattle.check_rows.specs.Row.{SeenRow}
-use Rattle.check_review.specs.Verdict.{HasCounts, HasLeft, IsFirstUnlawful, IsLawfulFile, IsToldBefore, IsToldEarlier, IsToldFile, IsToldPart, OfUnlawful}
+use Rattle.check_review.specs.Verdict.{HasCounts, HasLeft, IsFirstUnlawful, IsLawfulFile, IsToldBefore, IsToldEarlier, IsToldFile, IsToldPart, OfUnlawful, VerdictCounts, SystemPlan}
 use Rattle.check_review.specs.Covered.{IsCoveredBefore, IsCoveredFile}
-use Rattle.check_review.specs.View.{HasTold, Judges, is_asked, is_traced}
-use Rattle.check_review.specs.View.{JudgeView}
-use Rattle.check_lines.specs.declared.verdict.VerdictCounts.{VerdictCounts}
+use Rattle.check_review.specs.View.{HasTold, Judges, is_asked, is_traced, JudgeView}
 use Rattle.check_review.specs.declared.stop.Refusal.{Refusal}
 use Rattle.check_review.specs.declared.stop.Refusal.TheVariants as refusal
 use Rattle.check_review.specs.declared.tally.Tally.{Tally}
@@ -16,8 +14,7 @@ use Rattle.check_review.proofs.Judging.{part_before, part_of_file, told_earlier}
 use Rattle.check_records.specs.Source.{Between, TextLeft}
 use Rattle.check_records.specs.Text.{Ends, TextPlace, text_start}
 use Rattle.tl_streams.specs.Streams.{AppendsPart}
-use Rattle.check_start.specs.Loads.{SystemPlan}
-use Rattle.check_unanswered.specs.declared.request.Left.{Left as LeftOver}
+use Rattle.check_rows.specs.declared.request.Left.{Left as LeftOver}
 use Rattle.check_text.specs.Capture.{HasHeader, IsCovered, IsFault, IsVerdict, IsWritten, IsWrittenOf}
 use Rattle.check_text.specs.Out.{Finishes, WritesPart, is_cut}
 use Rattle.check_text.specs.Rows.{AllTaken, AreJudged, IsAnswer, IsCountedBy, IsJudged, IsJudgedAt, IsOut, IsToldBy, WroteBy, ended_with, verdict_refused}

@@ -8,7 +8,7 @@ use Rattle.check_flight.specs.Side.{bus_at}
 use Rattle.check_rows.specs.Buses.{HasBus, IsLinkOf, IsLinkOfRow}
 use Rattle.check_rows.specs.Moment.{IsLink}
 use Rattle.check_rows.specs.declared.row.Row.{Row}
-use Rattle.check_sides.specs.Plan.{Layout, bus_of}
+use Rattle.check_review.specs.View.{Layout, bus_of}
 use Rattle.check_watch.specs.declared.beat.Link.{Link}
 use Rattle.check_watch.specs.declared.beat.Link.TheVariants.{Master, Port}
 use Rattle.tl_map.specs.declared.limits.TheConstants.{MAX_JUDGED_MASTERS, MAX_JUDGED_PORTS}

@@ -6,7 +6,7 @@ use Rattle.check_records.specs.Source.{TextLeft}
 use Rattle.check_records.specs.Text.{IsTooLong, TextPlace, text_start}
 use Rattle.check_records.specs.declared.fault.RecordFault.{RecordFault}
 use Rattle.check_records.specs.declared.fault.RecordFault.TheVariants as record_fault
-use Rattle.check_start.specs.Loads.{SystemPlan}
+use Rattle.check_review.specs.Verdict.{SystemPlan}
 use Rattle.check_text.specs.Buses.{LinkBuses}
 use Rattle.check_text.specs.Capture.{HasHeaderFault, HasNoHeader}
 use Rattle.check_text.specs.Fault.{of_record}

@@ -4,10 +4,9 @@ use Rattle.std.proofs.Common.{◌≡◌, ◌∙◌, ℕ, inl, inr, true, false, 
 use Rattle.check_rows.specs.Row.{SeenRow}
 use Rattle.check_rows.specs.declared.fault.RowFault.{RowFault}
 use Rattle.check_review.specs.Order.{HasRowFault, IsLater}
-use Rattle.check_review.specs.Verdict.{IsFirstUnlawful, IsStop, IsToldBefore, IsToldEarlier, IsToldPart}
+use Rattle.check_review.specs.Verdict.{IsFirstUnlawful, IsStop, IsToldBefore, IsToldEarlier, IsToldPart, SystemPlan}
 use Rattle.check_review.specs.Covered.{CoversStop, IsCoveredBefore}
-use Rattle.check_review.specs.View.{HasTold, Judges, TellsStop, is_traced}
-use Rattle.check_review.specs.View.{JudgeView}
+use Rattle.check_review.specs.View.{HasTold, Judges, TellsStop, is_traced, JudgeView}
 use Rattle.check_review.specs.declared.stop.Stop.{Stop}
 use Rattle.check_review.specs.declared.stop.Stop.TheVariants as stop
 use Rattle.check_review.specs.declared.stop.Unlawful.{Unlawful}
@@ -15,14 +14,12 @@ use Rattle.check_review.specs.declared.tally.Tally.{Tally}
 use Rattle.check_review.proofs.Judging.{told_earlier, told_none}
 use Rattle.check_records.specs.Reading.{StopsLong}
 use Rattle.check_records.specs.Source.{Between, TextLeft}
-use Rattle.check_records.specs.Text.{GivesRecord, IsTooLong, TextPlace, Reads}
-use Rattle.check_records.specs.Text.{RecordRow as Record}
+use Rattle.check_records.specs.Text.{GivesRecord, IsTooLong, TextPlace, Reads, RecordRow as Record}
 use Rattle.check_records.specs.declared.fault.RecordFault.{RecordFault}
 use Rattle.check_records.specs.declared.fault.RecordFault.TheVariants as record_fault
 use Rattle.check_records.proofs.Chain.{reads-more}
 use Rattle.check_records.proofs.KnownLemmas.{between-trans}
 use Rattle.tl_streams.specs.Streams.{AppendsPart}
-use Rattle.check_start.specs.Loads.{SystemPlan}
 use Rattle.check_text.specs.Fault.{of_record}
 use Rattle.check_text.specs.Out.{Moves, WritesFront}
 use Rattle.check_text.specs.Rows.{AllTaken, GivesRow, HasNoRow, HasRows, IsJudged, IsJudgedAt, IsUnlawfulBefore, SpellAll, SpellsCapture, StopsAt, TakesNext, TellsBefore, Took, TookRows, answer_of, halt_of}

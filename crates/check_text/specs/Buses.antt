@@ -6,7 +6,7 @@ use Rattle.check_rows.specs.declared.buses.Buses as code_buses
 use Rattle.check_rows.specs.PortNumbers.{PortNumbers, numbered_row, numbers_in}
 use Rattle.check_rows.specs.Row.{SeenRow, row_of}
 use Rattle.check_rows.specs.declared.fault.RowFault.{RowFault}
-use Rattle.check_sides.specs.Plan.{Layout}
+use Rattle.check_review.specs.View.{Layout}
 
 -- the buses of the masters' links, and those of the ports'; whether there may be rows of resets; and by port the numbers of
 -- sources at its link, if it has any of its own

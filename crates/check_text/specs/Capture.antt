@@ -5,12 +5,10 @@ use Rattle.std.specs.Io.KnownBytes.{Appends}
 use Rattle.check_rows.specs.Row.{SeenRow}
 use Rattle.check_review.specs.Stretches.{Stretches}
 use Rattle.check_review.specs.Covered.{AppendsCoverage, HasCovered}
-use Rattle.check_review.specs.Verdict.{HasCounts, HasLeft, IsFirstUnlawful, IsLawfulFile}
+use Rattle.check_review.specs.Verdict.{HasCounts, HasLeft, IsFirstUnlawful, IsLawfulFile, SystemPlan}
 use Rattle.check_records.specs.Reading.{StopsLong}
 use Rattle.check_records.specs.Source.{Between, TextLeft}
-use Rattle.check_records.specs.Text.{Ends, GivesRecord, IsTooLong, TextPlace}
-use Rattle.check_records.specs.Text.{RecordRow as Record}
-use Rattle.check_start.specs.Loads.{SystemPlan}
+use Rattle.check_records.specs.Text.{Ends, GivesRecord, IsTooLong, TextPlace, RecordRow as Record}
 use Rattle.check_rows.specs.Column.{header}
 use Rattle.check_review.specs.declared.tally.Tally.{Tally}
 use Rattle.check_text.specs.Rows.{AreJudged, HasNoRow, HasRows, IsAnswer, IsOut, IsTimeOver, OfJudged}

@@ -3,3 +3,4 @@ pub mod Out
 pub mod Buses
 pub mod Rows
 pub mod Capture
+pub mod Review

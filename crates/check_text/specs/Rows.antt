@@ -6,12 +6,10 @@ use Rattle.check_rows.specs.Buses.{HasBus}
 use Rattle.check_rows.specs.Row.{SeenRow, seen_row}
 use Rattle.check_rows.specs.declared.row.Row.{Row}
 use Rattle.check_review.specs.Order.{HasRowFault, IsLater}
-use Rattle.check_review.specs.Verdict.{HasCounts, HasLeft, IsFirstUnlawful, IsLawfulFile, IsToldBefore, IsToldEarlier, IsToldFile, IsToldPart}
+use Rattle.check_review.specs.Verdict.{HasCounts, HasLeft, IsFirstUnlawful, IsLawfulFile, IsToldBefore, IsToldEarlier, IsToldFile, IsToldPart, VerdictCounts, SystemPlan}
 use Rattle.check_review.specs.Stretches.{Stretches}
 use Rattle.check_review.specs.Covered.{HasCovered, IsCoveredBefore, OfBefore, OfLawful}
-use Rattle.check_review.specs.View.{HasTold, Judges, TellsOn, is_asked, is_traced}
-use Rattle.check_review.specs.View.{JudgeView}
-use Rattle.check_lines.specs.declared.verdict.VerdictCounts.{VerdictCounts}
+use Rattle.check_review.specs.View.{HasTold, Judges, TellsOn, is_asked, is_traced, JudgeView}
 use Rattle.check_review.specs.declared.stop.Ending.{Ending}
 use Rattle.check_review.specs.declared.stop.Refusal.{Refusal}
 use Rattle.check_review.specs.declared.stop.Refusal.TheVariants as refusal
@@ -20,11 +18,9 @@ use Rattle.check_review.specs.declared.stop.Stop.TheVariants as stop
 use Rattle.check_review.specs.declared.stop.Unlawful.{Unlawful}
 use Rattle.check_review.specs.declared.tally.Tally.{Tally}
 use Rattle.check_records.specs.Source.{Between, TextLeft}
-use Rattle.check_records.specs.Text.{Ends, GivesRecord, IsTooLong, TextPlace, Reads}
-use Rattle.check_records.specs.Text.{RecordRow as Record}
+use Rattle.check_records.specs.Text.{Ends, GivesRecord, IsTooLong, TextPlace, Reads, RecordRow as Record}
 use Rattle.check_records.specs.Reading.{Reading, StopsLong}
-use Rattle.check_start.specs.Loads.{SystemPlan}
-use Rattle.check_unanswered.specs.declared.request.Left.{Left as LeftOver}
+use Rattle.check_rows.specs.declared.request.Left.{Left as LeftOver}
 use Rattle.check_text.specs.declared.fault.CaptureFault.{CaptureFault}
 use Rattle.check_text.specs.declared.fault.CaptureFault.TheVariants as fault
 use Rattle.check_text.specs.Out.{WritesAll, WritesFront, WritesPart, Wrote}

@@ -2,7 +2,7 @@
 ghost use Rattle.std.specs.Prelude.{◌≡◌, ◌≤◌, [], None, length, OnOk, IfOk, IfErr, IfSome};
 ghost use Rattle.check_records.specs.Source.{Between};
 ghost use Rattle.check_records.specs.Text.{text_start};
-ghost use Rattle.check_start.specs.Loads.{SystemPlan};
+ghost use Rattle.check_review.specs.Verdict.{SystemPlan};
 ghost use Rattle.check_review.specs.View.{Judges, is_asked, is_covered, is_traced};
 ghost use Rattle.check_text.specs.Buses.{HasBuses, link_buses};
 ghost use Rattle.check_text.specs.Capture.{HasHeader, HasHeaderFault, IsCovered, IsFault, IsVerdict, IsWritten};

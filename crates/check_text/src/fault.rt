@@ -2,11 +2,9 @@
 ghost use Rattle.std.specs.Prelude.{◌≡◌};
 ghost use Rattle.check_text.specs.Fault.{of_record};
 
-use check_lines::VerdictCounts;
 use check_records::RecordFault;
-use check_review::Unlawful;
-use check_rows::RowFault;
-use check_unanswered::Left;
+use check_review::{Unlawful, VerdictCounts};
+use check_rows::{Left, RowFault};
 use thiserror::Error;
 
 /// The verdict over a capture.

@@ -19,6 +19,7 @@ mod out;
 mod rows;
 
 pub use capture::judge_capture;
+pub use check_review::Judge;
 pub use fault::{CaptureFault, Verdict};
 pub use out::write_long;
 pub use rows::verdict_at_end;

@@ -3,7 +3,7 @@ use Rattle.std.proofs.Common.{◌≡◌, ◌∙◌, ℕ, ◌+◌, ◌≤◌, Boo
 use Rattle.std.specs.List.{AllByRecursion}
 use Rattle.check_sides.specs.Plan.{IsPlan, Layout, Plan, bus_of}
 use Rattle.check_rows.specs.Row.{SeenRow}
-use Rattle.check_start.specs.Loads.{SystemPlan}
+use Rattle.check_review.specs.Verdict.{SystemPlan}
 use Rattle.check_review.specs.Stretches.{AreStretches, GoOnWith, IsLawfulStretch, Stretch}
 use Rattle.check_text_laws.specs.Rules.{HaveLanes}
 

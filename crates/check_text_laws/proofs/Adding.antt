@@ -4,15 +4,13 @@ use Rattle.std.specs.List.{AllByRecursion}
 use Rattle.std.proofs.lemmas.List.Sorted.{length_permutation}
 use Rattle.check_sides.specs.Plan.{Layout}
 use Rattle.check_rows.specs.Row.{SeenRow}
-use Rattle.check_coverage.specs.declared.bin.Bin.{Bin}
+use Rattle.check_bins.specs.declared.bin.Bin.{Bin}
 use Rattle.check_coverage.specs.Bins.{bins}
-use Rattle.check_coverage.specs.Text.{TellsCoverage}
-use Rattle.check_lines.specs.declared.verdict.VerdictCounts.{VerdictCounts}
-use Rattle.check_start.specs.Loads.{SystemPlan}
+use Rattle.check_bins.specs.Text.{TellsCoverage}
+use Rattle.check_review.specs.Verdict.{VerdictCounts, SystemPlan, HasCounts}
 use Rattle.check_review.specs.Count.{answered_in, answered_in_past, asked_in, asked_in_past}
 use Rattle.check_review.specs.Order.{is_watched, watched}
 use Rattle.check_review.specs.Stretches.{IsLawfulStretch, Stretch, bins_in, sightings_in, stretches, watched_in}
-use Rattle.check_review.specs.Verdict.{HasCounts}
 use Rattle.check_text_laws.specs.Sums.{is_answered, is_asked, sum_of}
 use Rattle.check_text_laws.proofs.Across.{ended_lawful, rows_at_most, rows_in}
 use Rattle.check_text_laws.proofs.Numbers.{answered_at_most, answered_is, asked_at_most, asked_is, how_many, how_many-append}
@@ -67,14 +65,14 @@ all_answered (stretch ∷ ended) lawful =
     let sum = how_many-append is_answered (bins stretch.plan (watched_in stretch)) (bins_in ended) in
     let turned : how_many is_answered (bins_in (stretch ∷ ended)) % 2 ^ 64 ≡ (before + here) % 2 ^ 64 =
     ap (λ n. n % 2 ^ 64) (omega (arith, sum)) in
-    turned ∙ answered_is before stretch.plan (watched_in stretch) lawful.0
+    turned ∙ answered_is before stretch.plan (watched_in stretch) lawful.0.beats
     ∙ ap (λ n. answered_in_past n stretch.plan (sightings_in stretch)) (all_answered ended lawful.1)
 
 few_answered : (all : List Stretch) → AllByRecursion IsLawfulStretch all → how_many is_answered (bins_in all) ≤ rows_in all
 few_answered [] lawful = omega arith
 few_answered (stretch ∷ ended) lawful =
     let sum = how_many-append is_answered (bins stretch.plan (watched_in stretch)) (bins_in ended) in
-    let here = answered_at_most stretch.plan (watched_in stretch) lawful.0 in
+    let here = answered_at_most stretch.plan (watched_in stretch) lawful.0.beats in
     let few = watched_at_most stretch.plan.layout stretch.rows in
     let rest = few_answered ended lawful.1 in
     omega (arith, sum, here, few, rest)

@@ -12,15 +12,18 @@ use Rattle.check_watch.specs.declared.beat.Beat.TheVariants.{A, D}
 use Rattle.check_watch.specs.declared.seen.Ended.{Ended}
 use Rattle.check_sides.specs.Plan.{Plan, bus_of}
 use Rattle.check_rows.specs.Row.{SeenRow}
-use Rattle.check_coverage.specs.declared.bin.Bin.{Bin}
-use Rattle.check_coverage.specs.declared.bin.Bin.TheVariants as bin
-use Rattle.check_coverage.specs.declared.bin.CountedChannel.TheVariants as channel
-use Rattle.check_coverage.specs.Bins.{ask_bins, bins, bins_by, bins_of, contested_bins, contests, first_bins, is_of_port, last_bins, mask_bins, meets, of_found, operation_of, bin_pair, writes}
-use Rattle.check_coverage.specs.Flights.{InFlight, answered_at, end_of, flights_after, in_flight, is_counted, is_of, is_unaligned, ends_an_ask, ends_a_reply, wide_at}
+use Rattle.check_bins.specs.declared.bin.Bin.{Bin}
+use Rattle.check_bins.specs.declared.bin.Bin.TheVariants as bin
+use Rattle.check_bins.specs.declared.bin.CountedChannel.TheVariants as channel
+use Rattle.check_coverage.specs.Bins.{after_bins, ask_bins, bins, bins_by, bins_of, contested_bins, contests, first_bins, gap_bins, is_of_port, lane_bins, last_bins, mask_bins, meets, of_found, operation_of, bin_pair, place_bins, writes}
+use Rattle.check_coverage.specs.Flights.{InFlight, end_of, flights_after, in_flight, is_counted, is_of, is_unaligned, ends_an_ask, ends_a_reply, wide_at}
+use Rattle.check_coverage.specs.Latest.{is_last_ask, latest_at}
+use Rattle.check_coverage.specs.Times.{times_at}
+use Rattle.check_coverage.specs.declared.times.Times.{Times}
 use Rattle.check_coverage.specs.Mirrors.{MirrorsView, mirrors_at, place_of}
-use Rattle.check_coverage.specs.View.{bin_cmp, how_often}
-use Rattle.check_coverage.proofs.Counted.{how_often-append}
-use Rattle.check_coverage.proofs.Exact.{same}
+use Rattle.check_bins.specs.Counting.{bin_cmp, how_often}
+use Rattle.check_bins.proofs.Counted.{how_often-append}
+use Rattle.check_bins.proofs.Exact.{same}
 use Rattle.check_text_laws.proofs.Finding.{found, found_of, left, other_left, other_stays, own_found, own_left}
 
 -- two whole requests of the port, of different sources, do not meet
@@ -107,13 +110,13 @@ some_same x y is = cc
 
 -- ---- one beat more
 
-module _ (plan : Plan) (port bus own : ℕ) (flights : List InFlight) (time : ℕ) (at : Option ℕ) (end : Ended)
+module _ (plan : Plan) (port bus own : ℕ) (flights : List InFlight) (time : ℕ) (times : Times) (end : Ended)
     (before : ApartAt plan port flights) where
   abbrev contested : Bin
   contested = bin.Contested port
 
   module _ (beat : AskHead)
-      (none : how_often (bin.Contested port) (bins_by plan bus own flights time at (A beat) end) ≡ 0) where
+      (none : how_often (bin.Contested port) (bins_by plan bus own flights time times (A beat) end) ≡ 0) where
     abbrev next : List InFlight
     next = flights_after plan bus own flights (A beat) end
 
@@ -123,7 +126,11 @@ module _ (plan : Plan) (port bus own : ℕ) (flights : List InFlight) (time : �
     uncontested one here whole is_port = by (list_any (contests (mirrors_at plan one.port) one) next) refl
       where
         last : how_often contested (last_bins plan bus own next beat end) ≡ 0
-        last = never_last contested (first_bins plan own flights time at beat) (last_bins plan bus own next beat end) none
+        last =
+            let gaps = of_found (found own next) (gap_bins plan.layout.rules channel.A time times.asked) in
+            never_first contested (last_bins plan bus own next beat end) gaps
+            (never_last contested (first_bins plan own flights time times.answered beat)
+            (last_bins plan bus own next beat end ++ gaps) none)
 
         all : how_often contested (ask_bins plan bus next beat one) ≡ 0
         all =
@@ -135,9 +142,11 @@ module _ (plan : Plan) (port bus own : ℕ) (flights : List InFlight) (time : �
         mine =
             let pair = bin.Asked (bin_pair one) (operation_of one) (is_unaligned one.first) in
             let beats = bin.Beats (bin_pair one) channel.A (ask_beats bus beat) in
-            let tail = mask_bins one ++ contested_bins plan next one in
-            never_last contested (mask_bins one) (contested_bins plan next one)
-            (never_more contested beats tail (never_more contested pair (beats ∷ tail) all))
+            let rest = place_bins one.port one.place ++ lane_bins bus one in
+            let tail = mask_bins one ++ (contested_bins plan next one ++ rest) in
+            never_first contested (contested_bins plan next one) rest
+            (never_last contested (mask_bins one) (contested_bins plan next one ++ rest)
+            (never_more contested beats tail (never_more contested pair (beats ∷ tail) all)))
 
         by : (b : Bool) → list_any (contests (mirrors_at plan one.port) one) next ≡ b → b ≡ false
         by true is =
@@ -199,7 +208,7 @@ module _ (plan : Plan) (port bus own : ℕ) (flights : List InFlight) (time : �
           before wide other one two apart (still wide one here) (still other two there)
       go false = before
 
-  beat_apart : (beat : Beat) → how_often (bin.Contested port) (bins_by plan bus own flights time at beat end) ≡ 0
+  beat_apart : (beat : Beat) → how_often (bin.Contested port) (bins_by plan bus own flights time times beat end) ≡ 0
       → ApartAt plan port (flights_after plan bus own flights beat end)
   beat_apart (A beat) none = ask_apart beat none
   beat_apart (D beat) none = reply_apart beat
@@ -218,10 +227,15 @@ all_apart plan port (row ∷ before) none =
     (bins plan before) none)
     (all_apart plan port before (never_last (bin.Contested port) (bins_of plan before row) (bins plan before) none))
   where
+    beside : List Bin
+    beside = after_bins plan (wide_at plan row.sighting) (is_last_ask row.sighting.beat (end_of plan before row))
+        (flights_after plan (bus_of plan.layout row.sighting.link) (wide_at plan row.sighting) (in_flight plan before)
+        row.sighting.beat (end_of plan before row)) (λ other. latest_at plan before other)
+
     go : (counted : Bool) → how_often (bin.Contested port)
         (if counted
         then bins_by plan (bus_of plan.layout row.sighting.link) (wide_at plan row.sighting) (in_flight plan before) row.time
-        (answered_at plan before (wide_at plan row.sighting)) row.sighting.beat (end_of plan before row)
+        (times_at plan before (wide_at plan row.sighting)) row.sighting.beat (end_of plan before row) ++ beside
         else []) ≡ 0
         → ApartAt plan port (in_flight plan before)
         → ApartAt plan port (if counted
@@ -230,5 +244,8 @@ all_apart plan port (row ∷ before) none =
         else in_flight plan before)
     go true here apart =
         beat_apart plan port (bus_of plan.layout row.sighting.link) (wide_at plan row.sighting) (in_flight plan before)
-        row.time (answered_at plan before (wide_at plan row.sighting)) (end_of plan before row) apart row.sighting.beat here
+        row.time (times_at plan before (wide_at plan row.sighting)) (end_of plan before row) apart row.sighting.beat
+        (never_first (bin.Contested port) (bins_by plan (bus_of plan.layout row.sighting.link) (wide_at plan row.sighting)
+        (in_flight plan before) row.time (times_at plan before (wide_at plan row.sighting)) row.sighting.beat
+        (end_of plan before row)) beside here)
     go false here apart = apart

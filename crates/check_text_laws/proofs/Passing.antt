@@ -15,11 +15,10 @@ use Rattle.check_order_laws.specs.Open.{AreApart, NothingIsContested}
 use Rattle.check_order_laws.proofs.Tightening.{uncontested_is_tight}
 use Rattle.check_sides.specs.Groups.{shared_past}
 use Rattle.check_sides.specs.Lawful.{IsLawful}
-use Rattle.check_rows.specs.Row.{SeenRow}
-use Rattle.check_unanswered.specs.Began.{beats_of}
+use Rattle.check_rows.specs.Row.{SeenRow, beats_of}
 use Rattle.check_coverage.specs.Bins.{bins}
-use Rattle.check_coverage.specs.Text.{TellsCoverage}
-use Rattle.check_coverage.specs.declared.bin.Bin.{Bin}
+use Rattle.check_bins.specs.Text.{TellsCoverage}
+use Rattle.check_bins.specs.declared.bin.Bin.{Bin}
 use Rattle.check_text_laws.specs.Sums.{DifferUntold}
 use Rattle.check_text_laws.proofs.Rows.{shared_part}
 use Rattle.check_text_laws.proofs.Uncontested.{nothing_is_contested}

@@ -25,8 +25,7 @@ use Rattle.check_sides.specs.Lawful.{IsLawful}
 use Rattle.check_sides.specs.Plan.{bus_of}
 use Rattle.check_sides.proofs.Fresh.{shared_none}
 use Rattle.check_sides.proofs.Grouping.{in_group, shared_more, shared_same}
-use Rattle.check_rows.specs.Row.{SeenRow}
-use Rattle.check_unanswered.specs.Began.{beats_of}
+use Rattle.check_rows.specs.Row.{SeenRow, beats_of}
 use Rattle.check_coverage.specs.Flights.{InFlight, end_of, flights_after, in_flight, is_counted, ends_an_ask, ends_a_reply, wide_at}
 use Rattle.check_coverage.proofs.Lawful.{counted_together}
 use Rattle.check_text_laws.proofs.Finding.{found}

@@ -13,12 +13,10 @@ use Rattle.check_watch.specs.declared.links.Links.TheVariants.{Both, Masters, Po
 use Rattle.check_sides.specs.Plan.{Layout, IsPlan, HasLink, IsWatched, bus_of}
 use Rattle.check_rows.specs.Buses.{bus_of_link as row_bus}
 use Rattle.check_rows.specs.Row.{SeenRow}
-use Rattle.check_start.specs.Loads.{SystemPlan}
+use Rattle.check_review.specs.Verdict.{SystemPlan, IsLawfulFile, IsFirstUnlawful, VerdictCounts}
 use Rattle.check_review.specs.Stretches.{IsLawfulStretch, Stretch, sightings_in, stretches}
 use Rattle.check_review.specs.Order.{are_masters_watched, are_ports_watched, is_watched, sightings_of}
-use Rattle.check_review.specs.Verdict.{IsLawfulFile, IsFirstUnlawful}
-use Rattle.check_unanswered.specs.declared.request.Left.{Left}
-use Rattle.check_lines.specs.declared.verdict.VerdictCounts.{VerdictCounts}
+use Rattle.check_rows.specs.declared.request.Left.{Left}
 use Rattle.check_review.specs.declared.stop.Unlawful.{Unlawful}
 use Rattle.check_records.specs.Text.{TextPlace, RecordRow as Record}
 use Rattle.check_text.specs.Buses.{HasBuses, LinkBuses}
@@ -97,8 +95,9 @@ each_keeps : (layout : Layout) (all : List Stretch) → AllByRecursion (Fits lay
 each_keeps layout [] fit lawful = tt
 each_keeps layout (stretch ∷ ended) fit lawful = (
   record {
-    keeps = always_keeps stretch.plan (sightings_in stretch) fit.0.plan_is (stretch_watched layout stretch fit.0) lawful.0;
-    whole = all_compliant stretch.plan (sightings_in stretch) lawful.0;
+    keeps = always_keeps stretch.plan (sightings_in stretch) fit.0.plan_is (stretch_watched layout stretch fit.0) lawful.0.beats;
+    whole = all_compliant stretch.plan (sightings_in stretch) lawful.0.beats;
+    turns = lawful.0.turns;
   },
   each_keeps layout ended fit.1 lawful.1,
 )
@@ -127,8 +126,11 @@ rules_make_lawful_file plan file is have rules =
       crossed = rules.crossed;
       crossing = rules.crossing;
       course = course;
-      lawful = rules_make_lawful course.now.plan (sightings_in course.now) fit.0.plan_is
-          (stretch_watched plan.begins.layout course.now fit.0) rules.each.0.whole rules.each.0.keeps;
+      lawful = record {
+        beats = rules_make_lawful course.now.plan (sightings_in course.now) fit.0.plan_is
+            (stretch_watched plan.begins.layout course.now fit.0) rules.each.0.whole rules.each.0.keeps;
+        turns = rules.each.0.turns;
+      };
     }
 
 -- what stands after some of a list
@@ -157,16 +159,18 @@ unlawful_breaks plan file found is have first =
       course = course;
       each = each_keeps plan.begins.layout (stretches course) fit
           (first.is.lawful, ended_lawful plan first.before now course.ended course.are);
-      broken = λ whole keeps. first.is.unlawful
-          (rules_make_lawful now.plan (row.sighting ∷ sightings_in now) fit.0.plan_is (
-            record {
-              link = link.0;
-              watched = link.1;
-              lanes = subst (λ l. bus_of l row.sighting.link ≤ length row.sighting.lanes) (sym fit.0.layout_is)
-                  (here.0 first.beat);
-            },
-            stretch_watched plan.begins.layout now fit.0,
-          ) whole keeps);
+      broken = λ whole keeps turns. first.is.unlawful (record {
+        beats = rules_make_lawful now.plan (row.sighting ∷ sightings_in now) fit.0.plan_is (
+          record {
+            link = link.0;
+            watched = link.1;
+            lanes = subst (λ l. bus_of l row.sighting.link ≤ length row.sighting.lanes) (sym fit.0.layout_is)
+                (here.0 first.beat);
+          },
+          stretch_watched plan.begins.layout now fit.0,
+        ) whole keeps;
+        turns = turns;
+      });
     }
 
 -- ---- the rows of a text have the lanes that its system's buses give them

@@ -8,9 +8,9 @@ use Rattle.std.specs.List.Sorted.{IsStrictlySortedBy}
 use Rattle.std.specs.Map.{keys_of, lookup}
 use Rattle.std.specs.declared.cmp.Ordering.TheVariants.{Less}
 use Rattle.std.proofs.lemmas.Bool.{true≢false}
-use Rattle.check_coverage.specs.declared.bin.Bin.{Bin}
-use Rattle.check_coverage.specs.View.{bin_cmp, how_often}
-use Rattle.check_coverage.proofs.Exact.{exact_eq, same}
+use Rattle.check_bins.specs.declared.bin.Bin.{Bin}
+use Rattle.check_bins.specs.Counting.{bin_cmp, how_often}
+use Rattle.check_bins.proofs.Exact.{exact_eq, same}
 use Rattle.check_text_laws.specs.Sums.{sum_of}
 use Rattle.check_text_laws.proofs.Numbers.{how_many}
 

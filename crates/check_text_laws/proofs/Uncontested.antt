@@ -27,17 +27,16 @@ use Rattle.check_sides.specs.Lawful.{IsLawful}
 use Rattle.check_sides.specs.Plan.{IsPlan}
 use Rattle.check_sides.proofs.Fresh.{shared_none}
 use Rattle.check_sides.proofs.Grouping.{shared_more, shared_same}
-use Rattle.check_rows.specs.Row.{SeenRow}
-use Rattle.check_unanswered.specs.Began.{beats_of}
-use Rattle.check_coverage.specs.declared.bin.Bin.{Bin}
-use Rattle.check_coverage.specs.declared.bin.Bin.TheVariants as bin
+use Rattle.check_rows.specs.Row.{SeenRow, beats_of}
+use Rattle.check_bins.specs.declared.bin.Bin.{Bin}
+use Rattle.check_bins.specs.declared.bin.Bin.TheVariants as bin
 use Rattle.check_coverage.specs.Bins.{bins, bins_of, meets, writes}
 use Rattle.check_coverage.specs.Flights.{InFlight, in_flight}
 use Rattle.check_coverage.specs.Mirrors.{mirrors_of, place_of}
-use Rattle.check_coverage.specs.Text.{TellsCoverage}
-use Rattle.check_coverage.specs.View.{bin_cmp, how_often}
-use Rattle.check_coverage.proofs.Counted.{how_often-append}
-use Rattle.check_coverage.proofs.Exact.{exact_eq}
+use Rattle.check_bins.specs.Text.{TellsCoverage}
+use Rattle.check_bins.specs.Counting.{bin_cmp, how_often}
+use Rattle.check_bins.proofs.Counted.{how_often-append}
+use Rattle.check_bins.proofs.Exact.{exact_eq}
 use Rattle.check_text_laws.specs.Sums.{TellsNoContest}
 use Rattle.check_text_laws.proofs.Apart.{OfFronts, fronts_more, fronts_none}
 use Rattle.check_text_laws.proofs.Finding.{found}

@@ -2,14 +2,13 @@
 use Rattle.std.specs.Prelude.{◌≡◌, ◌≤◌, Bool, false, List, ◌∷◌, ◌++◌, Some, None, length}
 use Rattle.std.specs.List.{AllByRecursion}
 use Rattle.check_sides.specs.Plan.{Layout, bus_of}
+use Rattle.check_turns.specs.Turns.{AreInTurn}
 use Rattle.check_rows.specs.Row.{SeenRow}
 use Rattle.check_rows.specs.declared.row.Row.{Row}
-use Rattle.check_start.specs.Loads.{SystemPlan}
+use Rattle.check_review.specs.Verdict.{SystemPlan, HasCounts, HasLeft, IsNamedBy, VerdictCounts}
 use Rattle.check_review.specs.Order.{IsCrossing}
 use Rattle.check_review.specs.Stretches.{Stretch, Stretches, sightings_in, stretches}
-use Rattle.check_review.specs.Verdict.{HasCounts, HasLeft, IsNamedBy}
-use Rattle.check_unanswered.specs.declared.request.Left.{Left}
-use Rattle.check_lines.specs.declared.verdict.VerdictCounts.{VerdictCounts}
+use Rattle.check_rows.specs.declared.request.Left.{Left}
 use Rattle.check_review.specs.declared.stop.Unlawful.{Unlawful}
 use Rattle.check_records.specs.Text.{TextPlace}
 use Rattle.check_text.specs.Capture.{Begins, IsCapture}
@@ -22,11 +21,12 @@ abbrev pub HaveLanes : Layout → List SeenRow → Type 0
 HaveLanes layout rows =
     AllByRecursion (λ row. row.is_reset ≡ false → bus_of layout row.sighting.link ≤ length row.sighting.lanes) rows
 
--- what the rows of a stretch show of the links that are watched keeps the rules at each moment, and each lane that carries a
--- byte, and has to be known, was known
+-- what the rows of a stretch show of the links that are watched keeps the rules at each moment, each lane that carries a
+-- byte, and has to be known, was known, and where the system says so replies begin in the order of their requests
 pub record StretchKeepsRules (stretch : Stretch) : Type 0 where
   pub keeps : EachGroupKeepsRules stretch.plan (sightings_in stretch)
   pub whole : AreAllCompliant stretch.plan (sightings_in stretch)
+  pub turns : AreInTurn stretch.plan (sightings_in stretch)
 
 -- in the order in which the rows of a file cross, each stretch between resets keeps the rules, by the plan by which the system
 -- goes on since the reset before it
@@ -36,8 +36,8 @@ pub record FileKeepsRules (plan : SystemPlan) (file : List SeenRow) : Type 0 whe
   pub course : Stretches plan crossed
   pub each : AllByRecursion StretchKeepsRules (stretches course)
 
--- up to the row that is named the rules are kept at each moment, and with it they are not, or a lane of it that carries a
--- byte, and has to be known, was not
+-- up to the row that is named the rules are kept at each moment. With it they are not, or a lane of it that carries a byte,
+-- and has to be known, was not, or it begins a reply out of turn
 pub record BreaksRules (plan : SystemPlan) (file : List SeenRow) (named : Row) : Type 0 where
   pub row : SeenRow
   pub is : IsNamedBy row named
@@ -47,7 +47,8 @@ pub record BreaksRules (plan : SystemPlan) (file : List SeenRow) (named : Row) :
   pub course : Stretches plan before
   pub each : AllByRecursion StretchKeepsRules (stretches course)
   pub broken : AreAllCompliant course.now.plan (row.sighting ∷ sightings_in course.now)
-      → EachGroupKeepsRules course.now.plan (row.sighting ∷ sightings_in course.now) → ⊥
+      → EachGroupKeepsRules course.now.plan (row.sighting ∷ sightings_in course.now)
+      → AreInTurn course.now.plan (row.sighting ∷ sightings_in course.now) → ⊥
 
 -- from a place on a text is a capture, its rows keep the rules, and so many they are; if it is asked, no request is left
 pub record CaptureKeepsRules (asked : Bool) (plan : SystemPlan) (buses : LinkBuses) (from : TextPlace) (counts : VerdictCounts) : Type 0 where

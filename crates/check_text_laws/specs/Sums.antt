@@ -4,32 +4,18 @@ use Rattle.std.specs.List.{AllByRecursion}
 use Rattle.check_flight.specs.declared.order.Order.TheVariants.{Accept}
 use Rattle.check_watch.specs.Plan.{Plan}
 use Rattle.check_watch_laws.specs.Memories.{order_at}
-use Rattle.check_coverage.specs.declared.bin.Bin.{Bin}
-use Rattle.check_coverage.specs.declared.bin.Bin.TheVariants.{Asked, Answered, Beats, Mask, InFlight, AtPort, Overtook, Again, Contested}
+use Rattle.check_bins.specs.declared.bin.Bin.{Bin}
+use Rattle.check_bins.specs.declared.bin.Bin.TheVariants.{Asked, Answered, Contested}
 
 -- the bin is one of requests
 abbrev pub is_asked : Bin → Bool
 is_asked (Asked pair operation is_unaligned) = true
-is_asked (Answered pair operation is_denied) = false
-is_asked (Beats pair channel beats) = false
-is_asked (Mask pair shape) = false
-is_asked (InFlight master requests) = false
-is_asked (AtPort port requests) = false
-is_asked (Overtook pair) = false
-is_asked (Again master least) = false
-is_asked (Contested port) = false
+is_asked other = false
 
 -- the bin is one of replies
 abbrev pub is_answered : Bin → Bool
-is_answered (Asked pair operation is_unaligned) = false
 is_answered (Answered pair operation is_denied) = true
-is_answered (Beats pair channel beats) = false
-is_answered (Mask pair shape) = false
-is_answered (InFlight master requests) = false
-is_answered (AtPort port requests) = false
-is_answered (Overtook pair) = false
-is_answered (Again master least) = false
-is_answered (Contested port) = false
+is_answered other = false
 
 -- the counts of all bins of a kind, added up
 abbrev pub sum_of : (Bin → Bool) → List (Bin × ℕ) → ℕ

@@ -8,17 +8,14 @@ ghost use Rattle.check_watch_laws.specs.Whenever.{AreFresh};
 ghost use Rattle.check_sides.specs.Groups.{shared_past};
 ghost use Rattle.check_sides.specs.Lawful.{IsLawful};
 ghost use Rattle.check_sides.specs.Plan.{IsPlan};
-ghost use Rattle.check_rows.specs.Row.{SeenRow};
-ghost use Rattle.check_unanswered.specs.Began.{beats_of};
+ghost use Rattle.check_rows.specs.Row.{SeenRow, beats_of};
 ghost use Rattle.check_order_laws.specs.Looser.{IsLooser};
 ghost use Rattle.check_order_laws.specs.Open.{NothingIsContested};
 ghost use Rattle.check_coverage.specs.Bins.{bins};
-ghost use Rattle.check_coverage.specs.Text.{TellsCoverage};
-ghost use Rattle.check_coverage.specs.declared.bin.Bin.{Bin};
-ghost use Rattle.check_lines.specs.declared.verdict.VerdictCounts.{VerdictCounts};
-ghost use Rattle.check_start.specs.Loads.{SystemPlan};
+ghost use Rattle.check_bins.specs.Text.{TellsCoverage};
+ghost use Rattle.check_bins.specs.declared.bin.Bin.{Bin};
+ghost use Rattle.check_review.specs.Verdict.{VerdictCounts, SystemPlan, HasCounts};
 ghost use Rattle.check_review.specs.Stretches.{IsLawfulStretch, bins_in, stretches};
-ghost use Rattle.check_review.specs.Verdict.{HasCounts};
 ghost use Rattle.check_text_laws.specs.Sums.{DifferUntold, TellsNoContest, is_answered, is_asked, sum_of};
 
 /// Of a file of fewer than 2^64 rows: the counts of all bins `asked` add up to the requests that the verdict counts; if the

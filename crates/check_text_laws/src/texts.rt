@@ -2,10 +2,8 @@
 ghost use Rattle.std.specs.Prelude.{Bool, List};
 ghost use Rattle.check_sides.specs.Plan.{IsPlan};
 ghost use Rattle.check_rows.specs.Row.{SeenRow};
-ghost use Rattle.check_start.specs.Loads.{SystemPlan};
-ghost use Rattle.check_review.specs.Verdict.{IsLawfulFile};
-ghost use Rattle.check_unanswered.specs.declared.request.Left.{Left};
-ghost use Rattle.check_lines.specs.declared.verdict.VerdictCounts.{VerdictCounts};
+ghost use Rattle.check_review.specs.Verdict.{SystemPlan, IsLawfulFile, VerdictCounts};
+ghost use Rattle.check_rows.specs.declared.request.Left.{Left};
 ghost use Rattle.check_review.specs.declared.stop.Unlawful.{Unlawful as Found};
 ghost use Rattle.check_records.specs.Text.{TextPlace};
 ghost use Rattle.check_text.specs.Capture.{IsVerdict};

@@ -9,9 +9,9 @@ use Rattle.check_watch.specs.Past.{state}
 use Rattle.check_sides.specs.Groups.{shared_past}
 use Rattle.check_sides.specs.Pending.{IsInFlightAt}
 use Rattle.check_sides.specs.Plan.{Plan}
-use Rattle.check_rows.specs.Row.{SeenRow}
-use Rattle.check_unanswered.specs.declared.request.Began.{Began}
-use Rattle.check_unanswered.specs.Began.{beats_of, began, began_with, is_idle, turn_at}
+use Rattle.check_rows.specs.Row.{SeenRow, beats_of}
+use Rattle.check_rows.specs.declared.request.Began.{Began}
+use Rattle.check_unanswered.specs.Began.{began, began_with, is_idle, turn_at}
 
 -- ---- turns
 

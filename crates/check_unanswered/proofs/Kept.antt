@@ -11,11 +11,11 @@ use Rattle.check_watch.specs.declared.pending.Origin.{Origin}
 use Rattle.check_watch.specs.Pending.{IsBegin, IsEnd, OthersStay}
 use Rattle.check_sides.specs.Pending.{IsChange, IsInFlightAt}
 use Rattle.check_sides.specs.Plan.{Layout, Plan}
-use Rattle.check_rows.specs.Row.{SeenRow}
-use Rattle.check_unanswered.specs.declared.request.Began.{Began}
-use Rattle.check_unanswered.specs.declared.request.Left.{Left}
-use Rattle.check_unanswered.specs.declared.request.Open.{Open}
-use Rattle.check_unanswered.specs.Began.{IsCompleteOn, IsLeftOn, beats_of, began, began_with}
+use Rattle.check_rows.specs.Row.{SeenRow, beats_of}
+use Rattle.check_rows.specs.declared.request.Began.{Began}
+use Rattle.check_rows.specs.declared.request.Left.{Left}
+use Rattle.check_rows.specs.declared.request.Open.{Open}
+use Rattle.check_unanswered.specs.Began.{IsCompleteOn, IsLeftOn, began, began_with}
 use Rattle.check_unanswered.specs.Table.{IsEarliestOf, open_at, opens}
 use Rattle.check_unanswered.specs.View.{Holds, IsOf, PendingView, open_table, with_open}
 use Rattle.check_unanswered.proofs.Flights.{began_busy, began_none, began_now, began_some, began_stays}

@@ -1,9 +1,9 @@
 -- Which requests are in flight after some rows, and with which row each began. Lists of rows have the latest first; they
 -- are rows of links that are watched. This project's own.
-use Rattle.std.specs.Prelude.{◌≡◌, ◌⊎◌, ◌↔◌, ℕ, ◌≤◌, ◌%◌, ◌^◌, Bool, true, false, if◌then◌else◌, List, [], ◌∷◌, map, length, Contains, Option, Some, None}
+use Rattle.std.specs.Prelude.{◌≡◌, ◌⊎◌, ◌↔◌, ℕ, ◌≤◌, ◌%◌, ◌^◌, Bool, true, false, if◌then◌else◌, List, [], ◌∷◌, length, Contains, Option, Some, None}
 use Rattle.std.specs.List.Sorted.{IsStrictlyIncreasing}
 use Rattle.tl_map.specs.Owner.{IsWideSource}
-use Rattle.check_watch.specs.Plan.{Sighting, seen_at, LinkSide}
+use Rattle.check_watch.specs.Plan.{LinkSide}
 use Rattle.check_flight.specs.Flight.{Turn}
 use Rattle.check_flight.specs.Flight.Turn.{Idle, Asking, Asked}
 use Rattle.check_watch.specs.Plan.LinkSide.{AtMasters, AtPorts}
@@ -11,23 +11,9 @@ use Rattle.check_watch.specs.Past.{state}
 use Rattle.check_sides.specs.Groups.{shared_past}
 use Rattle.check_sides.specs.Pending.{IsInFlightAt}
 use Rattle.check_sides.specs.Plan.{Plan}
-use Rattle.check_rows.specs.Row.{SeenRow}
-use Rattle.check_rows.specs.declared.row.Row.{Row}
-use Rattle.check_unanswered.specs.declared.request.Began.{Began}
-use Rattle.check_unanswered.specs.declared.request.Left.{Left}
-
--- a row with these lanes
-abbrev pub row_with : Row → List ℕ → SeenRow
-row_with row lanes = record {
-  line = row.line;
-  time = row.time;
-  is_reset = row.is_reset;
-  sighting = seen_at row.link row.beat row.known lanes;
-}
-
--- what crossed
-abbrev pub beats_of : List SeenRow → List Sighting
-beats_of rows = map (λ (row : SeenRow). row.sighting) rows
+use Rattle.check_rows.specs.Row.{SeenRow, beats_of}
+use Rattle.check_rows.specs.declared.request.Began.{Began}
+use Rattle.check_rows.specs.declared.request.Left.{Left}
 
 -- what is in flight of a wide source, on a side of the links that are judged together
 abbrev pub turn_at : Plan → List SeenRow → LinkSide → ℕ → Turn

@@ -1,7 +1,7 @@
 -- A table of the requests in flight of each wide source. This project's own.
 use Rattle.std.specs.Prelude.{◌≡◌, ℕ, ◌≤◌, List, [], ◌∷◌, length, Contains, Option, Some, None, slice_get, unwrap_or}
-use Rattle.check_unanswered.specs.declared.request.Left.{Left}
-use Rattle.check_unanswered.specs.declared.request.Open.{Open}
+use Rattle.check_rows.specs.declared.request.Left.{Left}
+use Rattle.check_rows.specs.declared.request.Open.{Open}
 
 -- the request in flight of a wide source
 abbrev pub open_at : List (Option Open) → ℕ → Option Open

@@ -7,7 +7,7 @@ use Rattle.check_sides.specs.Plan.{Plan}
 use Rattle.check_rows.specs.Row.{SeenRow}
 use Rattle.check_unanswered.specs.Began.{began}
 use Rattle.check_unanswered.specs.Table.{open_at}
-use Rattle.check_unanswered.specs.declared.request.Open.{Open}
+use Rattle.check_rows.specs.declared.request.Open.{Open}
 
 -- the request in flight of each wide source, on each side, and how many rows were judged
 pub record PendingView : Type 0 where

@@ -1,9 +1,9 @@
 //! What is in flight on one side.
 ghost use Rattle.std.specs.Prelude.{◌≡◌, ◌+◌, ◌^◌, ◌<◌, [], ◌∷◌, ◌++◌, List, Option, Some, length, IfNone, IfSome};
 ghost use Rattle.check_unanswered.specs.Table.{IsEarliestOf, IsOldestOf, opens};
-ghost use Rattle.check_unanswered.specs.declared.request.Open.{Open as IsOpen};
+ghost use Rattle.check_rows.specs.declared.request.Open.{Open as IsOpen};
 
-use crate::request::{Left, Open};
+use check_rows::{Left, Open};
 
 /// The older of two requests, if there was one before.
 fn older(first: Option<Open>, ask: &Open) -> Open

@@ -13,7 +13,6 @@
 
 mod left;
 mod pending;
-mod request;
 
+pub use check_rows::{Began, Left, Open};
 pub use pending::Pending;
-pub use request::{Began, Left, Open};

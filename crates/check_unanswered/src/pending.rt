@@ -1,16 +1,15 @@
 //! The requests in flight.
 ghost use Rattle.std.specs.Prelude.{◌≡◌, [], ◌∷◌, ℕ, List, None, length, map, slice_set, IfNone, IfOk, IfSome};
-ghost use Rattle.check_rows.specs.Row.{SeenRow};
+ghost use Rattle.check_rows.specs.Row.{SeenRow, beats_of, row_with};
 ghost use Rattle.check_sides.specs.Pending.{IsChange};
 ghost use Rattle.check_sides.specs.Plan.{Plan};
-ghost use Rattle.check_unanswered.specs.Began.{IsComplete, IsLeft, beats_of, row_with};
+ghost use Rattle.check_unanswered.specs.Began.{IsComplete, IsLeft};
 ghost use Rattle.check_unanswered.specs.Table.{open_at};
 ghost use Rattle.check_unanswered.specs.View.{Holds, with_open};
 ghost use Rattle.check_watch.specs.Plan.{side_of};
 
 use crate::left::left_in;
-use crate::request::{Began, Left, Open};
-use check_rows::Row;
+use check_rows::{Began, Left, Open, Row};
 use check_watch::{Change, Link};
 use std::alloc::{AllocError, Global};
 use std::marker::Model;

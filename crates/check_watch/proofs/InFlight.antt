@@ -58,7 +58,7 @@ of_is plan x side wide is =
     let both = both_true (same_side (side_of x.link) side) (wide_of plan x.link (source_of x.beat) == wide) is in
     (same_side-true (side_of x.link) side both.0, eqb-true (wide_of plan x.link (source_of x.beat)) wide both.1)
 
-same_link : (a b : Link) → is_link a (side_of b) (link_number b) ≡ true → a ≡ b
+pub same_link : (a b : Link) → is_link a (side_of b) (link_number b) ≡ true → a ≡ b
 same_link (Master m) (Master n) is = ap (λ k. Master k) (eqb-true m n is)
 same_link (Master m) (Port n) is = cc
 same_link (Port m) (Master n) is = cc

@@ -18,7 +18,7 @@ use Rattle.check_watch.specs.declared.beat.Beat.TheVariants.{A, D}
 use Rattle.check_watch.specs.declared.beat.Link.{Link}
 use Rattle.check_watch.specs.declared.beat.Link.TheVariants.{Master, Port}
 use Rattle.check_watch.specs.declared.fault.Reason.{Reason}
-use Rattle.check_watch.specs.declared.fault.Reason.TheVariants.{Form, NoSuchSource, SourceBusy, WrongPort, NoRequest, EarlyReply, WrongSize, WrongOpcode, UnknownData, NotSent, NotGiven, WrongReply}
+use Rattle.check_watch.specs.declared.fault.Reason.TheVariants.{Form, NoSuchSource, SourceBusy, WrongPort, NoRequest, EarlyReply, OutOfOrder, WrongSize, WrongOpcode, UnknownData, NotSent, NotGiven, WrongReply}
 use Rattle.check_watch.specs.Allowed.{IsSent, BeginsFree, BeginsPlaced, EndsSent, IsAllowedAsk}
 use Rattle.check_watch.specs.Faults.{HasAskReason, IsFirstAskReason, reason_rank}
 use Rattle.check_watch.specs.Past.{port_in, port_of}
@@ -141,7 +141,7 @@ pub record AskUpTo (layout : Layout) (link : Link) (scene : Scene) (beat : AskHe
   pub source : HasSource layout link beat.source
   pub free : 10 < rank → BeginsFree scene
   pub placed : 11 < rank → BeginsPlaced layout link scene beat
-  pub sent : 17 < rank → EndsSent layout link scene beat lanes
+  pub sent : 18 < rank → EndsSent layout link scene beat lanes
 
 module _ (layout : Layout) (link : Link) (scene : Scene) (beat : AskHead) (known : ℕ) (lanes : List ℕ) where
   none_before_ask : (rank : ℕ) → AskUpTo layout link scene beat known lanes rank
@@ -153,6 +153,7 @@ module _ (layout : Layout) (link : Link) (scene : Scene) (beat : AskHead) (known
   none_before_ask rank up WrongPort lower has = has (up.placed lower)
   none_before_ask rank up NoRequest lower has = has
   none_before_ask rank up EarlyReply lower has = has
+  none_before_ask rank up OutOfOrder lower has = has
   none_before_ask rank up WrongSize lower has = has
   none_before_ask rank up WrongOpcode lower has = has
   none_before_ask rank up UnknownData lower has = has
@@ -187,6 +188,7 @@ module _ (layout : Layout) (link : Link) (scene : Scene) (beat : AskHead) (known
   no_ask_reason allowed WrongPort has = has allowed.placed
   no_ask_reason allowed NoRequest has = has
   no_ask_reason allowed EarlyReply has = has
+  no_ask_reason allowed OutOfOrder has = has
   no_ask_reason allowed WrongSize has = has
   no_ask_reason allowed WrongOpcode has = has
   no_ask_reason allowed UnknownData has = has

@@ -17,7 +17,7 @@ use Rattle.check_flight.proofs.Known.{stays_answering}
 use Rattle.check_watch.specs.declared.beat.Beat.TheVariants.{D}
 use Rattle.check_watch.specs.declared.beat.Link.{Link}
 use Rattle.check_watch.specs.declared.fault.Reason.{Reason}
-use Rattle.check_watch.specs.declared.fault.Reason.TheVariants.{Form, NoSuchSource, SourceBusy, WrongPort, NoRequest, EarlyReply, WrongSize, WrongOpcode, UnknownData, NotSent, NotGiven, WrongReply}
+use Rattle.check_watch.specs.declared.fault.Reason.TheVariants.{Form, NoSuchSource, SourceBusy, WrongPort, NoRequest, EarlyReply, OutOfOrder, WrongSize, WrongOpcode, UnknownData, NotSent, NotGiven, WrongReply}
 use Rattle.check_watch.specs.Allowed.{OfAsked, IsAnswer, IsMust, IsAllowedReply}
 use Rattle.check_watch.specs.Faults.{HasAnswerReason, HasEndReason, EndsWith, HasReplyReason, IsFirstReplyReason, reason_rank}
 use Rattle.check_watch.specs.Past.{port_of, slave_at}
@@ -43,13 +43,14 @@ no_form_fault begun beat fits CorruptFlag has =
 no_form_fault begun beat fits UnknownLanes has = has
 
 module _ (number : ℕ) (turn : Turn) (bus : ℕ) (unknown : Bool) (beat : ReplyHead) (known : ℕ) where
-  answer_rank : (reason : Reason) → HasAnswerReason number turn bus unknown beat known reason → reason_rank reason ≤ 16
+  answer_rank : (reason : Reason) → HasAnswerReason number turn bus unknown beat known reason → reason_rank reason ≤ 17
   answer_rank (Form f) has = absurd has
   answer_rank NoSuchSource has = absurd has
   answer_rank SourceBusy has = absurd has
   answer_rank WrongPort has = absurd has
   answer_rank NoRequest has = omega arith
   answer_rank EarlyReply has = omega arith
+  answer_rank OutOfOrder has = absurd has
   answer_rank WrongSize has = omega arith
   answer_rank WrongOpcode has = omega arith
   answer_rank UnknownData has = omega arith
@@ -69,6 +70,7 @@ no_answer_reason number (Asked at ask) bus unknown beat known answers SourceBusy
 no_answer_reason number (Asked at ask) bus unknown beat known answers WrongPort has = has
 no_answer_reason number (Asked at ask) bus unknown beat known answers NoRequest has = has answers.0
 no_answer_reason number (Asked at ask) bus unknown beat known answers EarlyReply has = absurd (cc)
+no_answer_reason number (Asked at ask) bus unknown beat known answers OutOfOrder has = has
 no_answer_reason number (Asked at ask) bus unknown beat known answers WrongSize has = has.1 answers.1.size
 no_answer_reason number (Asked at ask) bus unknown beat known answers WrongOpcode has = has.1 answers.1.opcode
 no_answer_reason number (Asked at ask) bus unknown beat known answers UnknownData has = has.1 answers.1.lanes
@@ -99,6 +101,7 @@ module _ (layout : Layout) (link : Link) (scene : Scene) (beat : ReplyHead) (kno
   answer_applies WrongPort has = absurd has
   answer_applies NoRequest has = has
   answer_applies EarlyReply has = has
+  answer_applies OutOfOrder has = absurd has
   answer_applies WrongSize has = has
   answer_applies WrongOpcode has = has
   answer_applies UnknownData has = has
@@ -106,7 +109,7 @@ module _ (layout : Layout) (link : Link) (scene : Scene) (beat : ReplyHead) (kno
   answer_applies NotGiven has = absurd has
   answer_applies WrongReply has = absurd has
 
-  none_before_answer : (rank : ℕ) → rank ≤ 16
+  none_before_answer : (rank : ℕ) → rank ≤ 17
       → ((other : Reason) → reason_rank other < rank → HasHere other → ⊥)
       → (other : Reason) → reason_rank other < rank → HasReplyReason layout link scene beat known lanes other → ⊥
   none_before_answer rank small none (Form f) lower has = no_form_fault (first_reply scene.under.replying) beat fits f has
@@ -115,6 +118,7 @@ module _ (layout : Layout) (link : Link) (scene : Scene) (beat : ReplyHead) (kno
   none_before_answer rank small none WrongPort lower has = has
   none_before_answer rank small none NoRequest lower has = none NoRequest lower has
   none_before_answer rank small none EarlyReply lower has = none EarlyReply lower has
+  none_before_answer rank small none OutOfOrder lower has = has
   none_before_answer rank small none WrongSize lower has = none WrongSize lower has
   none_before_answer rank small none WrongOpcode lower has = none WrongOpcode lower has
   none_before_answer rank small none UnknownData lower has = none UnknownData lower has
@@ -141,6 +145,7 @@ module _ (layout : Layout) (link : Link) (scene : Scene) (beat : ReplyHead) (kno
   end_applies WrongPort has = absurd has.1
   end_applies NoRequest has = absurd has.1
   end_applies EarlyReply has = absurd has.1
+  end_applies OutOfOrder has = absurd has.1
   end_applies WrongSize has = absurd has.1
   end_applies WrongOpcode has = absurd has.1
   end_applies UnknownData has = absurd has.1
@@ -158,6 +163,7 @@ module _ (layout : Layout) (link : Link) (scene : Scene) (beat : ReplyHead) (kno
   none_before_end answers reason ends WrongPort lower has = has
   none_before_end answers reason ends NoRequest lower has = no_answer_reason _ _ _ _ _ _ answers NoRequest has
   none_before_end answers reason ends EarlyReply lower has = no_answer_reason _ _ _ _ _ _ answers EarlyReply has
+  none_before_end answers reason ends OutOfOrder lower has = has
   none_before_end answers reason ends WrongSize lower has = no_answer_reason _ _ _ _ _ _ answers WrongSize has
   none_before_end answers reason ends WrongOpcode lower has = no_answer_reason _ _ _ _ _ _ answers WrongOpcode has
   none_before_end answers reason ends UnknownData lower has = no_answer_reason _ _ _ _ _ _ answers UnknownData has
@@ -171,6 +177,7 @@ module _ (layout : Layout) (link : Link) (scene : Scene) (beat : ReplyHead) (kno
   none_before_end answers WrongPort ends NotGiven lower has = ends.1
   none_before_end answers NoRequest ends NotGiven lower has = ends.1
   none_before_end answers EarlyReply ends NotGiven lower has = ends.1
+  none_before_end answers OutOfOrder ends NotGiven lower has = ends.1
   none_before_end answers WrongSize ends NotGiven lower has = ends.1
   none_before_end answers WrongOpcode ends NotGiven lower has = ends.1
   none_before_end answers UnknownData ends NotGiven lower has = ends.1
@@ -178,7 +185,7 @@ module _ (layout : Layout) (link : Link) (scene : Scene) (beat : ReplyHead) (kno
   none_before_end answers reason ends WrongReply lower has =
       let rank = at_most reason in omega (arith, lower, rank)
     where
-      at_most : (r : Reason) → reason_rank r ≤ 19
+      at_most : (r : Reason) → reason_rank r ≤ 20
       at_most (Form Changed) = omega arith
       at_most (Form Opcode) = omega arith
       at_most (Form Param) = omega arith
@@ -192,6 +199,7 @@ module _ (layout : Layout) (link : Link) (scene : Scene) (beat : ReplyHead) (kno
       at_most WrongPort = omega arith
       at_most NoRequest = omega arith
       at_most EarlyReply = omega arith
+      at_most OutOfOrder = omega arith
       at_most WrongSize = omega arith
       at_most WrongOpcode = omega arith
       at_most UnknownData = omega arith
@@ -218,6 +226,7 @@ module _ (layout : Layout) (link : Link) (scene : Scene) (beat : ReplyHead) (kno
   no_reply_reason WrongPort has = has
   no_reply_reason NoRequest has = no_answer_reason _ _ _ _ _ _ allowed.answers NoRequest has
   no_reply_reason EarlyReply has = no_answer_reason _ _ _ _ _ _ allowed.answers EarlyReply has
+  no_reply_reason OutOfOrder has = has
   no_reply_reason WrongSize has = no_answer_reason _ _ _ _ _ _ allowed.answers WrongSize has
   no_reply_reason WrongOpcode has = no_answer_reason _ _ _ _ _ _ allowed.answers WrongOpcode has
   no_reply_reason UnknownData has = no_answer_reason _ _ _ _ _ _ allowed.answers UnknownData has
@@ -233,7 +242,7 @@ pub no_form_before : (layout : Layout) (link : Link) (scene : Scene) (beat : Rep
     → HasReplyFormFault (first_reply scene.under.replying) beat fault → ⊥
 no_form_before layout link scene beat known lanes fault first has = first.first (Form fault) (small fault) has
   where
-    small : (f : FormFault) → reason_rank (Form f) < 19
+    small : (f : FormFault) → reason_rank (Form f) < 20
     small Changed = omega arith
     small Opcode = omega arith
     small Param = omega arith

@@ -17,7 +17,7 @@ use Rattle.check_watch.specs.declared.beat.Link.{Link}
 use Rattle.check_watch.specs.declared.fault.Fault.{Fault}
 use Rattle.check_watch.specs.declared.fault.Fault.TheVariants as faults
 use Rattle.check_watch.specs.declared.fault.Reason.{Reason}
-use Rattle.check_watch.specs.declared.fault.Reason.TheVariants.{Form, NoSuchSource, SourceBusy, WrongPort, NoRequest, EarlyReply, WrongSize, WrongOpcode, UnknownData, NotSent, NotGiven, WrongReply}
+use Rattle.check_watch.specs.declared.fault.Reason.TheVariants.{Form, NoSuchSource, SourceBusy, WrongPort, NoRequest, EarlyReply, OutOfOrder, WrongSize, WrongOpcode, UnknownData, NotSent, NotGiven, WrongReply}
 use Rattle.check_watch.specs.Plan.{Layout, HasSource, link_number}
 use Rattle.check_watch.specs.Scene.{Scene, captured, is_given}
 use Rattle.check_watch.specs.Allowed.{BeginsFree, BeginsPlaced, EndsSent, OfAsked, HasKnownLanes, IsMust}
@@ -31,6 +31,7 @@ HasAskReason layout link scene beat known lanes SourceBusy = BeginsFree scene �
 HasAskReason layout link scene beat known lanes WrongPort = BeginsPlaced layout link scene beat → ⊥
 HasAskReason layout link scene beat known lanes NoRequest = ⊥
 HasAskReason layout link scene beat known lanes EarlyReply = ⊥
+HasAskReason layout link scene beat known lanes OutOfOrder = ⊥
 HasAskReason layout link scene beat known lanes WrongSize = ⊥
 HasAskReason layout link scene beat known lanes WrongOpcode = ⊥
 HasAskReason layout link scene beat known lanes UnknownData = ⊥
@@ -47,6 +48,7 @@ HasAnswerReason number turn bus unknown beat known SourceBusy = ⊥
 HasAnswerReason number turn bus unknown beat known WrongPort = ⊥
 HasAnswerReason number turn bus unknown beat known NoRequest = IsInFlight number turn → ⊥
 HasAnswerReason number turn bus unknown beat known EarlyReply = turn ≡ Asking number
+HasAnswerReason number turn bus unknown beat known OutOfOrder = ⊥
 HasAnswerReason number turn bus unknown beat known WrongSize = OfAsked number turn (λ ask. beat.size ≢ ask.size)
 HasAnswerReason number turn bus unknown beat known WrongOpcode =
     OfAsked number turn (λ ask. beat.opcode ≢ reply_opcode_of (reply_op_of ask.op))
@@ -65,6 +67,7 @@ HasEndReason given crossing due reply SourceBusy = ⊥
 HasEndReason given crossing due reply WrongPort = ⊥
 HasEndReason given crossing due reply NoRequest = ⊥
 HasEndReason given crossing due reply EarlyReply = ⊥
+HasEndReason given crossing due reply OutOfOrder = ⊥
 HasEndReason given crossing due reply WrongSize = ⊥
 HasEndReason given crossing due reply WrongOpcode = ⊥
 HasEndReason given crossing due reply UnknownData = ⊥
@@ -86,7 +89,8 @@ abbrev pub AnswersWith : Link → Scene → ReplyHead → ℕ → Reason → Typ
 AnswersWith link scene beat known reason =
     HasAnswerReason (link_number link) scene.flight.turn scene.under.bus (may_be_unknown scene.slave) beat known reason
 
--- a beat of a reply is not lawful for this reason
+-- a beat of a reply is not lawful for this reason. That replies of a link come in the order of their requests is no rule of
+-- links that are judged together, but one of each link: `check_turns` adds it
 abbrev pub HasReplyReason : Layout → Link → Scene → ReplyHead → ℕ → List ℕ → Reason → Type 0
 HasReplyReason layout link scene beat known lanes (Form fault) =
     HasReplyFormFault (first_reply scene.under.replying) beat fault
@@ -95,6 +99,7 @@ HasReplyReason layout link scene beat known lanes SourceBusy = ⊥
 HasReplyReason layout link scene beat known lanes WrongPort = ⊥
 HasReplyReason layout link scene beat known lanes NoRequest = AnswersWith link scene beat known NoRequest
 HasReplyReason layout link scene beat known lanes EarlyReply = AnswersWith link scene beat known EarlyReply
+HasReplyReason layout link scene beat known lanes OutOfOrder = ⊥
 HasReplyReason layout link scene beat known lanes WrongSize = AnswersWith link scene beat known WrongSize
 HasReplyReason layout link scene beat known lanes WrongOpcode = AnswersWith link scene beat known WrongOpcode
 HasReplyReason layout link scene beat known lanes UnknownData = AnswersWith link scene beat known UnknownData
@@ -110,12 +115,13 @@ reason_rank SourceBusy = 10
 reason_rank WrongPort = 11
 reason_rank NoRequest = 12
 reason_rank EarlyReply = 13
-reason_rank WrongSize = 14
-reason_rank WrongOpcode = 15
-reason_rank UnknownData = 16
-reason_rank NotSent = 17
-reason_rank NotGiven = 18
-reason_rank WrongReply = 19
+reason_rank OutOfOrder = 14
+reason_rank WrongSize = 15
+reason_rank WrongOpcode = 16
+reason_rank UnknownData = 17
+reason_rank NotSent = 18
+reason_rank NotGiven = 19
+reason_rank WrongReply = 20
 
 abbrev pub IsFirstAskReason : Layout → Link → Scene → AskHead → ℕ → List ℕ → Reason → Type 0
 IsFirstAskReason layout link scene beat known lanes = IsFirstOf (HasAskReason layout link scene beat known lanes) reason_rank
@@ -134,6 +140,7 @@ reason_of faults.SourceBusy = SourceBusy
 reason_of faults.WrongPort = WrongPort
 reason_of faults.NoRequest = NoRequest
 reason_of faults.EarlyReply = EarlyReply
+reason_of faults.OutOfOrder = OutOfOrder
 reason_of faults.WrongSize = WrongSize
 reason_of faults.WrongOpcode = WrongOpcode
 reason_of faults.UnknownData = UnknownData
@@ -152,6 +159,7 @@ IsWrongReply scene beat known lanes faults.SourceBusy = ⊥
 IsWrongReply scene beat known lanes faults.WrongPort = ⊥
 IsWrongReply scene beat known lanes faults.NoRequest = ⊥
 IsWrongReply scene beat known lanes faults.EarlyReply = ⊥
+IsWrongReply scene beat known lanes faults.OutOfOrder = ⊥
 IsWrongReply scene beat known lanes faults.WrongSize = ⊥
 IsWrongReply scene beat known lanes faults.WrongOpcode = ⊥
 IsWrongReply scene beat known lanes faults.UnknownData = ⊥

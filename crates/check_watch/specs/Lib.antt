@@ -1,4 +1,5 @@
 pub mod Paths
+pub mod Fifos
 pub mod Plan
 pub mod Scene
 pub mod Past

@@ -17,14 +17,16 @@ use Rattle.check_watch.specs.declared.beat.Link.{Link}
 use Rattle.check_watch.specs.declared.beat.Link.TheVariants.{Master, Port}
 use Rattle.check_watch.specs.declared.links.Links.{Links}
 use Rattle.check_watch.specs.declared.links.Links.TheVariants.{Both, Masters, Ports, Each}
+use Rattle.check_watch.specs.Fifos.{FifoFlags, is_fifo_by}
 use Rattle.check_watch.specs.Paths.{has_path}
 
--- the links that are watched, for which ports messages are not compared across, what the system says of all links, the
--- sources of each master, the ranges of each port, the ports to which each master has a path, and the buses of the masters'
--- links and of the ports' links
+-- the links that are watched, for which ports messages are not compared across, at which links replies begin in the order
+-- of their requests, what the system says of all links, the sources of each master, the ranges of each port, the ports to
+-- which each master has a path, and the buses of the masters' links and of the ports' links
 pub record Layout : Type 0 where
   pub links : Links
   pub apart : List Bool
+  pub fifos : FifoFlags
   pub rules : LinkRules
   pub owners : List Owner
   pub ports : List (List Range)
@@ -121,6 +123,10 @@ buses_of layout AtPorts = layout.port_buses
 -- how many bytes the bus of a link has
 abbrev pub bus_of : Layout → Link → ℕ
 bus_of layout link = bus_at (buses_of layout (side_of link)) (link_number link)
+
+-- replies of this link begin in the order of their requests
+abbrev pub is_fifo : Layout → Link → Bool
+is_fifo layout link = is_fifo_by layout.fifos link
 
 -- ---- sources
 

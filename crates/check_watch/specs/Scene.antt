@@ -4,7 +4,7 @@
 use Rattle.std.specs.Prelude.{ℕ, Bool, true, false, ◌&&◌, if◌then◌else◌, List, Option, Some, None, IsTrue, IsSomeAnd}
 use Rattle.tl_types.specs.Request.{Request}
 use Rattle.check_cells.specs.Pattern.{Pattern}
-use Rattle.check_beats.specs.State.{Under, ReplyBegun, ends_ask, ends_reply, ask_of, reply_of}
+use Rattle.check_beats.specs.State.{Under, AskBegun, ReplyBegun, ends_ask, ends_reply, ask_of, reply_of}
 use Rattle.check_beats.specs.declared.beat.AskHead.{AskHead}
 use Rattle.check_beats.specs.declared.beat.ReplyHead.{ReplyHead}
 use Rattle.check_flight.specs.declared.answer.Answer.{Answer}
@@ -43,6 +43,21 @@ abbrev pub ask_by : Under → AskHead → List ℕ → Option Request
 ask_by under beat lanes =
     if ends_ask under.bus under.asking beat then Some (ask_of under.bus under.asking beat lanes) else None
 
+-- no beat of a request is under way
+abbrev pub begins_request : Option AskBegun → Bool
+begins_request None = true
+begins_request (Some begun) = false
+
+-- no beat of a reply is under way
+abbrev pub begins_reply : Option ReplyBegun → Bool
+begins_reply None = true
+begins_reply (Some begun) = false
+
+-- the beat is the first of its message
+abbrev pub begins : Under → Beat → Bool
+begins under (A beat) = begins_request under.asking
+begins under (D beat) = begins_reply under.replying
+
 -- the address of the request in flight, if it has ended
 abbrev pub address_in : Turn → ℕ
 address_in Idle = 0
@@ -77,11 +92,6 @@ abbrev pub accepted : Layout → Link → Scene → Beat → List ℕ → Option
 accepted layout link scene (A beat) lanes =
     ask_if (takes_effect layout link scene.port) (ask_by scene.under beat lanes)
 accepted layout link scene (D beat) lanes = None
-
--- no beat of a reply is under way
-abbrev pub begins_reply : Option ReplyBegun → Bool
-begins_reply None = true
-begins_reply (Some begun) = false
 
 -- the request of this port that the slave answers, with the first beat of its reply
 abbrev pub answered : Layout → Link → ℕ → Option ReplyBegun → Turn → Option Request

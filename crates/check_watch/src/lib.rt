@@ -21,6 +21,7 @@
 mod asks;
 mod beat;
 mod fault;
+mod fifos;
 pub mod laws;
 mod links;
 mod paths;
@@ -33,6 +34,7 @@ mod watch;
 
 pub use beat::{Beat, Link};
 pub use fault::{Fault, Reason, StepError, fault_of};
+pub use fifos::FifoLinks;
 pub use links::Links;
 pub use paths::Paths;
 pub use pending::{Change, Origin};

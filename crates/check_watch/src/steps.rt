@@ -1,5 +1,5 @@
 //! Steps: a beat is judged, and then it is taken.
-ghost use Rattle.std.specs.Prelude.{◌≡◌, ◌<◌, ◌≤◌, ◌∷◌, List, length, if◌then◌else◌, false, Some, None, IsTrue, IfOk, OnOk, OnErr, IfErr, IsSomeAnd, IfNone};
+ghost use Rattle.std.specs.Prelude.{◌≡◌, ◌<◌, ◌≤◌, ◌∷◌, List, length, if◌then◌else◌, false, Some, None, IsTrue, IfOk, OnOk, OnErr, IfErr, IsSomeAnd, IfNone, IfSome};
 ghost use Rattle.check_beats.specs.Form.{FitsAsk, FitsReply};
 ghost use Rattle.check_beats.specs.State.{ask_of, ends_ask, ends_reply, first_ask, first_reply};
 ghost use Rattle.check_flight.specs.Flight.Turn.{Asking, Asked};
@@ -312,6 +312,22 @@ impl GroupWatch {
             self.take_part(link, beat, known, lanes);
         }
         Ok(Ended::of_reply(ends))
+    }
+
+    /// The first reason why one beat more is not lawful, at a link that is watched; `None` if it is lawful. What is kept
+    /// stays.
+    pub fn reason(&self, link: Link, beat: &Beat, known: u64, lanes: &[u8]) -> Option<Reason>
+        requires known { HasLink self.now.layout link }
+        requires lanes { bus_of self.now.layout link ≤ length lanes.now }
+        ensures reason { (plan : Plan) (past : List Sighting) → KeepsGroup plan past self.now
+            → IfSome result (IsFirstReason plan past (seen_at link beat.now known lanes.now)) }
+        ensures allowed { (plan : Plan) (past : List Sighting) → KeepsGroup plan past self.now
+            → IfNone result (IsLawfulGroup plan (seen_at link beat.now known lanes.now ∷ past)) }
+    {
+        match self.judge(link, beat, known, lanes) {
+            Ok(_place) => None,
+            Err(reason) => Some(reason),
+        }
     }
 
     /// Judges one beat more, at a link that is watched: its place, or the first reason why it is not lawful.

@@ -11,10 +11,11 @@ ghost use Rattle.check_watch.specs.declared.beat.Beat.TheVariants.{D};
 ghost use Rattle.check_beats.specs.declared.beat.ReplyHead.{ReplyHead};
 ghost use Rattle.check_watch.specs.Past.{port_of, slave_at};
 ghost use Rattle.check_watch.specs.Plan.{Plan, IsPlan, RoutesAt, RoutesWide, HasLink, IsWideAt, IsGroupLink, are_both, bus_of, crosses_at_port, is_apart};
-ghost use Rattle.check_watch.specs.Scene.{takes_effect, is_given, must_by};
+ghost use Rattle.check_watch.specs.Scene.{begins, takes_effect, is_given, must_by};
 ghost use Rattle.check_watch.specs.View.{GroupView, IsSized, wides_in, SuitsGroup, KeepsGroup, own_side, under_in, flight_in, crossing_at, is_answering_in, due_in, captured_in};
 
-use crate::beat::Link;
+use crate::beat::{Beat, Link};
+use crate::fifos::FifoLinks;
 use crate::links::Links;
 use crate::paths::Paths;
 use check_beats::{Bus, LinkRules, ReplyHead, UnderWay};
@@ -31,6 +32,8 @@ pub struct GroupWatch {
     links: Links,
     /// Whether the link of a port is judged by itself.
     apart: Vec<bool>,
+    /// At which links replies begin in the order of their requests. It is kept for those who judge that.
+    fifos: FifoLinks,
     rules: LinkRules,
     map: AddressMap,
     paths: Paths,
@@ -52,6 +55,7 @@ impl Model for GroupWatch {
       layout = record {
         links = w.links;
         apart = w.apart.items;
+        fifos = w.fifos;
         rules = w.rules;
         owners = w.sources;
         ports = w.map;
@@ -69,6 +73,7 @@ impl Model for GroupWatch {
       layout = record {
         links = w.links;
         apart = w.apart.items;
+        fifos = w.fifos;
         rules = w.rules;
         owners = w.sources;
         ports = w.map;
@@ -114,6 +119,7 @@ impl GroupWatch {
         alloc: Global,
         links: Links,
         apart: Vec<bool>,
+        fifos: FifoLinks,
         rules: LinkRules,
         map: AddressMap,
         paths: Paths,
@@ -128,6 +134,7 @@ impl GroupWatch {
         ensures layout { IfOk result (λ watch. watch.layout ≡ record {
           links = links;
           apart = apart.items;
+          fifos = fifos;
           rules = rules;
           owners = sources;
           ports = map;
@@ -140,6 +147,7 @@ impl GroupWatch {
             → plan.layout ≡ record {
               links = links;
               apart = apart.items;
+              fifos = fifos;
               rules = rules;
               owners = sources;
               ports = map;
@@ -159,6 +167,7 @@ impl GroupWatch {
         Ok(GroupWatch {
             links,
             apart,
+            fifos,
             rules,
             map,
             paths,
@@ -210,6 +219,13 @@ impl GroupWatch {
             Some(apart) => *apart,
             None => false,
         }
+    }
+
+    /// The links at which replies begin in the order of their requests.
+    pub fn fifos(&self) -> &FifoLinks
+        ensures { result.now ≡ self.now.layout.fifos }
+    {
+        &self.fifos
     }
 
     /// What the links may do beyond the standard.
@@ -276,6 +292,17 @@ impl GroupWatch {
         match link {
             Link::Master(number) => self.masters.link(number),
             Link::Port(number) => self.ports.link(number),
+        }
+    }
+
+    /// Whether a beat is the first of its message at a link.
+    pub fn begins(&self, link: Link, beat: &Beat) -> bool
+        requires { HasLink self.now.layout link }
+        ensures { result ≡ begins (under_in self.now link) beat.now }
+    {
+        match beat {
+            Beat::A(_) => self.link(link).begins_ask(),
+            Beat::D(_) => self.link(link).begins_reply(),
         }
     }
 

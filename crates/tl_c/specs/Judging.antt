@@ -5,18 +5,18 @@ use Rattle.check_flight.specs.declared.order.Order.{Order}
 use Rattle.check_flight.specs.declared.order.Order.TheVariants.{Accept, Reply, Any}
 use Rattle.check_watch.specs.Plan.{Sighting, seen_at}
 use Rattle.check_watch.specs.declared.fault.Fault.{Fault}
-use Rattle.check_sides.specs.Lawful.{IsFirstFault, IsLawful, MayNeedMemory, what_is_seen}
+use Rattle.check_turns.specs.Lawful.{IsFirstFaultInOrder, IsLawfulInOrder, MayNeedMemory, what_is_seen}
 use Rattle.check_sides.specs.Plan.{Layout, Plan, bus_of}
 use Rattle.check_sides.specs.Reset.{IsReset}
-use Rattle.check_sides.specs.View.{Keeps}
+use Rattle.check_turns.specs.View.{KeepsOrdered}
 use Rattle.check_watch.specs.declared.links.Links.{Links}
 use Rattle.check_watch.specs.declared.links.Links.TheVariants.{Both, Masters, Ports, Each}
-use Rattle.check_rows.specs.Row.{SeenRow}
+use Rattle.check_rows.specs.Row.{SeenRow, row_with}
 use Rattle.check_rows.specs.PortNumbers.{numbered, numbers_in}
 use Rattle.check_rows.specs.declared.row.Row.{Row}
-use Rattle.check_unanswered.specs.Began.{IsLeft, row_with}
+use Rattle.check_unanswered.specs.Began.{IsLeft}
 use Rattle.check_unanswered.specs.View.{Holds}
-use Rattle.check_unanswered.specs.declared.request.Left.{Left}
+use Rattle.check_rows.specs.declared.request.Left.{Left}
 use Rattle.check_lines.specs.Names.{NamesView}
 use Rattle.check_lines.specs.Verdict.{incomplete_line, unlawful_line}
 use Rattle.check_coverage.specs.Flights.{is_counted}
@@ -46,10 +46,10 @@ judged judge x = numbered (numbers_in judge.numbers.items) (on_bus judge.watch.l
 -- the judge was shown this, after these beats by this plan, and has answered this number
 pub record IsStep (plan : Plan) (past : List Sighting) (shown : Sighting) (old : HeldJudge) (number : ℕ)
     (new : HeldJudge) : Type 0 where
-  pub lawful : number ≢ MEMORY → number ≡ OK ↔ IsLawful plan (shown ∷ past)
-  pub memory : number ≡ MEMORY → IsLawful plan (shown ∷ past)
+  pub lawful : number ≢ MEMORY → number ≡ OK ↔ IsLawfulInOrder plan (shown ∷ past)
+  pub memory : number ≡ MEMORY → IsLawfulInOrder plan (shown ∷ past)
   pub needed : number ≡ MEMORY → MayNeedMemory plan past shown
-  pub keeps : number ≡ OK → Keeps plan (shown ∷ past) new.watch
+  pub keeps : number ≡ OK → KeepsOrdered plan (shown ∷ past) new.watch
   pub requests : number ≡ OK → new.requests ≡ one_more
       (is_counted plan.layout.links shown.link && is_whole_ask (what_is_seen plan past shown)) old.requests
   pub answered : number ≡ OK → new.answered ≡ one_more
@@ -77,7 +77,7 @@ pub record IsFaultOfBeat (plan : Plan) (past : List Sighting) (shown : Sighting)
   pub shows : row_with row shown.lanes ≡ shown_row line time shown
   pub fault : Fault
   pub number_is : number ≡ beat_number fault
-  pub first : IsFirstFault plan past shown fault
+  pub first : IsFirstFaultInOrder plan past shown fault
   pub text : IsLineOf old.names row fault (vec_capacity old.text) new.text.items
 
 -- after a fault, or if requests are left, the judge is as it was, but for its text, whose room is no less
@@ -114,7 +114,7 @@ pub record IsAfterReset (plan : Plan) (past : List Sighting) (old new : HeldJudg
   pub resets : List PortSlave
   pub own : List PortSlave
   pub is : IsReset plan past old.loads old.loads resets own
-  pub keeps : Keeps (with_slaves plan resets own) [] new.watch
+  pub keeps : KeepsOrdered (with_slaves plan resets own) [] new.watch
   pub pending : (rows : List SeenRow) → Holds plan rows old.pending → Holds (with_slaves plan resets own) [] new.pending
 
 -- a reset leaves the names, what resets load, the counts and the text as they were
@@ -134,7 +134,7 @@ pub record KeepsAtReset (old new : HeldJudge) : Type 0 where
 -- for a line
 pub record BeginsBy (terms : Terms) (system : Description) (images : List (List ℕ)) (judge : HeldJudge) : Type 0 where
   pub layout : judge.watch.layout ≡ layout_of terms system
-  pub keeps : ByThePlan terms system images (λ plan. Keeps plan.begins [] judge.watch)
+  pub keeps : ByThePlan terms system images (λ plan. KeepsOrdered plan.begins [] judge.watch)
   pub pending : ByThePlan terms system images (λ plan. Holds plan.begins [] judge.pending)
   pub resets : judge.resets ≡ system.resets
   pub loads : ByThePlan terms system images (λ plan. AreLoadsOf plan judge.loads)

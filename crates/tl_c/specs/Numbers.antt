@@ -72,3 +72,4 @@ beat_number beat.UnknownData = 46
 beat_number beat.NotSent = 47
 beat_number beat.NotGiven = 48
 beat_number (beat.WrongReply expected captured) = 49
+beat_number beat.OutOfOrder = 51

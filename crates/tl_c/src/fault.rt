@@ -140,6 +140,7 @@ pub(crate) fn beat_number(fault: &Fault) -> u32
         Fault::NotSent => 47,
         Fault::NotGiven => 48,
         Fault::WrongReply(_, _) => 49,
+        Fault::OutOfOrder => 51,
     }
 }
 
@@ -201,6 +202,7 @@ pub(crate) fn words(number: u32) -> &'static str {
         48 => "the port gave no such reply",
         49 => "wrong reply",
         INCOMPLETE => "requests without reply",
+        51 => "reply out of order",
         other => call_words(other),
     }
 }

@@ -4,8 +4,8 @@ ghost use Rattle.std.specs.Prelude.{◌≡◌, ◌+◌, length};
 use crate::draft::Draft;
 use check_lines::Names;
 use check_rows::PortNumbers;
-use check_sides::Watch;
 use check_start::Loads;
+use check_turns::OrderedWatch;
 use check_unanswered::Pending;
 use std::marker::Model;
 use tl_model::Crossbar;
@@ -33,7 +33,7 @@ impl Model for Server {
 /// sources at ports' links, the requests in flight, how many whole requests and replies it has seen, and the line of the last fault.
 #[derive(Drop)]
 pub struct HeldJudge {
-    pub watch: Watch,
+    pub watch: OrderedWatch,
     pub names: Names,
     pub resets: bool,
     pub loads: Loads,

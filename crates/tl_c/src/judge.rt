@@ -10,9 +10,9 @@ ghost use Rattle.check_beats.specs.Bus.{bus_bytes};
 ghost use Rattle.check_watch.specs.Plan.{Sighting, seen_at};
 ghost use Rattle.check_sides.specs.Pending.{IsChange};
 ghost use Rattle.check_sides.specs.Plan.{HasLink, IsWatched, Plan, bus_of};
-ghost use Rattle.check_sides.specs.View.{Keeps};
-ghost use Rattle.check_rows.specs.Row.{SeenRow};
-ghost use Rattle.check_unanswered.specs.Began.{IsComplete, beats_of, row_with};
+ghost use Rattle.check_turns.specs.View.{KeepsOrdered};
+ghost use Rattle.check_rows.specs.Row.{SeenRow, beats_of, row_with};
+ghost use Rattle.check_unanswered.specs.Began.{IsComplete};
 ghost use Rattle.check_unanswered.specs.View.{Holds};
 ghost use Rattle.check_coverage.specs.Flights.{ends_a_reply, ends_an_ask, is_counted};
 ghost use Rattle.check_review.specs.Count.{one_more};
@@ -27,7 +27,7 @@ use check_beats::{Bus, MAX_LANES};
 use check_lines::{Names, push_incomplete, push_unlawful};
 use check_review::count_end;
 use check_rows::{Row, number_row};
-use check_sides::{Beat, Change, Ended, Fault, Link, StepError};
+use check_turns::{Beat, Change, Ended, Fault, Link, StepError};
 use check_unanswered::Left;
 use std::alloc::Global;
 
@@ -66,9 +66,9 @@ fn judge_fault(alloc: Global, judge: &mut HeldJudge, row: &Row, lanes: &[u8]) ->
     requires known { HasLink judge.old.watch.layout row.now.link }
     requires watched { IsWatched judge.old.watch.layout.links row.now.link }
     requires lanes { bus_of judge.old.watch.layout row.now.link ≤ length lanes.now }
-    ensures step { (plan : Plan) (past : List Sighting) → Keeps plan past judge.old.watch
+    ensures step { (plan : Plan) (past : List Sighting) → KeepsOrdered plan past judge.old.watch
         → IsStep plan past (row_with row.now lanes.now).sighting judge.old result judge.new }
-    ensures fault { (plan : Plan) (past : List Sighting) → Keeps plan past judge.old.watch → NO_LINK < result
+    ensures fault { (plan : Plan) (past : List Sighting) → KeepsOrdered plan past judge.old.watch → NO_LINK < result
         → IsFaultOfBeat plan past (row_with row.now lanes.now).sighting row.now.line row.now.time judge.old result judge.new }
     ensures pending { judge.new.pending ≡ judge.old.pending }
     ensures above { result ≢ OK → result ≢ MEMORY → NO_LINK < result }
@@ -97,9 +97,9 @@ fn judge_beat(alloc: Global, judge: &mut HeldJudge, row: &Row, lanes: &[u8]) -> 
     requires known { HasLink judge.old.watch.layout row.now.link }
     requires watched { IsWatched judge.old.watch.layout.links row.now.link }
     requires lanes { bus_of judge.old.watch.layout row.now.link ≤ length lanes.now }
-    ensures step { (plan : Plan) (past : List Sighting) → Keeps plan past judge.old.watch
+    ensures step { (plan : Plan) (past : List Sighting) → KeepsOrdered plan past judge.old.watch
         → IsStep plan past (row_with row.now lanes.now).sighting judge.old result judge.new }
-    ensures fault { (plan : Plan) (past : List Sighting) → Keeps plan past judge.old.watch → NO_LINK < result
+    ensures fault { (plan : Plan) (past : List Sighting) → KeepsOrdered plan past judge.old.watch → NO_LINK < result
         → IsFaultOfBeat plan past (row_with row.now lanes.now).sighting row.now.line row.now.time judge.old result judge.new }
     ensures pending { judge.new.pending ≡ judge.old.pending }
     ensures above { result ≢ OK → result ≢ MEMORY → NO_LINK < result }
@@ -142,11 +142,11 @@ fn judge_row(alloc: Global, judge: &mut HeldJudge, row: &Row, lanes: &[u8]) -> u
     requires known { HasLink judge.old.watch.layout row.now.link }
     requires watched { IsWatched judge.old.watch.layout.links row.now.link }
     requires lanes { bus_of judge.old.watch.layout row.now.link ≤ length lanes.now }
-    ensures step { (plan : Plan) (past : List Sighting) → Keeps plan past judge.old.watch
+    ensures step { (plan : Plan) (past : List Sighting) → KeepsOrdered plan past judge.old.watch
         → IsStep plan past (row_with row.now lanes.now).sighting judge.old result judge.new }
-    ensures fault { (plan : Plan) (past : List Sighting) → Keeps plan past judge.old.watch → NO_LINK < result
+    ensures fault { (plan : Plan) (past : List Sighting) → KeepsOrdered plan past judge.old.watch → NO_LINK < result
         → IsFaultOfBeat plan past (row_with row.now lanes.now).sighting row.now.line row.now.time judge.old result judge.new }
-    ensures pending { (plan : Plan) (rows : List SeenRow) → Keeps plan (beats_of rows) judge.old.watch
+    ensures pending { (plan : Plan) (rows : List SeenRow) → KeepsOrdered plan (beats_of rows) judge.old.watch
         → Holds plan rows judge.old.pending → result ≡ OK
         → Holds plan (row_with row.now lanes.now ∷ rows) judge.new.pending }
     ensures above { result ≢ OK → result ≢ MEMORY → NO_LINK < result }
@@ -170,13 +170,13 @@ fn known_on(bus: Bus, known: u64) -> u64
 
 /// Judges one beat more, with as many lanes of its struct as the bus of its link has, and with the system's source.
 fn step(alloc: Global, judge: &mut HeldJudge, link: Link, beat: Beat, wire: &WireBeat) -> u32
-    ensures step { (plan : Plan) (past : List Sighting) → Keeps plan past judge.old.watch → result ≢ NO_LINK
+    ensures step { (plan : Plan) (past : List Sighting) → KeepsOrdered plan past judge.old.watch → result ≢ NO_LINK
         → IsStep plan past (judged judge.old (seen_at link beat wire.now.known wire.now.lanes))
         judge.old result judge.new }
-    ensures fault { (plan : Plan) (past : List Sighting) → Keeps plan past judge.old.watch → NO_LINK < result
+    ensures fault { (plan : Plan) (past : List Sighting) → KeepsOrdered plan past judge.old.watch → NO_LINK < result
         → IsFaultOfBeat plan past (judged judge.old (seen_at link beat wire.now.known wire.now.lanes))
         wire.now.line wire.now.time judge.old result judge.new }
-    ensures pending { (plan : Plan) (rows : List SeenRow) → Keeps plan (beats_of rows) judge.old.watch
+    ensures pending { (plan : Plan) (rows : List SeenRow) → KeepsOrdered plan (beats_of rows) judge.old.watch
         → Holds plan rows judge.old.pending → result ≡ OK
         → Holds plan (shown_row wire.now.line wire.now.time
         (judged judge.old (seen_at link beat wire.now.known wire.now.lanes)) ∷ rows) judge.new.pending }
@@ -211,14 +211,14 @@ pub extern "C" fn tlx_judge_step_at(alloc: Global, judge: &mut Handle, beat: &Wi
     ensures link { (j : HeldJudge) (shown : Sighting) → judge.old.value ≡ Some (held.Judge j) → shown_by_struct beat.now ≡ Some shown
         → (result ≡ NO_LINK ↔ ((HasLink j.watch.layout shown.link × IsWatched j.watch.layout.links shown.link) → ⊥)) }
     ensures step { (plan : Plan) (past : List Sighting) (j : HeldJudge) (shown : Sighting) → judge.old.value ≡ Some (held.Judge j) → shown_by_struct beat.now ≡ Some shown
-        → Keeps plan past j.watch → result ≢ NO_LINK
+        → KeepsOrdered plan past j.watch → result ≢ NO_LINK
         → HoldsJudge (IsStep plan past (judged j shown) j result) judge.new.value }
     ensures fault { (plan : Plan) (past : List Sighting) (j : HeldJudge) (shown : Sighting) → judge.old.value ≡ Some (held.Judge j) → shown_by_struct beat.now ≡ Some shown
-        → Keeps plan past j.watch → NO_LINK < result
+        → KeepsOrdered plan past j.watch → NO_LINK < result
         → HoldsJudge (IsFaultOfBeat plan past (judged j shown) beat.now.line beat.now.time j result)
         judge.new.value }
     ensures pending { (plan : Plan) (rows : List SeenRow) (j : HeldJudge) (shown : Sighting)
-        → judge.old.value ≡ Some (held.Judge j) → shown_by_struct beat.now ≡ Some shown → Keeps plan (beats_of rows) j.watch
+        → judge.old.value ≡ Some (held.Judge j) → shown_by_struct beat.now ≡ Some shown → KeepsOrdered plan (beats_of rows) j.watch
         → Holds plan rows j.pending → result ≡ OK
         → HoldsJudge (λ new. Holds plan (shown_row beat.now.line beat.now.time (judged j shown) ∷ rows)
         new.pending) judge.new.value }

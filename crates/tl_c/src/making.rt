@@ -18,8 +18,9 @@ use crate::version::VERSION;
 use check_description::describe;
 use check_flight::{Order, SideOrders};
 use check_keys::SystemFault;
-use check_sides::Links;
-use check_start::{Terms, begin, pending_of};
+use check_review::pending_of;
+use check_start::{Terms, begin};
+use check_turns::Links;
 use std::alloc::Global;
 
 /// The room that a judge reserves for the line of a fault.

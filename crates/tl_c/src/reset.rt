@@ -7,7 +7,7 @@ ghost use Rattle.tl_c.specs.declared.held.HandleContent.TheVariants as held;
 ghost use Rattle.check_watch.specs.Plan.{Sighting};
 ghost use Rattle.check_sides.specs.Groups.{are_apart};
 ghost use Rattle.check_sides.specs.Plan.{Plan};
-ghost use Rattle.check_sides.specs.View.{Keeps};
+ghost use Rattle.check_turns.specs.View.{KeepsOrdered};
 
 use crate::fault::{EMPTY, MEMORY, NO_LINK, OK};
 use crate::handle::Handle;
@@ -30,7 +30,7 @@ fn own_loads(alloc: Global, judge: &HeldJudge) -> Result<Vec<Option<Slave>>, All
 /// The judge goes on after a reset of the whole system. Memory may be refused: then nothing is promised of what is kept
 /// from then on.
 fn go_on(alloc: Global, judge: &mut HeldJudge) -> Result<(), AllocError>
-    ensures reset { (plan : Plan) (past : List Sighting) → Keeps plan past judge.old.watch
+    ensures reset { (plan : Plan) (past : List Sighting) → KeepsOrdered plan past judge.old.watch
         → OnOk result (IsAfterReset plan past judge.old judge.new) }
     ensures kept { OnOk result (KeepsAtReset judge.old judge.new) }
 {
@@ -44,7 +44,7 @@ fn go_on(alloc: Global, judge: &mut HeldJudge) -> Result<(), AllocError>
 /// Resets a judge, if its system has resets.
 fn reset(alloc: Global, judge: &mut HeldJudge) -> u32
     ensures link { result ≡ NO_LINK ↔ (judge.old.resets ≡ false) }
-    ensures reset { (plan : Plan) (past : List Sighting) → Keeps plan past judge.old.watch → result ≡ OK
+    ensures reset { (plan : Plan) (past : List Sighting) → KeepsOrdered plan past judge.old.watch → result ≡ OK
         → IsAfterReset plan past judge.old judge.new }
     ensures kept { result ≡ OK → KeepsAtReset judge.old judge.new }
     ensures same { result ≡ NO_LINK → judge.new ≡ judge.old }
@@ -65,7 +65,7 @@ pub extern "C" fn tlx_judge_reset_at(alloc: Global, judge: &mut Handle) -> u32
     ensures empty { result ≡ EMPTY ↔ (IsJudge judge.old.value → ⊥) }
     ensures link { result ≡ NO_LINK ↔ HoldsJudge (λ old. old.resets ≡ false) judge.old.value }
     ensures reset { (plan : Plan) (past : List Sighting) (j : HeldJudge) → judge.old.value ≡ Some (held.Judge j)
-        → Keeps plan past j.watch → result ≡ OK → HoldsJudge (IsAfterReset plan past j) judge.new.value }
+        → KeepsOrdered plan past j.watch → result ≡ OK → HoldsJudge (IsAfterReset plan past j) judge.new.value }
     ensures kept { result ≡ OK
         → HoldsJudge (λ old. HoldsJudge (KeepsAtReset old) judge.new.value) judge.old.value }
     ensures memory { result ≡ MEMORY → judge.new.value ≡ None }

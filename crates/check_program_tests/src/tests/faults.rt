@@ -1,14 +1,11 @@
 //! The lines and statuses of the faults of tlcheck and tlvcd.
 use crate::tests::holds;
 use check_keys::SystemFault;
-use check_program::CheckFault;
+use check_program::{CaptureFault, CheckFault, KeyFault, SignalKey, WaveFault};
 use check_rows::RowFault;
 use check_samples::{EdgeFault, Signal, UnknownBit};
-use check_signals::{KeyFault, SignalKey};
-use check_text::CaptureFault;
 use check_vcd::Mistake;
 use check_watch::Link;
-use check_waves::WaveFault;
 
 /// Faults of tlcheck.
 const OF_CAPTURES: [(CheckFault, &str, u8); 7] = [

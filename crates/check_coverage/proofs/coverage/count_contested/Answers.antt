@@ -1,13 +1,13 @@
 -- It is counted if it is contested.
 use Rattle.std.proofs.Common.{◌≡◌, ◌∙◌, List, ◌∷◌, [], ap, subst, sym}
 use Rattle.std.specs.Prelude.{OnOk, if◌then◌else◌}
-use Rattle.check_coverage.specs.declared.bin.Bin.{Bin}
-use Rattle.check_coverage.specs.declared.bin.Bin.TheVariants as bin
+use Rattle.check_bins.specs.declared.bin.Bin.{Bin}
+use Rattle.check_bins.specs.declared.bin.Bin.TheVariants as bin
 use Rattle.check_coverage.specs.Bins.{contested_bins}
 use Rattle.check_coverage.specs.Mirrors.{mirrors_in}
-use Rattle.check_coverage.specs.View.{Adds}
+use Rattle.check_bins.specs.Counting.{Adds}
 use Rattle.check_coverage.proofs.Adding.{contested_is}
-use Rattle.check_coverage.proofs.Counted.{adds_none}
+use Rattle.check_bins.proofs.Counted.{adds_none}
 use Rattle.check_coverage.proofs.coverage.count_contested.Goals as goal
 
 pub returns-then-is_contested : goal.returns-then-is_contested

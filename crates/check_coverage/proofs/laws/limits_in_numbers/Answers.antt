@@ -9,6 +9,12 @@ returns-clause-apart c flights few = omega (arith, few)
 pub returns-clause-more : goal.returns-clause-more
 returns-clause-more c flights many = omega (arith, many)
 
+pub returns-clause-own : goal.returns-clause-own
+returns-clause-own c source few = omega (arith, few)
+
+pub returns-clause-past : goal.returns-clause-past
+returns-clause-past c source many = omega (arith, many)
+
 pub returns-clause-told : goal.returns-clause-told
 returns-clause-told c = all_up
 

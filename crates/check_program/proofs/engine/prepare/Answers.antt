@@ -1,7 +1,7 @@
 -- The judge is that of the system that the parts make, or the first fault is told.
 use Rattle.std.proofs.Common.{◌∙◌, ◌+◌, ap, inl, inr, length, map, refl, sym}
 use Rattle.check_description.specs.File.{parts_view}
-use Rattle.check_sides.specs.Plan.{Layout}
+use Rattle.check_watch.specs.Plan.{Layout}
 use Rattle.check_program.specs.Fault.{of_system}
 use Rattle.check_program.specs.declared.fault.CheckFault.TheVariants as check
 use Rattle.check_program.proofs.Failing.{if_err, not_ok, unprepared_by}
@@ -60,8 +60,8 @@ returns-in_err-judge c =
     }
 
 -- a reset may load something into each port and into the error port
-pub judge_of-requires : goal.judge_of-requires
-judge_of-requires c =
+pub before_rows-requires : goal.before_rows-requires
+before_rows-requires c =
     let begun = c.in_ok-begun.ensures in
     let is = begun.keeps.some.1 in
     (begun.loads.each begun.keeps.some.0 is).counted ∙ ap (λ (l : Layout). length l.ports + 1) (is.layout ∙ sym begun.layout)
@@ -82,8 +82,8 @@ returns c =
           each = λ plan is. judge.judges plan (begun.keeps.each plan is) (begun.loads.each plan is) (covered.none_yet c.args.asked.terms images plan is);
         };
         trace = judge.trace;
-        complete = judge.complete;
-        coverage = judge.coverage ∙ covered.asked;
+        complete = judge.asked;
+        coverage = judge.covered ∙ covered.asked;
         told = refl;
         names = begun.names;
         masters = begun.masters;

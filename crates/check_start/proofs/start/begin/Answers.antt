@@ -3,7 +3,7 @@ use Rattle.std.proofs.Common.{rules, ◌≡◌, ◌∙◌, ◌+◌, Bool, List, 
 use Rattle.std.specs.Prelude.{IsTrue}
 use Rattle.std.proofs.lemmas.List.{length-map}
 use Rattle.check_description.specs.Port.{Port, apart_of, port_view}
-use Rattle.check_sides.specs.Groups.{are_apart, is_some_alone}
+use Rattle.check_turns.specs.View.{are_apart, is_some_alone}
 use Rattle.check_start.specs.Loads.{AreLoadsOf, ImagesFit, loads_at_reset}
 use Rattle.check_start.specs.Slaves.{own_slaves, shared_side, shared_slaves}
 use Rattle.check_start.specs.Start.{layout_of}
@@ -85,7 +85,7 @@ returns-clause-loads c =
 pub returns-clause-numbers : goal.returns-clause-numbers
 returns-clause-numbers c =
     let parts = c.into_parts-parts.ensures in
-    let set : c.deref-4.result.now ≡ apart_of c.args.system.ports =
-    c.deref-4.ensures.value ∙ c.in_ok-apart.ensures
+    let set : c.deref-6.result.now ≡ apart_of c.args.system.ports =
+    c.deref-6.ensures.value ∙ c.in_ok-apart.ensures
     ∙ ap apart_of (ap (map port_view) c.deref.ensures.value ∙ c.into_parts-parts.ensures.ports) in
     rw (parts.sources, parts.nobody, parts.lists, set) at c.in_ok-numbers.ensures

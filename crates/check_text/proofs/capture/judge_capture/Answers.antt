@@ -2,7 +2,7 @@
 use Rattle.std.proofs.Common.{◌∙◌, Err, List, ℕ, [], IfOk, IfSome, ap, refl, subst}
 use Rattle.check_records.specs.Text.{text_start}
 use Rattle.check_review.specs.View.{Judges, is_asked, is_traced}
-use Rattle.check_start.specs.Loads.{SystemPlan}
+use Rattle.check_review.specs.Verdict.{SystemPlan}
 use Rattle.check_text.specs.Out.{Finishes}
 use Rattle.check_text.specs.Buses.{link_buses}
 use Rattle.check_text.specs.Capture.{IsCovered}

@@ -1,5 +1,5 @@
 use Rattle.std.proofs.Common.{◌≡◌, ◌+◌, [], ◌∷◌, length, Option, sym, subst, arith}
-use Rattle.check_unanswered.specs.declared.request.Open.{Open}
+use Rattle.check_rows.specs.declared.request.Open.{Open}
 use Rattle.check_unanswered.specs.Table.{opens}
 use Rattle.check_unanswered.proofs.left.count_with.Goals as goal
 

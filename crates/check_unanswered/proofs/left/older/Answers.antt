@@ -1,6 +1,6 @@
 -- Which of two requests began first.
 use Rattle.std.proofs.Common.{◌≡◌, ◌≤◌, subst}
-use Rattle.check_unanswered.specs.declared.request.Open.{Open}
+use Rattle.check_rows.specs.declared.request.Open.{Open}
 use Rattle.check_unanswered.specs.Table.{IsOldestOf}
 use Rattle.check_unanswered.proofs.Tables.{oldest_comes, oldest_of_one, oldest_stays}
 use Rattle.check_unanswered.proofs.left.older.Goals as goal

@@ -1,6 +1,6 @@
 -- One request more, or none.
 use Rattle.std.proofs.Common.{[], ◌∷◌, ◌++◌, Option, Some, sym, subst}
-use Rattle.check_unanswered.specs.declared.request.Open.{Open}
+use Rattle.check_rows.specs.declared.request.Open.{Open}
 use Rattle.check_unanswered.specs.Table.{IsOldestOf, opens}
 use Rattle.check_unanswered.proofs.Tables.{opens-append, opens-none}
 use Rattle.check_unanswered.proofs.left.oldest_with.Goals as goal

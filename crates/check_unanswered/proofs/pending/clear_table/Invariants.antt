@@ -1,6 +1,6 @@
 -- Those of the first places are cleared.
 use Rattle.std.proofs.Common.{◌≡◌, ◌++◌, Option, None, map, take, drop}
-use Rattle.check_unanswered.specs.declared.request.Open.{Open}
+use Rattle.check_rows.specs.declared.request.Open.{Open}
 use Rattle.check_unanswered.proofs.pending.clear_table.Given as goal
 
 abbrev pub invariant-loop-ask : goal.invariant-loop-ask

@@ -7,7 +7,7 @@ use Rattle.check_keys.specs.declared.fault.SystemFault.TheVariants.{Memory}
 use Rattle.check_description.proofs.BlockLemmas.{error_is}
 use Rattle.check_description.specs.Description.{IsFirstFaultOf, Makes}
 use Rattle.check_description.specs.File.{Parts}
-use Rattle.check_sides.specs.View.{Keeps}
+use Rattle.check_turns.specs.View.{KeepsOrdered}
 use Rattle.check_start.specs.Slaves.{image_at, shared_side}
 use Rattle.check_start.specs.Loads.{AreLoadsOf}
 use Rattle.check_start.specs.Start.{ByThePlan}
@@ -45,8 +45,8 @@ returns-clause-ok c =
     let watch = c.in_ok-begun.begun.watch in
     let images : map (λ image. image.items) c.deref.result.now ≡ image_bytes c.args.draft.images =
     ap (map (λ image. image.items)) c.deref.ensures.value ∙ c.in_ok-parts.ensures.images in
-    let keeps : ByThePlan c.args.terms system (image_bytes c.args.draft.images) (λ plan. Keeps plan.begins [] watch) =
-    (let P : List (List ℕ) → Type 0 = λ l. ByThePlan c.args.terms system l (λ plan. Keeps plan.begins [] watch) in
+    let keeps : ByThePlan c.args.terms system (image_bytes c.args.draft.images) (λ plan. KeepsOrdered plan.begins [] watch) =
+    (let P : List (List ℕ) → Type 0 = λ l. ByThePlan c.args.terms system l (λ plan. KeepsOrdered plan.begins [] watch) in
     subst P images c.in_ok-begun.ensures.keeps) in
     let loads : ByThePlan c.args.terms system (image_bytes c.args.draft.images) (λ plan. AreLoadsOf plan c.in_ok-begun.begun.loads) =
     (let P : List (List ℕ) → Type 0 = λ l. ByThePlan c.args.terms system l (λ plan. AreLoadsOf plan c.in_ok-begun.begun.loads) in

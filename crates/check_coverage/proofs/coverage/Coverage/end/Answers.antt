@@ -2,13 +2,13 @@
 use Rattle.std.proofs.Common.{◌≡◌, ◌∙◌, List, [], Bool, true, Option, ap, sym, subst}
 use Rattle.std.specs.Prelude.{OnOk, find, if◌then◌else◌}
 use Rattle.check_beats.specs.Bus.{bus_bytes}
-use Rattle.check_coverage.specs.declared.bin.Bin.{Bin}
+use Rattle.check_bins.specs.declared.bin.Bin.{Bin}
 use Rattle.check_coverage.specs.Bins.{ask_bins, of_found}
 use Rattle.check_coverage.specs.Flights.{InFlight, is_of, ends_an_ask}
 use Rattle.check_coverage.specs.Mirrors.{mirrors_in}
-use Rattle.check_coverage.specs.View.{Adds}
+use Rattle.check_bins.specs.Counting.{Adds}
 use Rattle.check_coverage.proofs.Adding.{found_is, found_none, found_some}
-use Rattle.check_coverage.proofs.Counted.{adds_none}
+use Rattle.check_bins.proofs.Counted.{adds_none}
 use Rattle.check_coverage.proofs.coverage.Coverage.end.Goals as goal
 
 pub returns-in-Some-clause-counts : goal.returns-in-Some-clause-counts

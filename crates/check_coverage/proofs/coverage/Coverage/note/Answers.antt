@@ -7,7 +7,7 @@ use Rattle.tl_map.specs.Owner.{IsWideSource}
 use Rattle.check_watch.specs.declared.seen.Ended.{Ended}
 use Rattle.check_watch.specs.declared.links.Links.{Links}
 use Rattle.check_sides.specs.Plan.{Layout, bus_of}
-use Rattle.check_unanswered.specs.Began.{beats_of, row_with}
+use Rattle.check_rows.specs.Row.{beats_of, row_with}
 use Rattle.check_coverage.specs.Flights.{is_counted, wide_at}
 use Rattle.check_coverage.specs.View.{IsNoted}
 use Rattle.check_coverage.proofs.Covered.{covers_counted, covers_uncounted}

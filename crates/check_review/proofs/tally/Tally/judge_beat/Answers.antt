@@ -1,6 +1,6 @@
 -- What is kept after a row, and of its request.
 use Rattle.std.proofs.Common.{◌≡◌, ◌∙◌, ◌∷◌, false, sym, subst}
-use Rattle.check_unanswered.specs.Began.{row_with}
+use Rattle.check_rows.specs.Row.{row_with}
 use Rattle.check_sides.specs.Plan.{HasLink, IsWatched, Layout}
 use Rattle.check_review.specs.Order.{is_watched, sightings_of, watched}
 use Rattle.check_review.proofs.Leaving.{kept_noted, kept_unwatched}

@@ -1,5 +1,5 @@
 -- A beat is one of the stretch that goes on, and a reset ends that.
-use Rattle.check_unanswered.specs.Began.{row_with}
+use Rattle.check_rows.specs.Row.{row_with}
 use Rattle.check_review.specs.Stretches.{Earlier}
 use Rattle.check_review.proofs.Keeping.{both_ok, keeps_beat}
 use Rattle.check_review.proofs.tally.Tally.judge_row.Goals as goal

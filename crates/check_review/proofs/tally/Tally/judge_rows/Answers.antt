@@ -2,8 +2,7 @@
 use Rattle.std.proofs.Common.{◌≡◌, ◌<◌, ◌++◌, ◌∷◌, All, List, refl, length, reverse, take, sym, subst, arith}
 use Rattle.std.proofs.lemmas.List.{take_all}
 use Rattle.check_sides.specs.Plan.{Layout}
-use Rattle.check_rows.specs.Row.{SeenRow}
-use Rattle.check_unanswered.specs.Began.{row_with}
+use Rattle.check_rows.specs.Row.{SeenRow, row_with}
 use Rattle.check_review.specs.Stretches.{stretches}
 use Rattle.check_review.specs.Verdict.{MayWantAfter}
 use Rattle.check_review.specs.View.{HasLanes, KeepsOn, KeptIn, wants}

@@ -2,7 +2,7 @@
 use Rattle.std.proofs.Common.{Option, IfSome, subst}
 use Rattle.check_watch.specs.declared.pending.Change.{Change}
 use Rattle.check_sides.specs.Pending.{IsChange}
-use Rattle.check_unanswered.specs.Began.{beats_of, row_with}
+use Rattle.check_rows.specs.Row.{beats_of, row_with}
 use Rattle.check_unanswered.specs.View.{Holds, PendingView}
 use Rattle.check_review.proofs.tally.Tally.note.Goals as goal
 

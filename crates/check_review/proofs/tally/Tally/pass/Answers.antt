@@ -1,6 +1,6 @@
 -- The row is a beat, and nothing is told of it.
 use Rattle.std.proofs.Common.{◌≡◌, ◌∷◌, true, IfOk, sym, subst}
-use Rattle.check_unanswered.specs.Began.{row_with}
+use Rattle.check_rows.specs.Row.{row_with}
 use Rattle.check_review.specs.Order.{sightings_of}
 use Rattle.check_review.specs.Stretches.{Earlier}
 use Rattle.check_review.specs.Told.{AppendsTold}

@@ -1,6 +1,6 @@
 -- The moment has one row.
 use Rattle.std.proofs.Common.{◌≡◌, true, IfOk, length, sym, subst, arith}
-use Rattle.check_unanswered.specs.Began.{row_with}
+use Rattle.check_rows.specs.Row.{row_with}
 use Rattle.check_review.specs.View.{KeepsOn, wants}
 use Rattle.check_review.proofs.Keeping.{alone, if_err, row_at, wants_there}
 use Rattle.check_review.proofs.tally.Tally.pass_rows.Goals as goal

@@ -1,6 +1,6 @@
 -- Each part of the judge is reset.
 use Rattle.std.proofs.Common.{◌∙◌, [], Option, IfSome, ap, subst, sym}
-use Rattle.check_sides.specs.View.{Keeps, View}
+use Rattle.check_turns.specs.View.{KeepsOrdered, OrderedView}
 use Rattle.check_unanswered.specs.View.{Holds, PendingView}
 use Rattle.check_coverage.specs.View.{Covers}
 use Rattle.check_coverage.specs.declared.coverage.Coverage.{Coverage}
@@ -34,5 +34,5 @@ returns-clause-keeps c system before course row text is kept =
           (sym (ap (λ (t : Tally). t.coverage) mid)) covers);
     })
     left.2
-    (subst (λ (w : View). Keeps (record plan { resets = left.0; own = left.1 }) [] w)
+    (subst (λ (w : OrderedView). KeepsOrdered (record plan { resets = left.0; own = left.1 }) [] w)
     (sym (ap (λ (t : Tally). t.watch) last ∙ ap (λ (t : Tally). t.watch) mid)) left.3)

@@ -1,6 +1,6 @@
 -- What is told of a row where replies are not told.
 use Rattle.std.proofs.Common.{◌≡◌, ◌∷◌, true, false, sym, subst}
-use Rattle.check_unanswered.specs.Began.{row_with}
+use Rattle.check_rows.specs.Row.{row_with}
 use Rattle.check_sides.specs.Plan.{HasLink, IsWatched, Layout}
 use Rattle.check_review.specs.Order.{is_watched, sightings_of}
 use Rattle.check_review.specs.Told.{AppendsTold}

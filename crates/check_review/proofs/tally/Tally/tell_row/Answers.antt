@@ -1,8 +1,8 @@
 -- What is told of a row whose link is watched.
 use Rattle.std.proofs.Common.{◌≡◌, ◌∙◌, ◌∷◌, true, IfSome, Option, ap, sym, subst}
-use Rattle.check_unanswered.specs.Began.{row_with}
+use Rattle.check_rows.specs.Row.{row_with}
 use Rattle.check_sides.specs.Plan.{HasLink, IsWatched, Layout}
-use Rattle.check_sides.specs.View.{Keeps, View}
+use Rattle.check_turns.specs.View.{KeepsOrdered, OrderedView}
 use Rattle.check_coverage.specs.View.{Covers}
 use Rattle.check_coverage.specs.declared.coverage.Coverage.{Coverage}
 use Rattle.check_review.specs.Stretches.{bins_in}
@@ -36,7 +36,7 @@ returns-in-Ok-tell-clause-row c =
             covers = λ was keeps ends. c.in-Ok-cover.ensures.covers plan (bins_in earlier.ended) (watched plan.layout before) c.args.lanes.now
                 (subst (λ (o : Option Coverage). IfSome o (Covers plan (bins_in earlier.ended) (watched plan.layout before)))
                 (sym c.count.ensures.coverage) was)
-                (subst (λ (w : View). Keeps plan (row.sighting ∷ past) w) (sym c.count.ensures.watch) keeps) ends;
+                (subst (λ (w : OrderedView). KeepsOrdered plan (row.sighting ∷ past) w) (sym c.count.ensures.watch) keeps) ends;
           });
       told = λ earlier plan before tallied.
           let past = sightings_of plan.layout before in
@@ -49,7 +49,7 @@ returns-in-Ok-tell-clause-row c =
           c.in-Ok.seen c.args.text.now.items c.tell.new.text.items
           (ap (λ (t : Tally). t.trace) rest ∙ c.count.ensures.trace)
           (rw rest (rw c.count.ensures.watch judged.keeps.suits.layout))
-          judged.seen judged.keeps.lawful.1 c.in-Ok-tell.ensures.told);
+          judged.seen judged.keeps.lawful.beats.1 c.in-Ok-tell.ensures.told);
       fault = λ earlier plan before tallied. tt;
       quiet = tt;
       uncovered = tt;

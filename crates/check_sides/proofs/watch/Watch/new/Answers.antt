@@ -39,6 +39,7 @@ keeps_by : (c : goal.In_ok-shared) (plan : Plan) → IsPlan plan
     → plan.layout ≡ record {
       links = c.args.links;
       apart = c.args.apart.items;
+      fifos = c.args.fifos;
       rules = c.args.rules;
       owners = c.args.sources;
       ports = c.args.map;

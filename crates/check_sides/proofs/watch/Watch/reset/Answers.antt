@@ -5,7 +5,7 @@ use Rattle.check_watch.specs.View.{GroupView, KeepsGroup}
 use Rattle.check_watch.proofs.Resetting.{on_ok, written_back}
 use Rattle.check_sides.specs.Groups.{are_apart, shared_past}
 use Rattle.check_sides.specs.Plan.{Layout}
-use Rattle.check_sides.specs.Reset.{AreResetLinks, reset_plan}
+use Rattle.check_sides.specs.Reset.{AreResetLinks, plan_after_reset}
 use Rattle.check_sides.specs.View.{HaveBuses, IsSized, Keeps, PortView, View}
 use Rattle.check_sides.proofs.Restarting.{is_reset, keeps_on, own_after}
 use Rattle.check_sides.proofs.watch.Watch.reset.Goals as goal
@@ -63,7 +63,7 @@ returns-clause-reset c = λ plan past keeps.
       own_after plan past view new keeps c.sized.ensures c.args.loaded.items c.args.own.items group.0 layout counted links,
       is_reset plan past view new keeps c.sized.ensures c.args.loaded.items c.args.own.items group.0 layout counted links
           group.1,
-      subst (λ (l : List PortView). Keeps (reset_plan plan group.0 (own_after plan past view new keeps c.sized.ensures c.args.loaded.items c.args.own.items group.0 layout counted links)) [] (record new { ports = l })) (sym back)
+      subst (λ (l : List PortView). Keeps (plan_after_reset plan group.0 (own_after plan past view new keeps c.sized.ensures c.args.loaded.items c.args.own.items group.0 layout counted links)) [] (record new { ports = l })) (sym back)
           (keeps_on plan past view new keeps c.sized.ensures c.args.loaded.items c.args.own.items group.0 layout counted
           links group.2),
     ))

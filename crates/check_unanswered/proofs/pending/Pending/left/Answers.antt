@@ -5,7 +5,7 @@ use Rattle.check_watch.specs.Plan.{LinkSide}
 use Rattle.check_watch.specs.Plan.LinkSide.{AtMasters, AtPorts}
 use Rattle.check_sides.specs.Plan.{Plan}
 use Rattle.check_rows.specs.Row.{SeenRow}
-use Rattle.check_unanswered.specs.declared.request.Left.{Left}
+use Rattle.check_rows.specs.declared.request.Left.{Left}
 use Rattle.check_unanswered.specs.Began.{IsComplete, IsCompleteOn, IsLeft}
 use Rattle.check_unanswered.specs.Table.{IsEarliestOf, opens}
 use Rattle.check_unanswered.specs.View.{Holds, PendingView}

@@ -4,7 +4,7 @@ use Rattle.tl_map.specs.Owner.{IsOwned}
 use Rattle.tl_map.specs.declared.owners.Owner.{Owner}
 use Rattle.check_watch.specs.Plan.{LinkSide}
 use Rattle.check_watch.specs.Plan.LinkSide.{AtMasters, AtPorts}
-use Rattle.check_unanswered.specs.declared.request.Open.{Open}
+use Rattle.check_rows.specs.declared.request.Open.{Open}
 use Rattle.check_unanswered.specs.Table.{open_at}
 use Rattle.check_unanswered.specs.View.{open_table}
 use Rattle.check_unanswered.proofs.Kept.{holds_fresh}

@@ -2,7 +2,8 @@
 use Rattle.std.proofs.Common.{◌∷◌, ◌+◌, ◌%◌, ◌^◌, None, Some, refl, sym, subst}
 use Rattle.check_watch.specs.Plan.{side_of}
 use Rattle.check_sides.specs.Pending.{IsChange}
-use Rattle.check_unanswered.specs.Began.{beats_of, began_with, row_with}
+use Rattle.check_rows.specs.Row.{beats_of, row_with}
+use Rattle.check_unanswered.specs.Began.{began_with}
 use Rattle.check_unanswered.specs.View.{Holds, PendingView, with_open}
 use Rattle.check_unanswered.proofs.Kept.{holds_begins, holds_ends, holds_nothing}
 use Rattle.check_unanswered.proofs.pending.Pending.note.Goals as goal

@@ -30,6 +30,7 @@ returns-clause-plan c =
       layout = record {
         links = c.args.links;
         apart = c.args.apart.items;
+        fifos = c.args.fifos;
         rules = c.args.rules;
         owners = c.args.sources;
         ports = c.args.map;

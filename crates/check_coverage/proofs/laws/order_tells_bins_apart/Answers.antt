@@ -1,5 +1,0 @@
-use Rattle.check_coverage.proofs.Exact.{exact_eq, same}
-use Rattle.check_coverage.proofs.laws.order_tells_bins_apart.Goals as goal
-
-pub returns : goal.returns
-returns c one other = (exact_eq one other, same one other)

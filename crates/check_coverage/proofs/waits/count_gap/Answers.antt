@@ -1,0 +1,22 @@
+-- A beat of the same message came before, or none did.
+use Rattle.std.proofs.Common.{◌∙◌, ℕ, List, [], ◌∷◌, Option, ap, sym, subst}
+use Rattle.std.specs.Prelude.{OnOk}
+use Rattle.check_bins.specs.declared.bin.Bin.{Bin}
+use Rattle.check_bins.specs.declared.bin.Bin.TheVariants as bin
+use Rattle.check_coverage.specs.Bins.{gap_bins}
+use Rattle.check_bins.specs.Counting.{Adds}
+use Rattle.check_bins.proofs.Counted.{adds_none}
+use Rattle.check_coverage.proofs.waits.count_gap.Goals as goal
+
+pub returns-in-Some : goal.returns-in-Some
+returns-in-Some c = λ this is_this.
+    subst (λ (l : List Bin). OnOk c.add.result (Adds c.args.counts.now c.add.new.self l))
+    ((λ i. bin.Gap (c.pair.ensures this is_this i) c.args.channel (c.step_between.ensures i) ∷ [])
+    ∙ ap (λ (o : Option ℕ). gap_bins c.args.rules c.args.channel c.args.time o this) (sym c.in-Some.is))
+    c.add.ensures
+
+pub returns-in-None : goal.returns-in-None
+returns-in-None c = λ this is_this.
+    subst (λ (l : List Bin). Adds c.args.counts.now c.args.counts.now l)
+    (ap (λ (o : Option ℕ). gap_bins c.args.rules c.args.channel c.args.time o this) (sym c.in-None.is))
+    (adds_none c.args.counts.now)

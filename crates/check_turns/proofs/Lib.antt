@@ -1,0 +1,3 @@
+mod Turning
+pub mod Judging
+mod Ordering

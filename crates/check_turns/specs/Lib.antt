@@ -1,0 +1,4 @@
+pub mod Turns
+pub mod Lawful
+pub mod View
+pub mod Steps
