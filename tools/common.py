@@ -27,22 +27,9 @@ ORDER_WORDS = (*ORDERS, *(f"{masters}/{ports}" for masters in ORDERS for ports i
 SIDE_KEYS = {"m": "masters", "p": "ports"}
 # The keys of a script: of the document, of a port and of a master.
 KEYS = {"": ("slots", "port", "master"), "port": ("kind", "base", "length", "reset"), "master": ("sources", "ops")}
-# The keys of a system file; those of a script that it may have too; and those that say where signals are (docs/CAPTURE.md).
+# The signals of a link.
 SIGNALS = ("a_valid", "a_ready", "a_opcode", "a_param", "a_size", "a_source", "a_address", "a_mask", "a_data", "a_corrupt", "d_valid", "d_ready",
            "d_opcode", "d_param", "d_size", "d_source", "d_data", "d_denied", "d_corrupt")
-SYSTEM_KEYS = {"": ("bus", "unaligned", "decode", "resets", "period", "port", "master", "clock", "reset", "reset_active", "edge", "bits", "names",
-                    "slots", "extra"),
-               "names": (*SIGNALS, "extra"),
-               "port": ("name", "kind", "base", "length", "ranges", "reset", "image", "unknown", "sizes", "order", "bus", "mirror", "volatile",
-                        "on_reset", "hosts", "sources", "crossing", "signals", "wires", "bits", "clock", "link_reset", "reset_active", "edge", "extra"),
-               "master": ("name", "sources", "first", "stride", "bus", "reach", "signals", "wires", "bits", "clock", "link_reset", "reset_active",
-                          "edge", "ops", "extra"),
-               "sizes": ("get", "putfull", "putpart", "arithmetic", "logical", "intent", "extra"),
-               "order": (*SIDE_KEYS.values(), "extra"),
-               # of the tables of a port's `sources`; those of a master are a number
-               "sources": ("master", "first", "stride", "extra"),
-               "wires": (*SIGNALS, "extra")}
-
 # The signals of a handshake, which stand outside of the bundle `bits` of their channel.
 HANDSHAKES = ("a_valid", "a_ready", "d_valid", "d_ready")
 

@@ -2,7 +2,8 @@
 
 import html
 
-from coverage_text import AFTER, ERROR, MOST_IN_FLIGHT, NAMES, SHAPES, SIZES
+from coverage_text import ACCESSES, AFTER, CAUSES, EDGES, ERROR, MOST_IN_FLIGHT, NAMES, SHAPES, SIZES, SOURCES_APART, WHERE, WIDEST_BUS
+from partial_memory import ranges_of
 
 STYLE = """
 body { font: 14px/1.4 sans-serif; margin: 2em; max-width: 72em }
@@ -41,6 +42,10 @@ def named(table_of_system, letter, number):
     return table_of_system.get("name", f"{letter}{number}")
 
 
+def steps():
+    return [f"{after} and more" if after == AFTER[-1] else after for after in AFTER]
+
+
 def tables_of_port(system, goals, counts, place, port):
     masters = list(enumerate(system["master"]))
     for answer in ("given", "denied"):
@@ -52,14 +57,39 @@ def tables_of_port(system, goals, counts, place, port):
                     rows.append((f"{named(master, 'm', number)} {name}", [cell(goals, counts, bin) for bin in bins]))
         if rows:
             yield table(f"replies that were {answer}, by operation and bytes", [1 << size for size in SIZES], rows)
-    if any(("mask", number, place, shape) in goals for number, _ in masters for shape in SHAPES):
-        rows = [(named(master, "m", number), [cell(goals, counts, ("mask", number, place, shape)) for shape in SHAPES])
-                for number, master in masters]
-        yield table("partial puts, by the bytes that they give", SHAPES, rows)
+    rows = []
+    for number, master in masters:
+        for size in SIZES:
+            bins = [("mask", number, place, size, shape) for shape in SHAPES]
+            if any(bin in goals or counts.get(bin) for bin in bins):
+                rows.append((f"{named(master, 'm', number)} {1 << size}", [cell(goals, counts, bin) for bin in bins]))
+    if rows:
+        yield table("partial puts by their bytes, and by those of them that they give", SHAPES, rows)
+    rows = [(named(master, "m", number), [cell(goals, counts, ("overtook", number, place, where)) for where in WHERE]) for number, master in masters]
+    yield table("replies that overtook one of an older request of their master, by the port of that one", [f"{where} port" for where in WHERE], rows)
+    if any(("refused", place, cause) in goals or counts.get(("refused", place, cause)) for cause in CAUSES):
+        yield table("denied replies, by the cause", CAUSES, [("", [cell(goals, counts, ("refused", place, cause)) for cause in CAUSES])])
+    rows = []
+    for number, master in masters:
+        for channel in ("A", "D"):
+            bins = [("gap", number, place, channel, after) for after in AFTER]
+            if any(bin in goals or counts.get(bin) for bin in bins):
+                rows.append((f"{named(master, 'm', number)} {channel}", [cell(goals, counts, bin) for bin in bins]))
+    if rows:
+        yield table("beats of a message, by the clocks since the beat before", steps(), rows)
     if place != ERROR:
+        cells = [cell(goals, counts, ("latency", place, after)) for after in AFTER]
+        yield table("replies, by the clocks from the request's first beat to theirs", steps(), [("", cells)])
         counted = [count for count in range(1, MOST_IN_FLIGHT + 1) if ("at_port", place, count) in goals]
         cells = [cell(goals, counts, ("at_port", place, count)) for count in counted]
         yield table("requests in flight at once at this port", counted, [("", cells)])
+        rows = []
+        for number, (base, length) in enumerate(ranges_of(port)):
+            bins = [("range", place, number), *(("edge", place, number, edge) for edge in EDGES)]
+            rows.append((f"{base:#x} and {length} bytes", [cell(goals, counts, bin) for bin in bins]))
+        yield table("requests by the range that has them", ["all", *(f"with the {edge} byte" for edge in EDGES)], rows)
+        rows = [(f"after {one}", [cell(goals, counts, ("after", place, one, other)) for other in ACCESSES]) for one in ACCESSES]
+        yield table("requests that share a byte with the one before them at the port, by what both do", ACCESSES, rows)
         cells = [cell(goals, counts, ("contested", place))]
         yield table("requests that met another one in a byte that one of them writes", [""], [("", cells)])
 
@@ -67,9 +97,17 @@ def tables_of_port(system, goals, counts, place, port):
 def tables_of_master(goals, counts, number):
     counted = [count for count in range(1, MOST_IN_FLIGHT + 1) if ("in_flight", number, count) in goals]
     yield table("requests in flight at once", counted, [("", [cell(goals, counts, ("in_flight", number, count)) for count in counted])])
-    steps = [f"{after} and more" if after == AFTER[-1] else after for after in AFTER]
+    sources = [source for source in range(SOURCES_APART + 1) if ("source", number, source) in goals or counts.get(("source", number, source))]
+    heads = [f"{source} and more" if source == SOURCES_APART else source for source in sources]
+    yield table("requests by their source", heads, [("", [cell(goals, counts, ("source", number, source)) for source in sources])])
+    lanes = [offset for offset in range(WIDEST_BUS) if any(("lane", number, size, offset) in goals or counts.get(("lane", number, size, offset))
+                                                           for size in SIZES)]
+    if lanes:
+        rows = [(1 << size, [cell(goals, counts, ("lane", number, size, offset)) for offset in lanes]) for size in SIZES
+                if any(("lane", number, size, offset) in goals for offset in lanes)]
+        yield table("requests narrower than the bus, by their bytes and the place of their address in a word of the bus", lanes, rows)
     cells = [cell(goals, counts, ("again", number, after)) for after in AFTER]
-    yield table("a source used again, by the time after its last reply", steps, [("", cells)])
+    yield table("a source used again, by the time after its last reply", steps(), [("", cells)])
 
 
 def page_of(system, goals, counts):

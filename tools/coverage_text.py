@@ -4,12 +4,27 @@ import re
 
 from common import MAX_SIZE, OPERATIONS
 
-FIRST = "coverage 1"
+FIRST = "coverage 2"
+# The first line of the version before this one, whose lines said less.
+OLDER = "coverage 1"
 SHAPES = ("none", "all", "one", "hole", "low", "high", "even", "odd", "other")
-# The least of each step of clocks between a reply and the next request of its source.
+# The least of each step of clocks between two beats.
 AFTER = (0, 1, 2, 3, 4, 8, 16)
 # So many requests in flight, or more, are counted as one.
 MOST_IN_FLIGHT = 64
+# The sources of a master that are told apart are those below this; it stands for itself and those above.
+SOURCES_APART = 64
+# The most bytes of a bus.
+WIDEST_BUS = 64
+# A port has at most so many ranges.
+MOST_RANGES = 16
+EDGES = ("first", "last")
+# What a request does to its bytes; a hint is a prefetch.
+ACCESSES = ("read", "write", "atomic", "hint")
+# Why a reply is denied.
+CAUSES = ("nowhere", "no_path", "unaligned", "beyond", "unserved")
+# Whether a reply overtakes an older one of the same port, or of another.
+WHERE = ("same", "other")
 BEATS = tuple(1 << power for power in range(9))
 SIZES = range(MAX_SIZE + 1)
 NAMES = tuple(OPERATIONS)
@@ -19,12 +34,20 @@ KINDS = {
     "asked": (MASTER, PORT, NAMES, SIZES, ("aligned", "unaligned")),
     "answered": (MASTER, PORT, NAMES, SIZES, ("given", "denied")),
     "beats": (MASTER, PORT, ("A", "D"), BEATS),
-    "mask": (MASTER, PORT, SHAPES),
+    "mask": (MASTER, PORT, SIZES, SHAPES),
     "in_flight": (MASTER, range(1, MOST_IN_FLIGHT + 1)),
     "at_port": (PORT, range(1, MOST_IN_FLIGHT + 1)),
-    "overtook": (MASTER, PORT),
+    "overtook": (MASTER, PORT, WHERE),
     "again": (MASTER, AFTER),
     "contested": (PORT,),
+    "source": (MASTER, range(SOURCES_APART + 1)),
+    "range": (PORT, range(MOST_RANGES)),
+    "edge": (PORT, range(MOST_RANGES), EDGES),
+    "latency": (PORT, AFTER),
+    "gap": (MASTER, PORT, ("A", "D"), AFTER),
+    "refused": (PORT, CAUSES),
+    "lane": (MASTER, SIZES, range(WIDEST_BUS)),
+    "after": (PORT, ACCESSES, ACCESSES),
 }
 # A port's number that stands for the error port: it comes after all others.
 ERROR = 1 << 16
@@ -68,6 +91,8 @@ def read_word(table, word):
 def read(text):
     """The counts of a text by their bins."""
     lines = text.split("\n")
+    if lines[0] == OLDER:
+        raise NoCoverage(f"line 1: `{OLDER}` is of an older version, whose lines say less than those of `{FIRST}`: judge the captures again")
     if lines[0] != FIRST or lines.pop():
         raise NoCoverage(f"line 1: not `{FIRST}`" if lines[0] != FIRST else "the last line has no end")
     counts = {}

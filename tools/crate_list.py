@@ -16,3 +16,17 @@ def below(name, all_crates):
     """The crates that a crate stands on."""
     named = {other for other in all_crates[name] if other in all_crates}
     return named.union(*(below(other, all_crates) for other in named))
+
+
+def ways(all_crates):
+    """How many ways lead down from the crates to the crates below them, each crate itself a way. `rt` sums up the sources of a crate anew
+    for each.
+    """
+    known = {}
+
+    def down(name):
+        if name not in known:
+            known[name] = 1 + sum(down(other) for other in all_crates[name] if other in all_crates)
+        return known[name]
+
+    return sum(down(name) for name in all_crates)

@@ -6,6 +6,8 @@ The second system has ports that list masters. At `ram` the sources of dma are e
 8, 12, 16 and 20, and dma none. At `last`, core has 0 to 3, and dma 4 and 5.
 
 The third system has a port that is judged by itself, `far`, and one that is compared, `ram`, to which dma has no path.
+
+The fourth system has links whose replies come in order, core's and `ram`'s.
 """
 
 from causes import ADAPTED
@@ -383,4 +385,73 @@ APART_CASES = (
     (["--complete"], BOTH_LEFT, (
         "core, source 0: it has not crossed at ram's link", "!core, source 1: it has not crossed at far's link",
         "far, source 7: get 0x2000 of 1 byte, line 4, time 12; not answered yet")),
+)
+
+QUEUED = """[[port]]
+name = "ram"
+kind = "ram"
+base = 0x1000
+length = 64
+fifo = true
+[[port]]
+name = "rom"
+kind = "rom"
+base = 0x2000
+length = 64
+[[master]]
+name = "core"
+sources = 4
+fifo = true
+[[master]]
+name = "dma"
+sources = 4
+"""
+# rom is faster than ram, and core gets its reply first. The put of source 3 has one of two beats, and is younger.
+FASTER = f"""10,m0,A,4,0,0,2,1000,01,,,
+11,p0,A,4,0,0,2,1000,01,,,
+11,m0,A,4,0,0,0,2000,01,,,
+12,p1,A,4,0,0,0,2000,01,,,
+13,m0,A,0,0,4,3,1000,ff,{LOW},,
+13,p1,D,1,,0,0,,,0000000000000000,0,0
+14,m0,D,1,,0,0,,,0000000000000000,0,0
+"""
+# ram answers the third request first. The second one is the oldest without a reply.
+THIRD = """10,p0,A,4,0,0,4,1000,01,,,
+11,p0,A,4,0,0,2,1001,02,,,
+12,p0,A,4,0,0,0,1002,04,,,
+13,p0,A,4,0,0,5,1003,08,,,
+14,p0,D,1,,0,4,,,0000000000000000,0,0
+15,p0,D,1,,0,5,,,0000000000000000,0,0
+"""
+# The error port is faster than rom.
+NOWHERE = """10,m0,A,4,0,0,1,2000,01,,,
+11,m0,A,4,0,0,0,7000,01,,,
+12,m0,D,1,,0,0,,,0000000000000000,1,1
+"""
+# rom is faster than the error port.
+REFUSED_LATE = """10,m0,A,4,0,0,1,7000,01,,,
+11,m0,A,4,0,0,0,2000,01,,,
+12,m0,D,1,,0,0,,,0000000000000000,0,0
+"""
+QUEUED_CASES = (
+    ([], FASTER, (
+        "the request: core, source 0: get 0x2000 of 1 byte, line 4, time 11", "its turn is after 1 older request",
+        "the next reply has to answer: core, source 2: get 0x1000 of 1 byte, line 2, time 10; not answered yet", "that request goes to ram",
+        "at the other side: rom, source 0 (source 0 of core): get 0x2000 of 1 byte, line 5, time 12; answered at line 7, time 13",
+        f"between rom and core: {BETWEEN}", "the arbiter of replies: it lets a faster port, or the error port, reply first")),
+    (["--links", "masters"], FASTER, (
+        "its turn is after 1 older request", "between the ports and core: with --links ports all is lawful up to there")),
+    (["--links", "ports"], THIRD, (
+        "the request: ram, source 5 (source 1 of dma): get 0x1003 of 1 byte, line 5, time 13", "its turn is after 2 older requests",
+        "the next reply has to answer: ram, source 2 (source 2 of core): get 0x1001 of 1 byte, line 3, time 11; not answered yet",
+        "!that request goes to ram", "!its turn is after 3 older requests",
+        "the queue that keeps the order of requests at this link: its depth, and what it keeps of each request")),
+    (["--links", "each"], THIRD, (
+        "the next reply has to answer: ram, source 2: get 0x1001 of 1 byte, line 3, time 11; not answered yet",
+        "in ram: this reply is unlawful by what crossed at its link alone; all requests there are lawful up to there")),
+    (["--links", "masters"], NOWHERE, (
+        "the next reply has to answer: core, source 1: get 0x2000 of 1 byte, line 2, time 10; not answered yet", "that request goes to rom")),
+    (["--links", "masters"], REFUSED_LATE, (
+        "the next reply has to answer: core, source 1: get 0x7000 of 1 byte, line 2, time 10; not answered yet",
+        "that request goes to the error port", "`fifo` of this link in the system file, if replies may overtake there")),
 )

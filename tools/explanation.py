@@ -190,6 +190,8 @@ class Explainer:
             yield self.last_request(key)
         elif fault == "no such source":
             yield self.of_nobody(row)
+        elif fault == "reply out of order":
+            yield from self.of_turn(row)
         elif fault == "size of another request":
             yield f"the request has {bytes_of(message.size)}, the reply {1 << row.number(5)}"
             yield from self.others_of(row, lambda other: other.size == row.number(5))
@@ -203,6 +205,15 @@ class Explainer:
         if row.link[0] == "m":
             yield from self.sides.of_other(message) if message else ()
             yield from self.sides.of_not_had(row)
+
+    def of_turn(self, row):
+        """The oldest request of a link without a reply, which the next reply has to answer, and how many are older than the beat's own."""
+        left = [other for other in self.in_flight() if other.link == row.link and not other.answered]
+        older = left.index(self.story.flights[row.link, row.number(6)])
+        yield f"its turn is after {counted(older, 'older request')}"
+        yield f"the next reply has to answer: {self.text(left[0])}"
+        if row.link[0] == "m":
+            yield f"that request goes to {self.system.names.get(f'p{left[0].port}', 'the error port')}"
 
     def others_of(self, row, fits):
         """Requests in flight at the link that the reply would fit."""

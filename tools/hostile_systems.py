@@ -12,7 +12,8 @@ import re
 import subprocess
 
 import coverage_text
-from common import GROUPS, HEADER, LONGEST_SCRIPT, OPERATIONS, ORDER_WORDS, REPLIES, SECONDS, SYSTEM_KEYS, SYSTEM_KINDS, TLCHECK, TOP, system_of
+from common import GROUPS, HEADER, LONGEST_SCRIPT, OPERATIONS, ORDER_WORDS, REPLIES, SECONDS, SYSTEM_KINDS, TLCHECK, TOP, system_of
+from system_keys import SYSTEM_KEYS
 
 KEY = "|".join(sorted({key for keys in SYSTEM_KEYS.values() for key in keys}))
 NAME = "[A-Za-z0-9_.-]+"
@@ -39,7 +40,7 @@ ENDS = {
 IMAGES = {"none.bin": None, "short.bin": 16, "page.bin": 4096, "long.bin": 70000}
 OTHERS = ("missing.bin", "folder", "dangling.bin", "", ".", "short.bin/", "/proc/self/mem", "/dev/null", "a" * 300, "\\u0000")
 WORDS = ["bus", "port", "master", "kind", "base", "length", "ranges", "image", "unknown", "sizes", "order", "mirror", "volatile", "resets", "on_reset", "hosts",
-         "sources", "crossing", "first", "stride", "name", "names", "signals", "=",
+         "sources", "crossing", "fifo", "first", "stride", "name", "names", "signals", "=",
          "=", "[[port]]", "[[master]]", "[", "]", "{", "}", ",", "\n", "\n", "0", "1", "4", "64", "-1", "65536", "0x1000", "1.5", "true", "'ram'",
          "'device'", "'short.bin'", "'00ff'", "'accept'", "[0, 3]", "'''", '"""', "#", "\\", "\0", "é"]
 VALUES = ["0", "1", "2", "4", "16", "-1", "64", "0x1000", "0x1_0000", "65536", "9223372036854775807", "9223372036854775808", "1.5", "true", "false",
@@ -132,6 +133,7 @@ def port_of(rng, place, wild):
             (0.1, "sources", ["[{ master = 0, first = 9 }]"] + ["[]", "1", "[{}]", "[{ master = 0, first = 65535, stride = 65535 }]",
                                                                 "[{ master = 1, first = 0 }, { master = 0, first = 0 }]", "[{ first = 0, x = 1 }]"] * odd),
             (0.3, "crossing", ["'none'", "'same'"] + ["''", "'None'", "'parts'", "true", "['none']", "{}"] * odd),
+            (0.3, "fifo", ["true", "false"] + ["1", "'true'", "[]"] * odd),
             (0.3, "name", [f"'s{place}'"] + ["'p0'", "''", "1", "'s0'"] * odd)):
         if rng.random() < chance:
             text.append(f"{key} = {rng.choice(values)}")
@@ -152,6 +154,8 @@ def valued(rng, wild):
         if rng.random() < 0.2:
             reached = ["[]", "[0]", "['s0']", "[0, 1]"] + ["[0, 0]", "[255]", "[-1]", "[1.0]", "[[]]", "0"] * wild
             text.append(f"reach = {rng.choice(reached)}")
+        if rng.random() < 0.2:
+            text.append(f"fifo = {rng.choice(['true', 'false'] + ['1', chr(39) * 2, '[true]'] * (wild and rng.random() < 0.2))}")
     return "\n".join(text).encode()
 
 

@@ -56,6 +56,8 @@ class Link:
         self.side, self.number, self.bus = side, number, Bus(width)
         self.name = table.get("name", f"{side}{number}")
         self.flights, self.asking, self.answering = {}, None, None
+        # where replies come in order, the requests whose replies have not begun, the oldest first
+        self.is_fifo, self.queue = table.get("fifo", False), collections.deque()
 
 
 class Flight:
@@ -203,6 +205,7 @@ class Judge:
                 if slave:
                     slave.cut(flight.ask())
             link.flights, link.asking, link.answering = {}, None, None
+            link.queue.clear()
         for slaves in self.slaves.values():
             for slave in slaves:
                 slave.reset()
@@ -214,6 +217,8 @@ class Judge:
         self.check_ask(link, row, flight)
         if flight is None:
             flight = link.asking = link.flights[row.source] = self.begun(link, row)
+            if link.is_fifo:
+                link.queue.append(flight)
         if carries_data(flight.name):
             _, lanes = link.bus.lanes(row.address, row.size)
             flight.data += [row.lanes[lane] if row.mask >> lane & 1 else None for lane in lanes]
@@ -305,10 +310,14 @@ class Judge:
             raise Unlawful("reply without request")
         if not flight.is_whole:
             raise Unlawful("reply before its request ended")
+        if link.is_fifo and link.queue[0] is not flight:
+            raise Unlawful("reply out of order")
         if row.size != flight.row.size:
             raise Unlawful("size of another request")
         if ANSWERS[row.opcode] != reply_of(flight.name):
             raise Unlawful("opcode of another operation")
+        if link.is_fifo:
+            link.queue.popleft()
         flight.reply_row = row
         return flight
 

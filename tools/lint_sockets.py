@@ -1,10 +1,10 @@
 """The faults of a port's `hosts` and `sources`, which list the masters that reach it. For tools/lint_system, which has those of all other keys
 of a system file."""
 
+from system_keys import MAX_MASTERS, MAX_WIDE
 from toml_lines import Fault, is_integer, wanted
 from wide_sources import listed_at
 
-MAX_MASTERS, MAX_WIDE = 64, 65_535
 LISTS = ("hosts", "sources")
 
 

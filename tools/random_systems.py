@@ -6,14 +6,14 @@ import collections
 from bus import Bus, bus_of, reply_of
 from common import BUSES, GROUPS, KINDS, OPERATIONS, ORDERS, SIDE_KEYS, carries_data, order_at
 from partial_memory import ERROR_PORT, Ask, Reply, Slave, port_of, ranges_of
+from system_keys import MAX_WIDE
 from wide_sources import WideSources, is_reached
 
 # What a crossbar or a slave of a run may do wrong.
 BUGS = ("byte of a reply at its port", "byte of a reply at its master", "byte of a request", "denial of a reply", "lost put", "sent twice",
         "sent to another port", "early reply", "reply to another source", "unknown byte of a reply", "source shifted otherwise", "source of another master",
-        "sent without a path", "source sent twice", "number in flight given again", "number of an adapter that the system does not have")
-# The greatest source at a port's link.
-MAX_WIDE = 65_535
+        "sent without a path", "source sent twice", "number in flight given again", "number of an adapter that the system does not have",
+        "reply that overtakes")
 
 
 def sizes_of(rng):
@@ -55,7 +55,8 @@ def port_of_system(rng, number, images):
         port["unknown"] = rng.random() < 0.8
     others = {"sizes": lambda: sizes_of(rng), "order": lambda: order_of(rng), "name": lambda: f"slave_{number}",
               "volatile": lambda: [volatile_of(rng, ranges[0][1]) for _ in range(rng.choice([1, 1, 2, 5]))],
-              "on_reset": lambda: rng.choice(["keep", "load"]), "crossing": lambda: rng.choice(["none", "none", "same"])}
+              "on_reset": lambda: rng.choice(["keep", "load"]), "crossing": lambda: rng.choice(["none", "none", "same"]),
+              "fifo": lambda: rng.random() < 0.8}
     port.update((key, value()) for key, value in others.items() if rng.random() < 0.3)
     return port
 
@@ -142,6 +143,8 @@ def system_of(rng):
     for number, master in enumerate(system["master"]):
         if rng.random() < 0.3:
             master["reach"] = reach_of(rng, system, number)
+        if rng.random() < 0.3:
+            master["fifo"] = rng.random() < 0.8
     return system, images
 
 
@@ -189,18 +192,49 @@ class Message:
         return self.count - len(self.rows)
 
 
-class Channel:
-    """A channel of a link: the message under way there, and those that may begin."""
+class Turns:
+    """The requests of a link whose replies come in order, the oldest first, up to the first beat of their replies. With a bug one overtakes."""
 
-    def __init__(self, front):
-        self.front, self.message, self.waiting = front, None, []
+    def __init__(self, overtakes):
+        self.overtakes, self.asked = overtakes, collections.deque()
+
+    def places(self, waiting):
+        """The places of the replies that may begin now, among those that wait."""
+        first = [place for place, (transfer, _) in enumerate(waiting) if self.asked and transfer is self.asked[0]]
+        others = [place for place in range(len(waiting)) if place not in first]
+        return others if others and self.overtakes() else first
+
+
+class Channel:
+    """A channel of a link: the message under way there, and those that may begin, each with its transfer. Of a link whose replies come in order
+    both channels have its turns."""
+
+    def __init__(self, front, turns=None):
+        self.front, self.turns, self.message, self.waiting = front, turns, None, []
+        self.is_reply = front.endswith("D")
+
+    def wait(self, transfer, begin):
+        """A message waits for its turn; then it begins."""
+        self.waiting.append((transfer, begin))
+
+    def begun(self, rng):
+        """A message that begins now, if one may."""
+        places = self.turns.places(self.waiting) if self.turns and self.is_reply else range(len(self.waiting))
+        if not places:
+            return None
+        transfer, begin = self.waiting.pop(rng.choice(places))
+        if self.turns and not self.is_reply:
+            self.turns.asked.append(transfer)
+        elif self.turns and transfer in self.turns.asked:
+            self.turns.asked.remove(transfer)
+        return begin()
 
     def beat(self, rng):
         """The row of a beat that crosses now, if one does. A message begins when its first beat crosses, unless that has to wait as its last."""
         if rng.random() < 0.2:
             return None
         if self.message is None and self.waiting and rng.random() < 0.7:
-            self.message = self.waiting.pop(rng.randrange(len(self.waiting)))()
+            self.message = self.begun(rng)
         message = self.message
         if message is None or len(message.rows) == 1 and not message.may_end():
             return None
@@ -246,7 +280,10 @@ class Run:
         self.bug = bug
         self.buses = {"m": [Bus(bus_of(system, master)) for master in self.masters], "p": [Bus(bus_of(system, port)) for port in self.ports]}
         self.slaves = [*(Slave(port, images.get(number, b"")) for number, port in enumerate(self.ports)), Slave(ERROR_PORT)]
-        self.channels = {(side, number, channel): Channel(f"{side}{number},{channel}")
+        # the turns of the links whose replies come in order
+        self.turns = {(side, number): Turns(lambda: self.has_bug("reply that overtakes", 0.9))
+                      for side, tables in (("m", self.masters), ("p", self.ports)) for number, table in enumerate(tables) if table.get("fifo")}
+        self.channels = {(side, number, channel): Channel(f"{side}{number},{channel}", self.turns.get((side, number)))
                          for side, channel in (("m", "A"), ("p", "A"), ("p", "D"), ("m", "D")) for number in range(len(self.buses[side]))}
         self.sources = WideSources(system)
         self.free = [set(range(master["sources"])) for master in self.masters]
@@ -299,6 +336,8 @@ class Run:
         for channel in self.channels.values():
             channel.message = None
             channel.waiting.clear()
+        for turns in self.turns.values():
+            turns.asked.clear()
         for free, master in zip(self.free, self.masters):
             free.update(range(master["sources"]))
         for numbers in (self.services, self.freed, self.transfers, *self.used):
@@ -344,7 +383,7 @@ class Run:
                 ask = asks.pop()
                 transfer = Transfer(ask, self.port_to(master, ask), master, source)
                 self.transfers.append(transfer)
-                channel.waiting.append(lambda transfer=transfer: self.ask_at_master(transfer))
+                channel.wait(transfer, lambda transfer=transfer: self.ask_at_master(transfer))
 
     def port_to(self, master, ask):
         """The port to which a request goes. If the master has no path to the port that has its address, a crossbar with a bug sends it there."""
@@ -355,7 +394,7 @@ class Run:
         """A request waits for its turn at its port's link."""
         port = self.rng.randrange(len(self.ports)) if self.has_bug("sent to another port") else transfer.port
         for _ in range(1 + self.has_bug("sent twice")):
-            self.channels["p", port, "A"].waiting.append(lambda: self.ask_at_port(transfer, port))
+            self.channels["p", port, "A"].wait(transfer, lambda: self.ask_at_port(transfer, port))
 
     def asks_behind(self, transfer):
         """What an adapter asks its port when a master asks: the same, two halves of it, a get before a put, what comes to its mind, or nothing."""
@@ -470,9 +509,9 @@ class Run:
     def reply_begins(self, transfer, port, wide, service):
         """A reply waits for its turn: at the port's link, or at the master's if its request did not go on."""
         if port is None:
-            self.channels["m", transfer.master, "D"].waiting.append(lambda: self.reply_at_master(transfer, service.done()))
+            self.channels["m", transfer.master, "D"].wait(transfer, lambda: self.reply_at_master(transfer, service.done()))
         else:
-            self.channels["p", port, "D"].waiting.append(lambda: self.reply_at_port(transfer, port, wide, service.done()))
+            self.channels["p", port, "D"].wait(transfer, lambda: self.reply_at_port(transfer, port, wide, service.done()))
 
     def reply_columns(self, side, number, transfer, source, reply):
         bus, ask = self.buses[side][number], transfer.ask
@@ -494,7 +533,7 @@ class Run:
 
     def reply_at_port(self, transfer, port, wide, reply):
         if transfer.master is not None:
-            self.channels["m", transfer.master, "D"].waiting.append(lambda: self.reply_at_master(transfer, reply))
+            self.channels["m", transfer.master, "D"].wait(transfer, lambda: self.reply_at_master(transfer, reply))
 
         def end():
             transfer.has_come = True

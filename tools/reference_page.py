@@ -144,8 +144,8 @@ def index_of(families, crates):
     """The page that lists the pages: by family, as crates.txt has them, each with the first sentence of its own page."""
     said = ["# Reference",
             "\n".join(wrapped("Made by `tools/reference` from the sources: each crate's definitions, and the types and calls that it exports, with "
-                              "their contracts. [MODEL.md](../MODEL.md) reads the definitions aloud, [PROVED.md](../PROVED.md) has what is promised by "
-                              "which contract."))]
+                              "their contracts. [MODEL.md](../MODEL.md) says what they mean, [PROVED.md](../PROVED.md) has what is promised by which "
+                              "contract."))]
     for family, names in families:
         lines = [wrapped(f"[`{name}`]({name}.md): {first_sentence(crates[name].page)}", "- ") for name in names if name in crates]
         if lines:

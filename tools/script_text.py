@@ -2,10 +2,11 @@
 
 import json
 
-# The keys of a system file and of a script, in the order in which they are written.
-PORT_KEYS = ("name", "kind", "base", "length", "ranges", "reset", "image", "unknown", "sizes", "order", "bus", "mirror", "volatile", "on_reset", "hosts",
-             "sources", "crossing")
-MASTER_KEYS = ("name", "sources", "first", "stride", "bus", "reach")
+from system_keys import described
+
+# The keys of a port and of a master, and those of the whole system, in the order in which they are written.
+PORT_KEYS, MASTER_KEYS = described("port"), described("master")
+TOP_KEYS = tuple(key for key in described("") if key not in ("port", "master"))
 
 
 def value_of(key, value):
@@ -30,9 +31,9 @@ def table_of(name, keys, values):
 
 
 def text_of(system):
-    """The text of a script or of a system file; `slots`, `bus`, `unaligned`, `decode`, `resets`, `period` and the `ops` of a master are
-    left out if the system has none."""
-    lines = [f"{key} = {value_of(key, system[key])}" for key in ("slots", "bus", "unaligned", "decode", "resets", "period") if key in system]
+    """The text of a script or of a system file; `slots`, the keys of the whole system and the `ops` of a master are left out if the system has
+    none."""
+    lines = [f"{key} = {value_of(key, system[key])}" for key in ("slots", *TOP_KEYS) if key in system]
     for port in system.get("port", []):
         lines += ["", *table_of("port", PORT_KEYS, port)]
     for master in system["master"]:

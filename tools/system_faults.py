@@ -43,6 +43,8 @@ DOCUMENTS = ("", {
     "bus = 64": "missing master",
     # then what the links may do
     "bus = 3\nunaligned = 1": "bus out of range",
+    # replies are in order at a link, and not in the file
+    "fifo = true": "unknown key fifo (near: bits)",
     "unaligned = 1\nport = 1": "wrong type of unaligned",
     "unaligned = 'true'": "wrong type of unaligned",
     "unaligned = []": "wrong type of unaligned",
@@ -458,6 +460,57 @@ CROSSING = (PORT, {
     # hosts stands before crossing, and is as near
     "cross = 'none'": "unknown key cross (near: hosts)",
 })
+# Whether replies at a port's link come in order.
+FIFO = (PORT, {
+    "fifo = 1": "wrong type of fifo",
+    "fifo = 'true'": "wrong type of fifo",
+    "fifo = [true]": "wrong type of fifo",
+    "fifo = {}": "wrong type of fifo",
+    "fifo = true": "missing master",
+    "fifo = false": "missing master",
+    "fifo = true\n[[master]]\nsources = 1": "",
+    "fifo = false\n[[master]]\nsources = 1": "",
+    # after what is compared, and before the next port and the masters
+    "fifo = 1\ncrossing = 1": "wrong type of crossing",
+    "fifo = 1\ncrossing = ''": "crossing out of range",
+    "fifo = 1\ncrossing = 'none'": "wrong type of fifo",
+    "fifo = 1\non_reset = ''": "on_reset out of range",
+    "fifo = 1\nhosts = []": "hosts out of range",
+    "fifo = 1\nsources = 1": "wrong type of sources",
+    "hosts = [7]\nfifo = 1": "wrong type of fifo",
+    "fifo = 1\n[[port]]": "wrong type of fifo",
+    "fifo = true\n[[port]]": "missing kind",
+    "fifo = 1\n[[master]]\nsources = 0": "wrong type of fifo",
+    "fifo = true\n[[port]]\nkind = 'w1c'\nbase = 8\nlength = 8\nfifo = 'false'": "wrong type of fifo",
+    # of a device too
+    "[[port]]\nkind = 'device'\nbase = 8\nlength = 8\nfifo = 1": "wrong type of fifo",
+    "[[port]]\nkind = 'device'\nbase = 8\nlength = 8\nfifo = true": "missing master",
+    # it has no other name, and no table but a port's and a master's has it
+    "fifos = true": "unknown key fifos (near: fifo)",
+    "Fifo = true": "unknown key Fifo (near: fifo)",
+    "fif0 = true\nfifo = 1": "unknown key fif0 (near: fifo)",
+    "order = { fifo = true }": "unknown key fifo (near: ports)",
+    "sources = [{ master = 0, first = 0, fifo = true }]": "unknown key fifo (near: first)",
+})
+# The same at a master's link, where it stands behind the paths.
+MASTER_FIFO = (PORT + "[[master]]\n", {
+    "sources = 1\nfifo = 1": "wrong type of fifo",
+    "sources = 1\nfifo = 'false'": "wrong type of fifo",
+    "sources = 1\nfifo = [false]": "wrong type of fifo",
+    "sources = 1\nfifo = true": "",
+    "sources = 1\nfifo = false": "",
+    "sources = 0\nfifo = 1": "sources out of range",
+    "sources = 1\nfifo = 1\nbus = 12": "bus out of range",
+    "sources = 1\nfifo = 1\nstride = 0": "stride out of range",
+    "sources = 1\nfifo = 1\nreach = 0": "wrong type of reach",
+    "sources = 1\nfifo = 1\nreach = [1]": "reach out of range",
+    "sources = 1\nfifo = 1\nreach = [0]": "wrong type of fifo",
+    "sources = 1\nfifo = 1\n[[master]]\nsources = 0": "wrong type of fifo",
+    "sources = 1\nfifo = true\n[[master]]\nsources = 0": "sources out of range",
+    "sources = 257\nfifo = 1": "wrong type of fifo",
+    "sources = 257\nfifo = true": "too many masters or sources",
+    "sources = 1\nfifos = true": "unknown key fifos (near: fifo)",
+})
 MASTERS = ("[[master]]\n", {
     "name = 1\nsources = 0": "wrong type of name",
     "name = 'm7'": "name out of range",
@@ -628,7 +681,7 @@ SHARED = ("", {
     masters_at(*(65535 if at in (2, 11) else at for at in range(12))): "masters 2 and 11 share source 65535",
 })
 TABLES = (DOCUMENTS, UNKNOWN_KEYS, NAMES, PLAIN_PORTS, RANGES, DEVICE_RANGES, CONTENTS, ONE_RANGE, SIZES, ORDERS_AND_BUSES, VOLATILE, ON_RESET, RESETS,
-          NO_RESETS, CROSSING, MASTERS, REACH, TWO_MASTERS, PARTS, SHARED, IMAGES)
+          NO_RESETS, CROSSING, FIFO, MASTER_FIFO, MASTERS, REACH, TWO_MASTERS, PARTS, SHARED, IMAGES)
 
 
 def rows(given=TABLES):

@@ -174,7 +174,7 @@ def slave_lines(link, system, most, images):
     pairs = [("NAME", f'"{link.called}"'), ("NUMBER", link.number), ("KIND", f'"{port["kind"]}"'), *widths_of(link),
              ("SIZES", digits_of(sizes_of(port, most))), ("RANGES", len(ranges))]
     pairs += [(key, 1) for key, given in (("MIRROR", port.get("mirror")), ("UNKNOWN", port.get("unknown")), ("LOADS", loads),
-                                          ("WHEN_ANSWERED", order_at(port, "p", "accept") == "reply")) if given]
+                                          ("WHEN_ANSWERED", order_at(port, "p", "accept") == "reply"), ("FIFO", port.get("fifo"))) if given]
     if "image" in port:
         pairs += [("IMAGE", f'"{port["image"]}"'), ("IMAGE_BYTES", images[link.number])]
     if reset:

@@ -190,7 +190,7 @@ COVERING = ("1,m0,A,0,0,2,0,1000,0f,00000000ddccbbaa,,\n2,m0,A,4,0,0,1,1001,02,,
 REPLY = COVERING + "10,m0,D,1,,0,1,,,00000000000000aa,0,0\n"
 WRONG = COVERING + "10,m0,D,1,,0,1,,,00000000000000ab,0,0\n"
 EARLY = COVERING + "8,m0,D,1,,0,1,,,00000000000000aa,0,0\n"
-COVERED = b"""coverage 1
+COVERED = b"""coverage 2
 asked m0 p0 putfull 2 aligned 1
 asked m0 p0 get 0 aligned 2
 answered m0 p0 putfull 2 given 1
@@ -201,12 +201,22 @@ in_flight m0 1 2
 in_flight m0 2 1
 at_port p0 1 2
 at_port p0 2 1
-overtook m0 p0 1
+overtook m0 p0 same 1
 again m0 4 1
 contested p0 1
+source m0 0 1
+source m0 1 2
+range p0 0 3
+edge p0 0 first 2
+latency p0 1 2
+latency p0 3 1
+lane m0 0 0 1
+lane m0 0 1 1
+lane m0 2 0 1
+after p0 write read 1
 """
 # What the rows cover without the last reply.
-UNANSWERED = COVERED.replace(b"get 0 given 2", b"get 0 given 1").replace(b"D 1 3", b"D 1 2")
+UNANSWERED = COVERED.replace(b"get 0 given 2", b"get 0 given 1").replace(b"D 1 3", b"D 1 2").replace(b"latency p0 1 2", b"latency p0 1 1")
 ALL = b"lawful: 6 rows, 3 requests, 3 answered\n"
 LEFT = b"lawful: 5 rows, 3 requests, 2 answered\n"
 INCOMPLETE = b"incomplete: 1 requests without reply, the first: line 6, time 9, m0 s1 get 0x1000 0\n"
@@ -246,7 +256,7 @@ def coverage():
     for name, flow, file, whole in WRITTEN:
         end = ends(0 if whole else STREAM, ALL, b"" if whole else WRITE_FAILED, files={"c.cov": file})
         yield run("what was covered is written", end, system=TWO_SOURCES, rows=capture(REPLY), words=[*ASKED, "--coverage", name], covered=flow)
-    end = ends(0, b"lawful: 0 rows, 0 requests, 0 answered\n", files={"c.cov": b"coverage 1\n"})
+    end = ends(0, b"lawful: 0 rows, 0 requests, 0 answered\n", files={"c.cov": b"coverage 2\n"})
     yield run("nothing is covered", end, system=TWO_SOURCES, rows=capture(""), words=TO_FILE)
 
 
