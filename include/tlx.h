@@ -339,8 +339,9 @@ static inline uint32_t tlx_judge_reset(struct tlx_judge *judge) { return judge ?
  * Faults: TLX_NULL, TLX_EMPTY, TLX_INCOMPLETE. */
 static inline uint32_t tlx_judge_end(struct tlx_judge *judge) { return judge ? tlx_judge_end_at(judge) : (uint32_t)TLX_NULL; }
 
-/* The line of the last fault of a beat (TLX_FIELD_CHANGED to TLX_WRONG_REPLY) or of the end, as tlcheck says it of a capture, with its line
- * end and with the `line` and the `time` of the struct: `unlawful: line 4, time 12, p0 D: wrong reply: expected .., captured ..`. Empty before the first; a lawful beat leaves it as it was. */
+/* The line of the last fault of a beat (TLX_FIELD_CHANGED to TLX_WRONG_REPLY, TLX_OUT_OF_ORDER) or of the end, as tlcheck says it of a capture,
+ * with its line end and with the `line` and the `time` of the struct: `unlawful: line 4, time 12, p0 D: wrong reply: expected .., captured ..`.
+ * Empty before the first; a lawful beat leaves it as it was. */
 static inline size_t tlx_judge_text(struct tlx_judge *judge, char *text, size_t room) {
   return judge && text && room ? tlx_judge_text_at(judge, text, room) : 0;
 }

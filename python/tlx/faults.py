@@ -86,9 +86,9 @@ class InvalidSystem(Refused):
 class Unlawful(Exception):
     """The first beat that no lawful crossbar could have shown.
 
-    `fault` is one of FIELD_CHANGED to WRONG_REPLY, `line` and `time` are those of the beat, and `text` is the line of `tlcheck`, without its
-    line end: `unlawful: line 4, time 12, p0 D: wrong reply: expected AccessAckData aa, captured AccessAckData 00`. `index` is the place of the
-    beat in the array of `Judge.steps`, and 0 of another call. The judge stays as it was before that beat.
+    `fault` is one of FIELD_CHANGED to WRONG_REPLY, or OUT_OF_ORDER. `line` and `time` are those of the beat, and `text` is the line of
+    `tlcheck`, without its line end: `unlawful: line 4, time 12, p0 D: wrong reply: expected AccessAckData aa, captured AccessAckData 00`.
+    `index` is the place of the beat in the array of `Judge.steps`, and 0 of another call. The judge stays as it was before that beat.
     """
 
     index = 0
