@@ -12,6 +12,8 @@ use Rattle.check_watch.specs.declared.beat.Link.{Link}
 use Rattle.check_watch.specs.declared.beat.Link.TheVariants.{Master, Port}
 use Rattle.check_watch.specs.declared.fault.Fault.{Fault}
 use Rattle.check_watch.specs.declared.fault.Fault.TheVariants.{Form, NoSuchSource, SourceBusy, WrongPort, NoRequest, EarlyReply, OutOfOrder, WrongSize, WrongOpcode, UnknownData, NotSent, NotGiven, WrongReply}
+use Rattle.check_lines.specs.declared.breach.Breach.{Breach}
+use Rattle.check_lines.specs.declared.breach.Breach.TheVariants as breach
 use Rattle.check_lines.specs.Names.{NamesView, name_of_link}
 use Rattle.check_lines.specs.Reply.{pattern_text}
 use Rattle.tl_script.specs.Trace.{target_text}
@@ -75,12 +77,26 @@ lawful_line counts =
 unfoldable pub empty_line : List ℕ
 empty_line = codes "empty: no request" ++ 10 ∷ []
 
--- the beat of a row has this fault
-unfoldable pub unlawful_line : NamesView → Row → Fault → List ℕ
-unlawful_line names row fault =
+-- where a capture is not lawful: the line and the time of a row, its link and its channel
+unfoldable pub unlawful_text : NamesView → Row → List ℕ
+unlawful_text names row =
     codes "unlawful: line " ++ decimal row.line ++ codes ", time " ++ decimal row.time ++ codes ", "
     ++ link_text names row.link
-    ++ channel_text row.beat ++ fault_text fault ++ 10 ∷ []
+    ++ channel_text row.beat
+
+-- the beat of a row has this fault
+unfoldable pub unlawful_line : NamesView → Row → Fault → List ℕ
+unlawful_line names row fault = unlawful_text names row ++ fault_text fault ++ 10 ∷ []
+
+-- a row breaks the rules, by the time that a reply took, in these words
+unfoldable pub timed_line : NamesView → Row → List ℕ → List ℕ
+timed_line names row words = unlawful_text names row ++ words ++ 10 ∷ []
+
+-- a row breaks the rules so
+abbrev pub breach_line : NamesView → Row → Breach → List ℕ
+breach_line names row (breach.Beat fault) = unlawful_line names row fault
+breach_line names row breach.LateReply = timed_line names row (codes "late reply")
+breach_line names row breach.NoReply = timed_line names row (codes "no reply in time")
 
 -- what a beat of a request asks for, after a space; a beat of a reply asks for nothing
 abbrev pub asked_text : Beat → List ℕ

@@ -1,7 +1,8 @@
 //! The lines that a judge of captures prints: those of verdicts, and those of replies that it traces.
 //!
-//! [`push_lawful`], [`push_empty`], [`push_unlawful`] and [`push_incomplete`] append the line of a verdict
-//! (`specs/Verdict.antt`), [`push_answer`] the line of a reply that was seen at a link (`specs/Trace.antt`). A reply is spelled as
+//! [`push_lawful`], [`push_empty`], [`push_unlawful`], [`push_breach`] and [`push_incomplete`] append the line of a verdict
+//! (`specs/Verdict.antt`), [`push_answer`] the line of a reply that was seen at a link (`specs/Trace.antt`). A [`Breach`] is how a
+//! row breaks the rules. A reply is spelled as
 //! traces of tlx spell one, with `xx` for each byte that is unknown (`specs/Reply.antt`). [`Names`] has the names of a system's masters and ports,
 //! by which lines name links.
 //!
@@ -10,6 +11,7 @@
 //! Read on in `docs/FORMATS.md`, which has the lines with examples, and in `docs/MODEL.md`, "Traces of others".
 #![tactic(auto)]
 
+mod breach;
 pub mod laws;
 mod left;
 mod names;
@@ -18,8 +20,9 @@ mod target;
 mod trace;
 mod verdict;
 
+pub use breach::Breach;
 pub use left::push_incomplete;
 pub use names::Names;
 pub use reply::push_pattern;
 pub use trace::push_answer;
-pub use verdict::{VerdictCounts, push_empty, push_lawful, push_unlawful};
+pub use verdict::{VerdictCounts, push_breach, push_empty, push_lawful, push_unlawful};

@@ -2,8 +2,9 @@
 ghost use Rattle.std.specs.Prelude.{◌≡◌, ◌<◌, ◌≤◌, ◌+◌, ◌++◌, length, vec_capacity, OnErr, OnOk};
 ghost use Rattle.tl_text.specs.Text.{BeginsWith};
 ghost use Rattle.check_lines.specs.Reply.{pattern_text};
-ghost use Rattle.check_lines.specs.Verdict.{channel_text, empty_line, fault_text, form_text, lawful_line, link_text, number_text, unlawful_line, wrong_text};
+ghost use Rattle.check_lines.specs.Verdict.{breach_line, channel_text, empty_line, fault_text, form_text, lawful_line, link_text, number_text, unlawful_text, timed_line, unlawful_line, wrong_text};
 
+use crate::breach::Breach;
 use crate::names::Names;
 use crate::reply::push_pattern;
 use check_beats::FormFault;
@@ -164,7 +165,24 @@ pub fn push_empty(text: &mut Vec<u8>) -> Result<(), AllocError>
     text.extend_from_slice(b"empty: no request\n")
 }
 
-/// Appends the line of a capture that is not lawful, with its link by the name that it has.
+/// Appends where a capture is not lawful: a row and its channel, with its link by the name that it has.
+#[tactic(auto, using(tl_text::proofs::TextLemmas::begins), unfolding(crate::specs::Verdict::unlawful_text))]
+fn push_place(text: &mut Vec<u8>, names: &Names, row: &Row) -> Result<(), AllocError>
+    ensures ok { OnOk result (text.new.items ≡ text.old.items ++ unlawful_text names.now row.now) }
+    ensures err { OnErr result (BeginsWith text.old.items text.new.items) }
+    ensures room { vec_capacity text.old ≤ vec_capacity text.new }
+    ensures full { OnErr result (vec_capacity text.old
+        < length text.old.items + length (unlawful_text names.now row.now)) }
+{
+    push_field(text, b"unlawful: line ", row.line)?;
+    push_field(text, b", time ", row.time)?;
+    text.extend_from_slice(b", ")?;
+    push_link(text, names, row.link)?;
+    push_words(text, channel_words(&row.beat))?;
+    Ok(())
+}
+
+/// Appends the line of a capture that is not lawful by the fault of a beat.
 #[tactic(auto, using(tl_text::proofs::TextLemmas::begins), unfolding(crate::specs::Verdict::unlawful_line))]
 pub fn push_unlawful(
     text: &mut Vec<u8>,
@@ -178,12 +196,37 @@ pub fn push_unlawful(
     ensures full { OnErr result (vec_capacity text.old
         < length text.old.items + length (unlawful_line names.now row.now fault.now)) }
 {
-    push_field(text, b"unlawful: line ", row.line)?;
-    push_field(text, b", time ", row.time)?;
-    text.extend_from_slice(b", ")?;
-    push_link(text, names, row.link)?;
-    push_words(text, channel_words(&row.beat))?;
+    push_place(text, names, row)?;
     push_fault(text, fault)?;
     text.push(b'\n')?;
     Ok(())
+}
+
+/// The same by the time that a reply took, in these words.
+#[tactic(auto, using(tl_text::proofs::TextLemmas::begins), unfolding(crate::specs::Verdict::timed_line))]
+fn push_timed(text: &mut Vec<u8>, names: &Names, row: &Row, words: &str) -> Result<(), AllocError>
+    ensures ok { OnOk result (text.new.items ≡ text.old.items ++ timed_line names.now row.now words.now) }
+    ensures err { OnErr result (BeginsWith text.old.items text.new.items) }
+{
+    push_place(text, names, row)?;
+    push_words(text, words)?;
+    text.push(b'\n')?;
+    Ok(())
+}
+
+/// Appends the line of a capture whose rules a row breaks.
+pub fn push_breach(
+    text: &mut Vec<u8>,
+    names: &Names,
+    row: &Row,
+    breach: &Breach,
+) -> Result<(), AllocError>
+    ensures ok { OnOk result (text.new.items ≡ text.old.items ++ breach_line names.now row.now breach.now) }
+    ensures err { OnErr result (BeginsWith text.old.items text.new.items) }
+{
+    match breach {
+        Breach::Beat(fault) => push_unlawful(text, names, row, fault),
+        Breach::LateReply => push_timed(text, names, row, "late reply"),
+        Breach::NoReply => push_timed(text, names, row, "no reply in time"),
+    }
 }

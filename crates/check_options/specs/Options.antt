@@ -1,6 +1,6 @@
 -- The command line of tlcheck: the options and words that there are, what the words ask for, and the status that the
 -- program ends with if they ask for nothing. This project's own.
-use Rattle.std.specs.Prelude.{◌≡◌, List, [], ◌∷◌, Bool, false, Option, Some, None, Result, IfOk, codes, map, option_map, if◌then◌else◌}
+use Rattle.std.specs.Prelude.{◌≡◌, ℕ, ◌==◌, List, [], ◌∷◌, Bool, false, Option, Some, None, Result, IfOk, codes, map, option_and_then, option_map, if◌then◌else◌}
 use Rattle.std.specs.Borrow.{Bor}
 use Rattle.std.specs.Str.{bytes_eq}
 use Rattle.clap.specs.Words.{App, FailsBy, Row, Rule, Text, fault_of, first_of, matches_of, new_rule, with_rule}
@@ -8,6 +8,7 @@ use Rattle.clap.specs.declared.builder.action.ArgAction.TheVariants.{Set}
 use Rattle.clap.specs.declared.builder.value_parser.ValueParser.TheVariants as values
 use Rattle.clap.specs.declared.error.Error.{Error}
 use Rattle.clap.specs.declared.error.ErrorKind.{ErrorKind}
+use Rattle.tl_text.specs.Number.{digits_of}
 use Rattle.tl_cli.specs.Rules.{Refuses, file_of, flag_of, flag_rule, program_of, system_rule, value_of, valued_rule}
 use Rattle.check_watch.specs.declared.links.Links.{Links}
 use Rattle.check_watch.specs.declared.links.Links.TheVariants.{Both, Masters, Ports, Each}
@@ -15,6 +16,7 @@ use Rattle.check_flight.specs.declared.order.SideOrders.{SideOrders}
 use Rattle.check_flight.specs.Order.{on_both}
 use Rattle.check_flight.specs.declared.order.Order.TheVariants.{Accept, Reply, Any}
 use Rattle.check_options.specs.declared.options.CheckOptions.{CheckOptions}
+use Rattle.check_options.specs.declared.options.TheConstants.{MAX_LIMIT}
 
 -- ---- the command line
 
@@ -67,6 +69,15 @@ order_rule names = record (new_rule (codes "order")) {
   defaults = codes "accept" ∷ [];
 }
 
+-- `--within`, with a number from 1 to 2^63 - 1
+abbrev pub within_rule : Rule
+within_rule = record (new_rule (codes "within")) {
+  long = Some (codes "within");
+  action = Some Set;
+  value_names = 1;
+  parser = Some (values.Unsigned 1 MAX_LIMIT);
+}
+
 -- `--coverage`, with the name of a file
 abbrev pub coverage_rule : Rule
 coverage_rule = record (new_rule (codes "coverage")) {
@@ -83,9 +94,10 @@ capture_rule = valued_rule (codes "capture")
 abbrev pub with_flag : App → Text → App
 with_flag app name = with_rule app (flag_rule name)
 
--- the two options that have one of a list of words; the flags; and the option and the words that name a file
+-- the two options that have one of a list of words, and the one that has a number; the flags; and the option and the words that name
+-- a file
 abbrev pub with_choices : App → WordSlice → WordSlice → App
-with_choices app links orders = with_rule (with_rule app (links_rule links)) (order_rule orders)
+with_choices app links orders = with_rule (with_rule (with_rule app (links_rule links)) (order_rule orders)) within_rule
 
 abbrev pub with_flags : App → App
 with_flags app = with_flag (with_flag (with_flag app (codes "trace")) (codes "complete")) (codes "quiet")
@@ -93,7 +105,7 @@ with_flags app = with_flag (with_flag (with_flag app (codes "trace")) (codes "co
 abbrev pub with_files : App → App
 with_files app = with_rule (with_rule (with_rule app coverage_rule) system_rule) capture_rule
 
--- these eight, and `--help` and `--version`, which clap adds
+-- these nine, and `--help` and `--version`, which clap adds
 abbrev pub with_rules : WordSlice → WordSlice → App
 with_rules links orders = with_files (with_flags (with_choices (program_of (codes "tlcheck")) links orders))
 
@@ -122,6 +134,7 @@ pub record IsCommandLine (app : App) : Type 0 where
 pub record AskedOptions : Type 0 where
   pub links : Links
   pub orders : SideOrders
+  pub within : Option ℕ
   pub trace : Bool
   pub complete : Bool
   pub quiet : Bool
@@ -133,6 +146,7 @@ abbrev pub options_asked : CheckOptions → AskedOptions
 options_asked options = record {
   links = options.links;
   orders = options.orders;
+  within = options.within;
   trace = options.trace;
   complete = options.complete;
   quiet = options.quiet;
@@ -154,11 +168,22 @@ orders_among (row ∷ rows) word = if bytes_eq word row.0 then row.1 else orders
 abbrev pub orders_of : Text → SideOrders
 orders_of word = orders_among order_table word
 
+-- a number without a plus before it
+abbrev pub without_plus : Text → Text
+without_plus [] = []
+without_plus (byte ∷ word) = if byte == 43 then word else byte ∷ word
+
+-- the limit of time that a word gives, if there is one: the decimal number that it spells
+abbrev pub limit_of : Option Text → Option ℕ
+limit_of None = None
+limit_of (Some word) = option_and_then (λ number. number) (digits_of 10 (without_plus word))
+
 -- the options that matches ask for, and those that words ask for
 abbrev pub asked_from : List Row → AskedOptions
 asked_from rows = record {
   links = links_of (value_of rows (codes "links"));
   orders = orders_of (value_of rows (codes "order"));
+  within = limit_of (first_of (codes "within") rows);
   trace = flag_of (value_of rows (codes "trace"));
   complete = flag_of (value_of rows (codes "complete"));
   quiet = flag_of (value_of rows (codes "quiet"));
@@ -187,6 +212,7 @@ abbrev pub plain : AskedOptions
 plain = record {
   links = Both;
   orders = on_both Accept;
+  within = None;
   trace = false;
   complete = false;
   quiet = false;

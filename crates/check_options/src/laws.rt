@@ -1,7 +1,7 @@
 //! Laws of the command line, each on a function that does nothing but carry it: what lines that the documents name ask
 //! for, or are refused as. What clap's rules say of a line is computed.
 ghost use Rattle.std.specs.Prelude.{[], ◌∷◌, codes, true, false, Some, None};
-ghost use Rattle.clap.specs.declared.error.ErrorKind.TheVariants.{ArgumentConflict, DisplayHelp, DisplayVersion, InvalidValue, MissingRequiredArgument, TooManyValues, UnknownArgument};
+ghost use Rattle.clap.specs.declared.error.ErrorKind.TheVariants.{ArgumentConflict, DisplayHelp, DisplayVersion, InvalidValue, MissingRequiredArgument, TooManyValues, UnknownArgument, ValueValidation};
 ghost use Rattle.check_watch.specs.declared.links.Links.TheVariants.{Both, Masters, Ports, Each};
 ghost use Rattle.check_flight.specs.Order.{on_both};
 ghost use Rattle.check_flight.specs.declared.order.Order.TheVariants.{Accept, Reply, Any};
@@ -85,6 +85,16 @@ pub fn lines_ask_for_coverage()
         ∷ codes "masters" ∷ []) }
 {}
 
+/// The lines with `--within`, before SYSTEM, and after it with another option.
+pub fn lines_ask_for_limits()
+    ensures within { AskFor (record plain { within = Some 200; capture = Some (codes "c.csv") })
+        (codes "tlcheck" ∷ codes "--within" ∷ codes "200" ∷ codes "s.toml" ∷ codes "c.csv" ∷ []) }
+    ensures within_behind { AskFor (record plain { links = Masters; within = Some 1 })
+        (codes "tlcheck" ∷ codes "s.toml" ∷ codes "--within=1" ∷ codes "--links" ∷ codes "masters" ∷ []) }
+    ensures longest { AskFor (record plain { within = Some 9223372036854775807 })
+        (codes "tlcheck" ∷ codes "--within=9223372036854775807" ∷ codes "s.toml" ∷ []) }
+{}
+
 /// The lines that ask for help or the version, and mistakes.
 pub fn lines_are_refused()
     ensures help { AreRefusedAs DisplayHelp (codes "tlcheck" ∷ codes "--help" ∷ []) }
@@ -102,6 +112,18 @@ pub fn lines_are_refused()
         (codes "tlcheck" ∷ codes "--trace=true" ∷ codes "s.toml" ∷ []) }
     ensures unknown { AreRefusedAs UnknownArgument
         (codes "tlcheck" ∷ codes "--verbose" ∷ codes "s.toml" ∷ []) }
+{}
+
+/// The lines with a limit that is none, and with one that is out of range.
+pub fn limits_are_refused()
+    ensures none { AreRefusedAs ValueValidation
+        (codes "tlcheck" ∷ codes "--within" ∷ codes "0" ∷ codes "s.toml" ∷ []) }
+    ensures most { AreRefusedAs ValueValidation
+        (codes "tlcheck" ∷ codes "--within=9223372036854775808" ∷ codes "s.toml" ∷ []) }
+    ensures unnumbered { AreRefusedAs ValueValidation
+        (codes "tlcheck" ∷ codes "--within=soon" ∷ codes "s.toml" ∷ []) }
+    ensures missing { AreRefusedAs InvalidValue
+        (codes "tlcheck" ∷ codes "s.toml" ∷ codes "--within" ∷ []) }
 {}
 
 /// The lines with `--coverage` and no file, and with two.

@@ -1,7 +1,7 @@
-//! The command line: `tlcheck [--links both|masters|ports|each] [--order ORDER] [--trace] [--complete] [--quiet] [--coverage FILE] SYSTEM [CAPTURE]`.
-ghost use Rattle.std.specs.Prelude.{◌≡◌, IfOk, map, false};
+//! The command line: `tlcheck [--links both|masters|ports|each] [--order ORDER] [--within N] [--trace] [--complete] [--quiet] [--coverage FILE] SYSTEM [CAPTURE]`.
+ghost use Rattle.std.specs.Prelude.{◌≡◌, IfOk, map, option_map, false};
 ghost use Rattle.clap.specs.Words.{app_of, rule_of};
-ghost use Rattle.check_options.specs.Options.{AnswersCommandLine, IsCommandLine, IsLinksRule, IsOrderRule, capture_rule, coverage_rule, links_of, orders_of, with_files, with_flags};
+ghost use Rattle.check_options.specs.Options.{AnswersCommandLine, IsCommandLine, IsLinksRule, IsOrderRule, capture_rule, coverage_rule, limit_of, links_of, orders_of, with_files, with_flags, within_rule, without_plus};
 
 use check_flight::{Order, SideOrders};
 use check_sides::Links;
@@ -10,6 +10,7 @@ use clap::{Arg, Command, Error};
 use std::alloc::{AllocError, Global};
 use std::convert::AsStr;
 use tl_cli::{flag, program, read_file, read_flag, system_word, value, valued};
+use tl_text::read_digits;
 
 /// What help says first.
 const ABOUT: &str = "Judges whether a captured trace of a TileLink crossbar is lawful";
@@ -28,6 +29,12 @@ Status: 0 lawful, 1 a fault of the system or the capture, 2 of the command line,
 const ORDER_HELP: &str =
     "When a request takes effect at its port; of two orders the first is the masters' side's";
 
+/// What help says of `--within`.
+const WITHIN_HELP: &str = "The longest time from a request's first beat to that of its reply";
+
+/// The longest limit of time.
+const MAX_LIMIT: u64 = i64::MAX as u64;
+
 /// What help says of each flag.
 const TRACE_HELP: &str = "Print a line for each request that was answered";
 
@@ -42,6 +49,8 @@ pub struct CheckOptions<'a> {
     pub links: Links,
     /// When a request takes effect at its port, as each side judges it.
     pub orders: SideOrders,
+    /// The longest time from a request's first beat to that of its reply, if there is a limit.
+    pub within: Option<u64>,
     /// Whether a line is printed for each request that was answered.
     pub trace: bool,
     /// Whether a capture at whose end requests are left is not lawful but incomplete.
@@ -71,6 +80,7 @@ pub fn read_check_options<'a, S: AsStr>(
     Ok(CheckOptions {
         links: read_links(value(&matches, "links")),
         orders: read_orders(value(&matches, "order")),
+        within: read_limit(matches.get_str("within")),
         trace: read_flag(value(&matches, "trace")),
         complete: read_flag(value(&matches, "complete")),
         quiet: read_flag(value(&matches, "quiet")),
@@ -116,6 +126,26 @@ fn read_orders(word: &str) -> SideOrders
     }
 }
 
+/// A number without a plus before it.
+fn without_plus(word: &[u8]) -> &[u8]
+    ensures { result.now ≡ without_plus word.now }
+{
+    match word {
+        [b'+', digits @ ..] => digits,
+        digits => digits,
+    }
+}
+
+/// The limit of time that a word gives.
+fn read_limit(word: Option<&str>) -> Option<u64>
+    ensures { result ≡ limit_of (option_map (λ number. number.now) word.entry) }
+{
+    match word {
+        Some(word) => read_digits(without_plus(word.as_bytes()), 10)?,
+        None => None,
+    }
+}
+
 /// `--links`.
 fn links_option<'a>(alloc: Global) -> Arg<'a>
     ensures rule { IsLinksRule (rule_of result) }
@@ -151,6 +181,16 @@ fn order_option<'a>(alloc: Global) -> Arg<'a>
         .long("order")
         .value_parser(ValueParser::Names(words))
         .default_value("accept")
+}
+
+/// `--within`.
+fn within_option<'a>(alloc: Global) -> Arg<'a>
+    ensures rule { rule_of result ≡ within_rule }
+    ensures local { result.global ≡ false }
+{
+    valued(alloc, "within", "N", WITHIN_HELP)
+        .long("within")
+        .value_parser(ValueParser::Unsigned(1, MAX_LIMIT))
 }
 
 /// `--coverage`.
@@ -197,6 +237,7 @@ fn command<'a>(alloc: Global) -> Result<Command<'a>, AllocError>
 {
     let choices = program(alloc, "tlcheck", ABOUT, AFTER_HELP)
         .arg(links_option(alloc))?
-        .arg(order_option(alloc))?;
+        .arg(order_option(alloc))?
+        .arg(within_option(alloc))?;
     add_files(alloc, add_flags(alloc, choices)?)
 }

@@ -9,7 +9,7 @@ use Rattle.check_beats.specs.declared.bus.Bus.{Bus}
 use Rattle.check_text.specs.Review.{Judges, is_asked, is_covered, is_traced}
 use Rattle.check_start.specs.Loads.{SystemPlan}
 use Rattle.check_lines.specs.Names.{NamesView}
-use Rattle.check_lines.specs.Verdict.{empty_line, incomplete_line, lawful_line, unlawful_line}
+use Rattle.check_lines.specs.Verdict.{breach_line, empty_line, incomplete_line, lawful_line}
 use Rattle.check_lines.specs.declared.verdict.VerdictCounts.{VerdictCounts}
 use Rattle.check_records.specs.Text.{text_start}
 use Rattle.check_start.specs.Slaves.{shared_slaves}
@@ -86,7 +86,7 @@ is_empty complete counts = complete && (counts.requests == 0)
 -- with these names of links, and if this is asked
 abbrev pub line_of : Bool → NamesView → Verdict → List ℕ
 line_of complete names (Lawful counts) = if is_empty complete counts then empty_line else lawful_line counts
-line_of complete names (Unlawful found) = unlawful_line names found.row found.fault
+line_of complete names (Unlawful found) = breach_line names found.row found.breach
 line_of complete names (Incomplete left) = incomplete_line left
 
 -- whether the line says that the capture is lawful

@@ -6,7 +6,7 @@ use Rattle.check_program.specs.declared.asked.Asked.{Asked}
 -- what the command line asks for
 abbrev pub asked_by_options : CheckOptions → Asked
 asked_by_options options = record {
-  terms = record { links = options.links; orders = options.orders };
+  terms = record { links = options.links; orders = options.orders; within = options.within };
   trace = options.trace;
   complete = options.complete;
   coverage = is_some options.coverage;

@@ -23,7 +23,7 @@ use crate::system::SystemFile;
 use check_beats::Bus;
 use check_coverage::Coverage;
 use check_description::{Description, Parts, describe};
-use check_lines::{Names, VerdictCounts, push_empty, push_incomplete, push_lawful, push_unlawful};
+use check_lines::{Names, VerdictCounts, push_breach, push_empty, push_incomplete, push_lawful};
 use check_rows::{Buses, PortNumbers};
 use check_start::begin;
 use check_text::{Judge, Verdict, judge_capture};
@@ -68,7 +68,7 @@ fn line_of(
     let mut text = Vec::new(alloc);
     match verdict {
         Verdict::Lawful(counts) => push_lawful_or_empty(&mut text, complete, counts)?,
-        Verdict::Unlawful(found) => push_unlawful(&mut text, names, &found.row, &found.fault)?,
+        Verdict::Unlawful(found) => push_breach(&mut text, names, &found.row, &found.breach)?,
         Verdict::Incomplete(left) => push_incomplete(&mut text, left)?,
     }
     Ok(text)
@@ -141,6 +141,7 @@ fn prepare(
         asked.trace,
         asked.complete,
         coverage,
+        asked.terms.within,
     )?;
     Ok(Prepared {
         judge,

@@ -48,6 +48,7 @@ pub fn check_as_asked<C: Read + Drop, W: Write>(
         terms: Terms {
             links: options.links,
             orders: options.orders,
+            within: options.within,
         },
         trace: options.trace,
         complete: options.complete,

@@ -1,5 +1,6 @@
 -- One row of a file more.
-use Rattle.std.proofs.Common.{◌≡◌, ◌∙◌, ℕ, inl, append-nil, append_assoc, length-append, IfSome, ◌+◌, ◌-◌, ◌%◌, ◌^◌, ◌<◌, ◌≤◌, List, [], ◌∷◌, ◌++◌, Bool, false, reverse, length, All, Contains, refl, sym, ap, subst, arith}
+use Rattle.std.proofs.Common.{◌≡◌, ◌∙◌, ℕ, ◌⊎◌, inl, inr, Option, Some, None, append-nil, append_assoc, length-append, IfSome, ◌+◌, ◌-◌, ◌%◌, ◌^◌, ◌<◌, ◌≤◌, List, [], ◌∷◌, ◌++◌, Bool, false, reverse, length, All, Contains, refl, sym, ap, subst, arith}
+use Rattle.std.specs.Prelude.{option_to_list}
 use Rattle.std.specs.List.{AllByRecursion}
 use Rattle.std.specs.List.Sorted.{IsPermutation}
 use Rattle.std.proofs.lemmas.List.{length_push}
@@ -19,14 +20,17 @@ use Rattle.check_review.specs.declared.stop.Refusal.TheVariants as refusal
 use Rattle.check_review.specs.declared.stop.Stop.TheVariants as stop
 use Rattle.check_review.specs.declared.stop.Unlawful.{Unlawful}
 use Rattle.check_review.specs.declared.tally.Tally.{Tally}
-use Rattle.check_review.specs.Stretches.{AreStretches, GoOnWith, Stretches, Stretch, stretches}
+use Rattle.check_times.specs.Waiting.{first_late, waiting_in}
+use Rattle.check_review.specs.Stretches.{AreStretches, GoOnWith, IsLawfulStretch, Stretches, Stretch, stretches, watched_in}
 use Rattle.check_review.specs.Order.{CrossesBefore, IsCrossing, IsLater, NeverFalls, HasRowFault, sightings_of}
+use Rattle.check_review.specs.Times.{StretchesInTime, StretchesInTimeBefore, late_before, waits_after}
 use Rattle.check_review.specs.Told.{IsToldOfAll}
 use Rattle.check_review.specs.View.{HasTold, JudgeView, Judges, KeepsOn, KeptIn, TellsOn, TellsStop, is_traced}
-use Rattle.check_review.specs.Verdict.{IsLawfulFile, IsFirstUnlawful, IsUnlawfulAfter, IsStop, IsToldBefore, IsToldEarlier, IsToldFile, IsToldPart, MayWantAmong, MayWantMemory, OfUnlawful, StopsAt, StopsTelling, stop_of}
+use Rattle.check_review.specs.Verdict.{IsBreach, IsLateAfter, IsLawfulFile, IsFirstUnlawful, IsUnanswered, IsUnlawfulAfter, IsStop, IsToldBefore, IsToldEarlier, IsToldFile, IsToldPart, MayWantAmong, MayWantMemory, OfUnlawful, StopsAt, StopsTelling, stop_of}
 use Rattle.check_review.proofs.OneCourse.{lawful_before, one_course}
 use Rattle.check_review.proofs.Stretching.{course_none}
-use Rattle.check_review.proofs.Watched.{seen_one}
+use Rattle.check_review.proofs.Timing.{AllInTime, in_time_after, in_time_before, in_time_none, late_is_out, unanswered_is_out}
+use Rattle.check_review.proofs.Watched.{lawful_rest, seen_one}
 use Rattle.check_review.proofs.Ordered.{all_weaker, in_order_rest, in_order_onto, reversed_middle}
 use Rattle.check_review.proofs.Unique.{crossing_is_unique}
 
@@ -35,8 +39,9 @@ use Rattle.check_review.proofs.Unique.{crossing_is_unique}
 pub judges_none : (plan : SystemPlan) (judge : JudgeView) → judge.moment ≡ record { time = 0; rows = [] } → judge.rows ≡ 0
     → judge.tally.requests ≡ 0 → judge.tally.answered ≡ 0 → KeepsOrdered plan.begins [] judge.tally.watch
     → AreLoadsOf plan judge.tally.loads → IfSome judge.tally.pending (Holds plan.begins [])
-    → IfSome judge.tally.coverage (Covers plan.begins [] []) → Judges plan [] judge
-judges_none plan judge fresh rows requests answered keeps loads pending covers =
+    → IfSome judge.tally.coverage (Covers plan.begins [] []) → judge.tally.waits ≡ waits_after plan.within plan.begins []
+    → Judges plan [] judge
+judges_none plan judge fresh rows requests answered keeps loads pending covers waits =
     let none : judge.moment.rows ≡ [] = ap (λ (m : Moment). m.rows) fresh in
     let P : List SeenRow → Type 0 = λ l. IsCrossing [] (reverse l ++ []) in
     record {
@@ -51,7 +56,9 @@ judges_none plan judge fresh rows requests answered keeps loads pending covers =
       kept = record {
         tallied = record { keeps = keeps; loads = loads; requests = requests; answered = answered; covers = covers };
         pending = pending;
+        waits = waits;
       };
+      in_time = in_time_none plan.within plan.begins;
       rows = rows;
     }
 
@@ -145,8 +152,17 @@ judges_now plan file row old new judges takes more =
           (let e = takes.now in omega (arith, e));
       kept = (let P : Tally → Type 0 = λ t. KeptIn plan judges.before judges.course t in
           subst P (sym more.tally) judges.kept);
+      in_time = judges.in_time;
       rows = row_more file row old.rows new.rows judges.rows more.rows;
     }
+
+-- the rows of the moment at hand are in time if no request is late before them
+pub still_in_time : (plan : SystemPlan) (file : List SeenRow) (judge : JudgeView) (judges : Judges plan file judge)
+    → IsMoment judge.moment → late_before judge.tally.waits judge.moment.rows ≡ None
+    → (next : Stretches plan (reverse judge.moment.rows ++ judges.before)) → StretchesInTime plan.within (stretches next)
+still_in_time plan file judge judges moment none next =
+    in_time_after plan.within judge.moment.time plan judges.before judges.course judge.moment.rows judges.in_time
+    moment.at_time (subst (λ waits. late_before waits judge.moment.rows ≡ None) judges.kept.waits none) next
 
 -- ---- a row of a later time
 
@@ -165,10 +181,10 @@ later_all moment file before row is same earlier later =
     (latest moment file before is same earlier)
 
 pub judges_later : (plan : SystemPlan) (file : List SeenRow) (row : SeenRow) (old new : JudgeView) (judges : Judges plan file old)
-    → IsLaterRow row old new
+    → IsLaterRow row old new → late_before old.tally.waits old.moment.rows ≡ None
     → (course : Stretches plan (reverse old.moment.rows ++ judges.before))
     → KeptIn plan (reverse old.moment.rows ++ judges.before) course new.tally → Judges plan (file ++ row ∷ []) new
-judges_later plan file row old new judges more course kept =
+judges_later plan file row old new judges more none course kept =
     let crossed : List SeenRow = reverse old.moment.rows ++ judges.before in
     let all_file : All (λ r. r.time < row.time) file =
     later_all old.moment file judges.before row more.was judges.crossing.same judges.earlier more.later in
@@ -198,6 +214,7 @@ judges_later plan file row old new judges more course kept =
           (latest old.moment file judges.before more.was judges.crossing.same judges.earlier)
           (let lt = more.later in omega (arith, lt));
       kept = kept;
+      in_time = still_in_time plan file old judges more.was none course;
       rows = row_more file row old.rows new.rows judges.rows more.rows;
     }
 
@@ -238,21 +255,46 @@ fault_of plan file row judge fault.Channel moment judges has = has
 
 -- ---- rows that are not lawful
 
+-- the rows of a moment: some, the next one or none, and others
+pub crossed_so : (next : Option SeenRow) (rows done left before : List SeenRow) → rows ≡ done ++ (option_to_list next ++ left)
+    → (next ≡ None → left ≡ [])
+    → reverse rows ++ before ≡ reverse left ++ (option_to_list next ++ (reverse done ++ before))
+crossed_so (Some row) rows done left before are last =
+    ap (λ l. reverse l ++ before) are ∙ reversed_middle done left before row
+crossed_so None rows done left before are last =
+    let none : left ≡ [] = last refl in
+    ap (λ l. reverse l ++ before) (are ∙ ap (λ l. done ++ l) none ∙ append-nil done)
+    ∙ ap (λ l. reverse l ++ (reverse done ++ before)) (sym none)
+
+-- those that are judged are of the moment's time
+pub done_now : (time : ℕ) (done left rows : List SeenRow) → rows ≡ done ++ left → AllByRecursion (λ row. row.time ≡ time) rows
+    → AllByRecursion (λ row. row.time ≡ time) done
+done_now time [] left rows are all = tt
+done_now time (row ∷ done) left rows are all =
+    let both = subst (AllByRecursion (λ r. r.time ≡ time)) are all in
+    (both.0, done_now time done left (done ++ left) refl both.1)
+
 abbrev pub first_unlawful : (plan : SystemPlan) (file : List SeenRow) (judge : JudgeView) (found : Unlawful)
     (judges : Judges plan file judge) → StopsAt plan judge.moment.rows judges.before found → IsFirstUnlawful plan file found
 first_unlawful plan file judge found judges stops =
     let P : List SeenRow → Type 0 = λ l. IsCrossing file l in
-    let is : reverse judge.moment.rows ++ judges.before ≡ reverse stops.left
-    ++ (stops.row ∷ (reverse stops.done ++ judges.before)) =
-    ap (λ l. reverse l ++ judges.before) stops.are ∙ reversed_middle stops.done stops.left judges.before stops.row in
+    let now : stops.some.time ≡ judge.moment.time =
+    All-contains (λ r. r.time ≡ judge.moment.time) judge.moment.rows stops.some
+    (All-from_recursion (λ r. r.time ≡ judge.moment.time) judge.moment.rows judges.now) stops.there in
     record {
-      row = stops.row;
-      beat = stops.beat;
+      next = stops.next;
+      time = stops.some.time;
       after = reverse stops.left;
       before = reverse stops.done ++ judges.before;
-      crossing = subst P is judges.crossing;
+      crossing = subst P (crossed_so stops.next judge.moment.rows stops.done stops.left judges.before stops.are stops.last)
+          judges.crossing;
       course = stops.course;
+      in_time = subst (λ t. StretchesInTimeBefore t plan.within (stretches stops.course)) (sym now)
+          (in_time_before plan.within judge.moment.time plan judges.before judges.course stops.done judges.in_time
+          (done_now judge.moment.time stops.done (option_to_list stops.next ++ stops.left) judge.moment.rows stops.are
+          judges.now) stops.course);
       is = stops.is;
+      last = λ none. ap reverse (stops.last none);
     }
 
 -- memory may be refused to one of the rows of the moment, and so to a row of the file
@@ -272,21 +314,64 @@ may_want wants plan file judge judges want =
       is = want.is;
     }
 
--- a file that has such a row is not lawful
+-- ---- a file that has such a row is not lawful
+
+module _ (plan : SystemPlan) (file after before : List SeenRow) (course : Stretches plan before) (found : Unlawful)
+    (whole : IsLawfulFile plan file) where
+  -- the beat of a row is not lawful
+  beat_unlawful : (row : SeenRow) → IsCrossing file (after ++ row ∷ before) → row.is_reset ≡ false
+      → IsUnlawfulAfter course.now row found → ⊥
+  beat_unlawful row crossing beat is =
+      let same : whole.crossed ≡ after ++ row ∷ before =
+      crossing_is_unique file whole.crossed (after ++ row ∷ before) whole.crossing crossing in
+      let are = subst (λ l. AreStretches plan l whole.course.now whole.course.ended) same whole.course.are in
+      let last = lawful_before plan after (row ∷ before) whole.course.now whole.course.ended are whole.lawful in
+      let on = subst (λ b. GoOnWith b plan row (AreStretches plan before) last.0 last.1) beat last.2 in
+      let now : Stretch = record last.0 { rows = on.0 } in
+      let here = one_course plan before now course.now last.1 course.ended on.2 course.are in
+      let unlawful : IsUnlawfulAfter now row found =
+      subst (λ (s : Stretch). IsUnlawfulAfter s row found) (sym here.0) is in
+      unlawful.unlawful (subst (IsLawfulInOrder now.plan) (seen_one now.plan.layout row on.0 unlawful.watched)
+      (subst (λ l. IsLawfulInOrder now.plan (sightings_of now.plan.layout l)) on.1 last.3))
+
+  -- what is in time by the limit
+  in_time_by_limit : (limit : ℕ) → plan.within ≡ Some limit → AllInTime limit (stretches whole.course)
+  in_time_by_limit limit asked = subst (λ w. StretchesInTime w (stretches whole.course)) asked whole.in_time
+
+  -- a row begins a late reply
+  late_unlawful : (row : SeenRow) → IsCrossing file (after ++ row ∷ before) → row.is_reset ≡ false
+      → IsLateAfter plan.within course.now row found → ⊥
+  late_unlawful row crossing beat is =
+      let same : whole.crossed ≡ after ++ row ∷ before =
+      crossing_is_unique file whole.crossed (after ++ row ∷ before) whole.crossing crossing in
+      late_is_out is.limit plan after before row course whole.course.now whole.course.ended
+      (subst (λ l. AreStretches plan l whole.course.now whole.course.ended) same whole.course.are)
+      (in_time_by_limit is.limit is.asked) beat is.late
+
+  -- a request has waited for too long
+  wait_unlawful : (time : ℕ) → IsCrossing file (after ++ before) → IsUnanswered plan.within time course.now found → ⊥
+  wait_unlawful time crossing is =
+      let same : whole.crossed ≡ after ++ before =
+      crossing_is_unique file whole.crossed (after ++ before) whole.crossing crossing in
+      unanswered_is_out is.limit plan after before course whole.course.now whole.course.ended
+      (subst (λ l. AreStretches plan l whole.course.now whole.course.ended) same whole.course.are)
+      (in_time_by_limit is.limit is.asked) is.row is.before is.are is.first
+      (subst (λ t. first_late is.limit t (waiting_in course.now.plan (watched_in course.now)) ≡ Some is.first) (sym is.now)
+      is.late)
+
+  breach_unlawful : (time : ℕ) (next : Option SeenRow) → IsCrossing file (after ++ (option_to_list next ++ before))
+      → IsBreach plan.within time course.now next found → ⊥
+  breach_unlawful time None crossing is = wait_unlawful time crossing is
+  breach_unlawful time (Some row) crossing is = go is.2
+    where
+      go : IsUnlawfulAfter course.now row found ⊎ IsLateAfter plan.within course.now row found → ⊥
+      go (inl beat) = beat_unlawful row crossing is.1 beat
+      go (inr late) = late_unlawful row crossing is.1 late
+
 pub not_lawful : (plan : SystemPlan) (file : List SeenRow) (found : Unlawful) → IsFirstUnlawful plan file found
     → IsLawfulFile plan file → ⊥
 not_lawful plan file found first whole =
-    let same : whole.crossed ≡ first.after ++ first.row ∷ first.before =
-    crossing_is_unique file whole.crossed (first.after ++ first.row ∷ first.before) whole.crossing first.crossing in
-    let are = subst (λ l. AreStretches plan l whole.course.now whole.course.ended) same whole.course.are in
-    let last = lawful_before plan first.after (first.row ∷ first.before) whole.course.now whole.course.ended are whole.lawful in
-    let on = subst (λ b. GoOnWith b plan first.row (AreStretches plan first.before) last.0 last.1) first.beat last.2 in
-    let now : Stretch = record last.0 { rows = on.0 } in
-    let here = one_course plan first.before now first.course.now last.1 first.course.ended on.2 first.course.are in
-    let unlawful : IsUnlawfulAfter now first.row found =
-    subst (λ (s : Stretch). IsUnlawfulAfter s first.row found) (sym here.0) first.is in
-    unlawful.unlawful (subst (IsLawfulInOrder now.plan) (seen_one now.plan.layout first.row on.0 unlawful.watched)
-    (subst (λ l. IsLawfulInOrder now.plan (sightings_of now.plan.layout l)) on.1 last.3))
+    breach_unlawful plan file first.after first.before first.course found whole first.time first.next first.crossing first.is
 
 -- ---- what is told
 
@@ -315,17 +400,17 @@ told_none plan judge judges =
 
 -- the rows of the moment at hand are told
 pub told_later : (plan : SystemPlan) (file : List SeenRow) (row : SeenRow) (old new : JudgeView) (tally : Tally)
-    (so_far now next : List ℕ) (has : HasTold plan file old so_far) → IsLaterRow row old new → new.tally ≡ tally
-    → is_traced new ≡ is_traced old
+    (so_far now next : List ℕ) (has : HasTold plan file old so_far) → IsLaterRow row old new
+    → late_before old.tally.waits old.moment.rows ≡ None → new.tally ≡ tally → is_traced new ≡ is_traced old
     → KeepsOn plan has.judges.before has.judges.course (reverse old.moment.rows ++ has.judges.before) (is_traced old) tally
     now next
     → TellsOn plan (file ++ row ∷ []) new so_far now next
 unfolding judges_later
-told_later plan file row old new tally so_far now next has more same trace on = record {
+told_later plan file row old new tally so_far now next has more none same trace on = record {
   more = on.told.more;
   grown = on.told.grown;
   told = record {
-    judges = judges_later plan file row old new has.judges more on.next
+    judges = judges_later plan file row old new has.judges more none on.next
         (subst (KeptIn plan (reverse old.moment.rows ++ has.judges.before) on.next) (sym same) on.kept);
     told = subst (λ t. IsToldOfAll t (stretches on.next) (so_far ++ on.told.more)) (sym trace)
         (on.told.told so_far has.told);
@@ -365,11 +450,11 @@ told_before plan file judge found so_far now next has stops = (
 
 -- what is told of a lawful file
 pub told_file : (plan : SystemPlan) (file : List SeenRow) (judge : JudgeView) (tally : Tally) (so_far now next : List ℕ)
-    (has : HasTold plan file judge so_far)
+    (has : HasTold plan file judge so_far) → IsMoment judge.moment → late_before judge.tally.waits judge.moment.rows ≡ None
     → KeepsOn plan has.judges.before has.judges.course (reverse judge.moment.rows ++ has.judges.before) (is_traced judge)
     tally now next
     → (more : List ℕ) × (next ≡ now ++ more) × IsToldFile (is_traced judge) plan file (so_far ++ more)
-told_file plan file judge tally so_far now next has on = (
+told_file plan file judge tally so_far now next has moment none on = (
   on.told.more,
   on.told.grown,
   record {
@@ -378,6 +463,7 @@ told_file plan file judge tally so_far now next has on = (
       crossing = has.judges.crossing;
       course = on.next;
       lawful = on.kept.tallied.keeps.lawful;
+      in_time = still_in_time plan file judge has.judges moment none on.next;
     };
     told = on.told.told so_far has.told;
   },
@@ -451,14 +537,24 @@ part_of_file trace plan file text told = record {
   told = told.told;
 }
 
+-- the rows before what makes a file unlawful are lawful
+breach_after : (within : Option ℕ) (time : ℕ) (stretch : Stretch) (next : Option SeenRow) (found : Unlawful)
+    → IsBreach within time stretch next found → IsLawfulStretch stretch
+breach_after within time stretch None found is = is.lawful
+breach_after within time stretch (Some row) found is = go is.2
+  where
+    go : IsUnlawfulAfter stretch row found ⊎ IsLateAfter within stretch row found → IsLawfulStretch stretch
+    go (inl beat) = beat.lawful
+    go (inr late) = lawful_rest stretch.plan (row ∷ []) stretch.rows late.lawful
+
 pub part_before : (trace : Bool) (plan : SystemPlan) (file : List SeenRow) (text : List ℕ) (found : Unlawful)
     → IsToldBefore trace plan file text found → IsToldPart trace plan file text
 part_before trace plan file text found told = record {
-  after = told.first.after ++ told.first.row ∷ [];
+  after = told.first.after ++ option_to_list told.first.next;
   before = told.first.before;
   crossing = subst (IsCrossing file) (sym (append_assoc told.first.after
-      (told.first.row ∷ []) told.first.before)) told.first.crossing;
+      (option_to_list told.first.next) told.first.before)) told.first.crossing;
   course = told.first.course;
-  lawful = told.first.is.lawful;
+  lawful = breach_after plan.within told.first.time told.first.course.now told.first.next found told.first.is;
   told = told.told;
 }

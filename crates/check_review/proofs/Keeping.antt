@@ -1,5 +1,5 @@
 -- The row among some at which a judge stops, with what is told.
-use Rattle.std.proofs.Common.{◌≡◌, ◌∙◌, ℕ, ◌+◌, ◌<◌, ◌≤◌, All, Bool, true, false, List, [], ◌∷◌, ◌++◌, Some, reverse, length, get_or, slice_get, take, drop, Result, Ok, Err, IfOk, IfErr, sym, ap, subst, arith}
+use Rattle.std.proofs.Common.{◌≡◌, ◌∙◌, ℕ, ◌+◌, ◌<◌, ◌≤◌, ◌⊎◌, inl, All, Bool, true, false, List, [], ◌∷◌, ◌++◌, Some, reverse, length, get_or, slice_get, take, drop, Result, Ok, Err, IfOk, IfErr, refl, sym, ap, subst, arith}
 use Rattle.std.specs.List.Sorted.{IsPermutation}
 use Rattle.std.proofs.lemmas.List.{drop_more, length-take-le, reverse-append, take-append-drop, take_all, take_more}
 use Rattle.std.proofs.lemmas.List.Elements.{All-append, All-from_recursion}
@@ -18,7 +18,7 @@ use Rattle.check_review.specs.Stretches.{Stretches, stretches}
 use Rattle.check_review.specs.Steps.{SameAsked}
 use Rattle.check_review.specs.Order.{sightings_of}
 use Rattle.check_review.specs.Told.{AppendsTold, GrowsTold}
-use Rattle.check_review.specs.Verdict.{IsUnlawfulAfter, MayWantAfter, MayWantAmong, OfUnlawful, StopsAt, StopsTelling}
+use Rattle.check_review.specs.Verdict.{IsLateAfter, IsUnlawfulAfter, MayWantAfter, MayWantAmong, OfUnlawful, StopsAt, StopsTelling}
 use Rattle.check_review.specs.View.{HasLanes, KeepsOn, Kept}
 use Rattle.check_review.proofs.Stretching.{course_on, grows_on, grows_then}
 
@@ -29,6 +29,7 @@ same_then a b c before after = record {
   trace = after.trace ∙ before.trace;
   asked = after.asked ∙ before.asked;
   covered = after.covered ∙ before.covered;
+  timed = after.timed ∙ before.timed;
 }
 
 -- what follows from what is said of the unlawful row
@@ -53,21 +54,24 @@ one_more rows before i row inside here =
 
 abbrev pub stops_at : (plan : SystemPlan) (rows before : List SeenRow) (i : ℕ) (row : SeenRow) (found : Unlawful) → i < length rows
     → get_or rows i row ≡ row → row.is_reset ≡ false → (course : Stretches plan (reverse (take i rows) ++ before))
-    → IsUnlawfulAfter course.now row found → StopsAt plan rows before found
+    → (IsUnlawfulAfter course.now row found ⊎ IsLateAfter plan.within course.now row found) → StopsAt plan rows before found
 stops_at plan rows before i row found inside here beat course unlawful = record {
-  row = row;
-  beat = beat;
+  next = Some row;
+  some = row;
+  there = (i, inside, here);
   done = take i rows;
   left = drop (i + 1) rows;
   are = split rows i row inside here;
   course = course;
-  is = unlawful;
+  is = (refl, beat, unlawful);
+  last = λ none. absurd (cc);
 }
 
 pub stops_there : (trace : Bool) (plan : SystemPlan) (rows before : List SeenRow) (i : ℕ) (row : SeenRow)
     (course : Stretches plan before) (mid : Stretches plan (reverse (take i rows) ++ before)) (old now next : List ℕ) (why : Refusal)
     → i < length rows → get_or rows i row ≡ row → OfUnlawful (λ _. row.is_reset ≡ false) why
-    → OfUnlawful (IsUnlawfulAfter mid.now row) why → OfUnlawful (λ _. next ≡ now) why
+    → OfUnlawful (λ found. IsUnlawfulAfter mid.now row found ⊎ IsLateAfter plan.within mid.now row found) why
+    → OfUnlawful (λ _. next ≡ now) why
     → GrowsTold trace (stretches course) (stretches mid) old now
     → OfUnlawful (StopsTelling trace plan rows before course old next) why
 stops_there trace plan rows before i row course mid old now next (refusal.Unlawful found) inside here beat unlawful quiet told =

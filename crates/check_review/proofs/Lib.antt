@@ -11,3 +11,5 @@ pub mod Judging
 pub mod Counting
 pub mod Covering
 pub mod OneCourse
+pub mod Timing
+pub mod Refusing

@@ -14,6 +14,7 @@ use Rattle.check_coverage.specs.View.{Covers}
 use Rattle.check_bins.specs.declared.bin.Bin.{Bin}
 use Rattle.check_start.specs.Loads.{AreLoads, AreLoadsOf, SystemPlan}
 use Rattle.check_review.specs.Stretches.{Stretches, EndsStretch, bins_in, sightings_in, stretches, watched_in}
+use Rattle.check_review.specs.Times.{waits_after}
 use Rattle.check_review.specs.View.{KeepsOn, KeptIn}
 use Rattle.check_review.specs.declared.tally.Tally.{Tally}
 use Rattle.check_review.proofs.Stretching.{course_reset, grows_no_more, same_layout, same_mirrors}
@@ -30,6 +31,8 @@ pub record IsResetTally (plan : Plan) (rows : List SeenRow) (earlier : List Bin)
       → IfSome new.pending (Holds later [])
   pub covers : (later : Plan) → HaveSameMirrors plan later → IfSome old.coverage (Covers plan earlier rows)
       → IfSome new.coverage (Covers later (bins plan rows ++ earlier) [])
+  pub waits : (within : Option ℕ) (later : Plan) → old.waits ≡ waits_after within plan rows
+      → new.waits ≡ waits_after within later []
 
 pub keeps_after_reset : (system : SystemPlan) (before : List SeenRow) (course : Stretches system before) (row : SeenRow) (trace : Bool)
     (text : List ℕ) (old new : Tally) (loaded own : List (Option Slave)) (resets slaves : List PortSlave)
@@ -73,6 +76,7 @@ keeps_after_reset system before course row trace text old new loaded own resets 
           covers = reset.covers later mirrors kept.tallied.covers;
         };
         pending = reset.pending later refl kept.pending;
+        waits = reset.waits system.within later kept.waits;
       };
       told = grows_no_more trace later (stretches course) text;
     }

@@ -22,6 +22,7 @@ pub record SameAsked (old new : Tally) : Type 0 where
   pub trace : new.trace ≡ old.trace
   pub asked : is_some new.pending ≡ is_some old.pending
   pub covered : is_some new.coverage ≡ is_some old.coverage
+  pub timed : is_some new.waits ≡ is_some old.waits
 
 -- the beat of a row whose link is watched is judged after those before it, and what is told of it is appended to a text
 pub record TellsRow (row : SeenRow) (old new : Tally) (text more : List ℕ) (result : Result Unit Refusal) : Type 0 where

@@ -1,6 +1,7 @@
 -- The verdict over the rows of a capture. Lists of what crossed have the latest first. This project's own.
-use Rattle.std.specs.Prelude.{◌≡◌, ◌⊎◌, ℕ, ◌%◌, ◌^◌, ◌<◌, Bool, true, false, List, [], ◌∷◌, ◌++◌, Option, Some, None, IsTrue, length, reverse}
+use Rattle.std.specs.Prelude.{◌≡◌, ◌⊎◌, ℕ, ◌%◌, ◌^◌, ◌<◌, Bool, true, false, List, [], ◌∷◌, ◌++◌, Option, Some, None, IsTrue, Contains, length, option_to_list, reverse}
 use Rattle.std.specs.List.{AllByRecursion}
+use Rattle.check_watch.specs.declared.fault.Fault.{Fault}
 use Rattle.check_sides.specs.Plan.{Plan}
 use Rattle.check_turns.specs.Lawful.{IsLawfulInOrder, IsFirstFaultInOrder, MayNeedMemory}
 pub use Rattle.check_start.specs.Loads.{SystemPlan}
@@ -8,6 +9,10 @@ use Rattle.check_rows.specs.Row.{SeenRow, row_with}
 use Rattle.check_rows.specs.declared.row.Row.{Row}
 use Rattle.check_unanswered.specs.Began.{IsComplete, IsLeft}
 use Rattle.check_rows.specs.declared.request.Left.{Left}
+use Rattle.check_times.specs.declared.waiting.Waiting.{Waiting}
+use Rattle.check_times.specs.Waiting.{first_late, is_late_reply, waiting_in}
+use Rattle.check_lines.specs.declared.breach.Breach.{Breach}
+use Rattle.check_lines.specs.declared.breach.Breach.TheVariants as breach
 pub use Rattle.check_lines.specs.declared.verdict.VerdictCounts.{VerdictCounts}
 use Rattle.check_review.specs.declared.stop.Refusal.{Refusal}
 use Rattle.check_review.specs.declared.stop.Refusal.TheVariants as refusal
@@ -16,16 +21,18 @@ use Rattle.check_review.specs.declared.stop.Stop.TheVariants as stop
 use Rattle.check_review.specs.declared.stop.Unlawful.{Unlawful}
 use Rattle.check_review.specs.Order.{IsCrossing, IsLater, HasRowFault, is_watched}
 use Rattle.check_review.specs.Stretches.{Stretches, IsLawfulStretch, Stretch, sightings_in, stretches, watched_in}
+use Rattle.check_review.specs.Times.{IsNamedAs, StretchesInTime, StretchesInTimeBefore}
 use Rattle.check_review.specs.Count.{asked_in, answered_in}
 use Rattle.check_review.specs.Told.{GrowsTold, IsToldOfAll}
 
 -- the rows of a file, in the order in which their beats cross, are lawful at the links that are watched: those since the last
--- reset, and those of each stretch that a reset has ended
+-- reset, and those of each stretch that a reset has ended; and replies come in time, if there is a limit
 pub record IsLawfulFile (plan : SystemPlan) (file : List SeenRow) : Type 0 where
   pub crossed : List SeenRow
   pub crossing : IsCrossing file crossed
   pub course : Stretches plan crossed
   pub lawful : IsLawfulStretch course.now
+  pub in_time : StretchesInTime plan.within (stretches course)
 
 -- how many rows a file has, and how many whole requests and replies are seen of them
 pub record HasCounts (plan : SystemPlan) (file : List SeenRow) (counts : VerdictCounts) : Type 0 where
@@ -55,23 +62,64 @@ pub record HasLeft (asked : Bool) (plan : SystemPlan) (file : List SeenRow) (lef
 abbrev pub IsNamedBy : SeenRow → Row → Type 0
 IsNamedBy row named = row_with named row.sighting.lanes ≡ row
 
+-- a row breaks the rules by its beat, of whose fault this is said
+abbrev pub OfBeat : (Fault → Type 0) → Breach → Type 0
+OfBeat P (breach.Beat fault) = P fault
+OfBeat P breach.LateReply = ⊥
+OfBeat P breach.NoReply = ⊥
+
 -- the rows of a stretch are lawful, and this one is not, after them: it has this first fault
 pub record IsUnlawfulAfter (stretch : Stretch) (row : SeenRow) (found : Unlawful) : Type 0 where
   pub named : IsNamedBy row found.row
   pub watched : IsTrue (is_watched stretch.plan.layout row.sighting.link)
   pub lawful : IsLawfulStretch stretch
   pub unlawful : IsLawfulInOrder stretch.plan (row.sighting ∷ sightings_in stretch) → ⊥
-  pub fault : IsFirstFaultInOrder stretch.plan (sightings_in stretch) row.sighting found.fault
+  pub fault : OfBeat (IsFirstFaultInOrder stretch.plan (sightings_in stretch) row.sighting) found.breach
 
--- the row is the first one, in the order in which beats cross, that makes the file unlawful, with its first fault
-pub record IsFirstUnlawful (plan : SystemPlan) (file : List SeenRow) (found : Unlawful) : Type 0 where
+-- the beat of this row is lawful after those of a stretch, and begins a reply to a request that has waited for more than the limit
+pub record IsLateAfter (within : Option ℕ) (stretch : Stretch) (row : SeenRow) (found : Unlawful) : Type 0 where
+  pub named : IsNamedBy row found.row
+  pub watched : IsTrue (is_watched stretch.plan.layout row.sighting.link)
+  pub lawful : IsLawfulStretch (record stretch { rows = row ∷ stretch.rows })
+  pub limit : ℕ
+  pub asked : within ≡ Some limit
+  pub late : is_late_reply limit stretch.plan (watched_in stretch) row ≡ true
+  pub breach : found.breach ≡ breach.LateReply
+
+-- the rows of a stretch are lawful, the last of which is of this time, and after them a request has waited for more than the limit
+-- by that time: of all that have this is the one that began first
+pub record IsUnanswered (within : Option ℕ) (time : ℕ) (stretch : Stretch) (found : Unlawful) : Type 0 where
   pub row : SeenRow
-  pub beat : row.is_reset ≡ false
+  pub before : List SeenRow
+  pub are : stretch.rows ≡ row ∷ before
+  pub now : row.time ≡ time
+  pub lawful : IsLawfulStretch stretch
+  pub limit : ℕ
+  pub asked : within ≡ Some limit
+  pub first : Waiting
+  pub late : first_late limit time (waiting_in stretch.plan (watched_in stretch)) ≡ Some first
+  pub named : IsNamedAs first found.row
+  pub breach : found.breach ≡ breach.NoReply
+
+-- a stretch goes on with this row of this time, whose beat is not lawful or begins a late reply; or it ends for now with rows of
+-- this time, after which a request has waited for too long
+abbrev pub IsBreach : Option ℕ → ℕ → Stretch → Option SeenRow → Unlawful → Type 0
+IsBreach within time stretch (Some row) found =
+    (row.time ≡ time) × (row.is_reset ≡ false) × (IsUnlawfulAfter stretch row found ⊎ IsLateAfter within stretch row found)
+IsBreach within time stretch None found = IsUnanswered within time stretch found
+
+-- the row is the first one, in the order in which beats cross, that makes the file unlawful, with its first fault; or after all
+-- rows of the last time no row has, but a request waits that has waited for too long, and the row is the one with which it began
+pub record IsFirstUnlawful (plan : SystemPlan) (file : List SeenRow) (found : Unlawful) : Type 0 where
+  pub next : Option SeenRow
+  pub time : ℕ
   pub after : List SeenRow
   pub before : List SeenRow
-  pub crossing : IsCrossing file (after ++ row ∷ before)
+  pub crossing : IsCrossing file (after ++ (option_to_list next ++ before))
   pub course : Stretches plan before
-  pub is : IsUnlawfulAfter course.now row found
+  pub in_time : StretchesInTimeBefore time plan.within (stretches course)
+  pub is : IsBreach plan.within time course.now next found
+  pub last : next ≡ None → after ≡ []
 
 -- the rows of a file are lawful, and this is told of them
 pub record IsToldFile (trace : Bool) (plan : SystemPlan) (file : List SeenRow) (text : List ℕ) : Type 0 where
@@ -106,15 +154,17 @@ abbrev pub OfUnlawful : (Unlawful → Type 0) → Refusal → Type 0
 OfUnlawful P (refusal.Unlawful found) = P found
 OfUnlawful P refusal.Memory = Unit {0}
 
--- the first unlawful row of rows that cross in this order, after those before
+-- how rows of one time, which cross in this order after those before, break the rules
 pub record StopsAt (plan : SystemPlan) (rows before : List SeenRow) (found : Unlawful) : Type 0 where
-  pub row : SeenRow
-  pub beat : row.is_reset ≡ false
+  pub next : Option SeenRow
+  pub some : SeenRow
+  pub there : Contains rows some
   pub done : List SeenRow
   pub left : List SeenRow
-  pub are : rows ≡ done ++ row ∷ left
+  pub are : rows ≡ done ++ (option_to_list next ++ left)
   pub course : Stretches plan (reverse done ++ before)
-  pub is : IsUnlawfulAfter course.now row found
+  pub is : IsBreach plan.within some.time course.now next found
+  pub last : next ≡ None → left ≡ []
 
 -- and a text grew by what is told of those that cross before it
 pub record StopsTelling (trace : Bool) (plan : SystemPlan) (rows before : List SeenRow) (course : Stretches plan before)

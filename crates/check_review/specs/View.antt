@@ -14,6 +14,7 @@ use Rattle.check_review.specs.declared.stop.Stop.TheVariants as stop
 use Rattle.check_start.specs.Loads.{AreLoadsOf, SystemPlan}
 use Rattle.check_review.specs.Order.{IsCrossing, NeverFalls, sightings_of, watched}
 use Rattle.check_review.specs.Stretches.{Stretches, Earlier, bins_in, stretches}
+use Rattle.check_review.specs.Times.{StretchesInTime, waits_after}
 use Rattle.check_review.specs.Count.{asked_in, asked_in_past, answered_in, answered_in_past}
 use Rattle.check_review.specs.Told.{GrowsTold, IsToldOfAll}
 use Rattle.check_review.specs.Verdict.{IsToldBefore}
@@ -27,10 +28,11 @@ pub record Tallied (earlier : Earlier) (plan : Plan) (crossed : List SeenRow) (t
   pub answered : tally.answered ≡ answered_in_past (answered_in earlier.ended) plan (sightings_of plan.layout crossed)
   pub covers : IfSome tally.coverage (Covers plan (bins_in earlier.ended) (watched plan.layout crossed))
 
--- and these of their requests are in flight, if it is asked which are left
+-- and these of their requests are in flight, if it is asked which are left; and these wait, if there is a limit of time
 pub record Kept (earlier : Earlier) (plan : Plan) (crossed : List SeenRow) (tally : Tally) : Type 0 where
   pub tallied : Tallied earlier plan crossed tally
   pub pending : IfSome tally.pending (Holds plan (watched plan.layout crossed))
+  pub waits : tally.waits ≡ waits_after earlier.system.within plan (watched plan.layout crossed)
 
 -- the same of all rows that crossed, by their stretches
 abbrev pub KeptIn : (system : SystemPlan) (crossed : List SeenRow) → Stretches system crossed → Tally → Type 0
@@ -44,9 +46,9 @@ pub record KeepsOn (system : SystemPlan) (before : List SeenRow) (course : Stret
   pub kept : KeptIn system crossed next tally
   pub told : GrowsTold trace (stretches course) (stretches next) old new
 
--- replies are to be told, or what is covered: then memory can be wanted with each row
+-- replies are to be told, or what is covered, or there is a limit of time: then memory can be wanted with each row
 abbrev pub wants : Tally → Bool
-wants tally = tally.trace || is_some tally.coverage
+wants tally = tally.trace || (is_some tally.coverage || is_some tally.waits)
 
 -- ---- the rows of the moment at hand
 
@@ -75,6 +77,7 @@ pub record Judges (plan : SystemPlan) (file : List SeenRow) (judge : JudgeView) 
   pub begun : judge.moment.rows ≡ [] → judge.moment.time ≡ 0
   pub never_falls : NeverFalls file
   pub kept : KeptIn plan before course judge.tally
+  pub in_time : StretchesInTime plan.within (stretches course)
   pub rows : judge.rows ≡ length file % 2 ^ 64
 
 -- the judge is to say which requests are left

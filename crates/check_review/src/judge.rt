@@ -10,6 +10,7 @@ ghost use Rattle.check_unanswered.specs.View.{Holds};
 ghost use Rattle.check_coverage.specs.View.{Covers};
 ghost use Rattle.check_start.specs.Loads.{AreLoadsOf, SystemPlan};
 ghost use Rattle.check_review.specs.Stretches.{Stretches};
+ghost use Rattle.check_review.specs.Times.{waits_after};
 ghost use Rattle.check_review.specs.Covered.{AppendsCoverage, HasCovered, IsCoveredBefore, IsCoveredFile};
 ghost use Rattle.check_review.specs.Steps.{SameAsked, TakesRow};
 ghost use Rattle.check_review.specs.View.{HasTold, Judges, TellsOn, is_asked, is_covered, is_traced, wants};
@@ -21,6 +22,7 @@ use check_coverage::Coverage;
 use check_lines::VerdictCounts;
 use check_rows::{Moment, Row, RowFault};
 use check_start::Loads;
+use check_times::Waits;
 use check_turns::OrderedWatch;
 use check_unanswered::Pending;
 use std::alloc::{AllocError, Global};
@@ -52,17 +54,20 @@ impl Model for Judge {
 impl Judge {
     /// The judge of a capture, with a judge of beats that has seen none, and what a reset of the whole system loads; it
     /// tells replies if they are traced. If it is given the requests in flight, which are none yet, it says at the end
-    /// which are left. If it is given what is covered, which is nothing yet, it counts what the rows cover.
+    /// which are left. If it is given what is covered, which is nothing yet, it counts what the rows cover. If it is given the
+    /// requests that wait, which are none yet, replies have to come in time.
     pub(crate) fn new(
         watch: OrderedWatch,
         loads: Loads,
         trace: bool,
         pending: Option<Pending>,
         coverage: Option<Coverage>,
+        waits: Option<Waits>,
     ) -> Judge
         requires { length loads ≡ length watch.layout.ports + 1 }
         ensures judges { (plan : SystemPlan) → KeepsOrdered plan.begins [] watch → AreLoadsOf plan loads
-            → IfSome pending (Holds plan.begins []) → IfSome coverage (Covers plan.begins [] []) → Judges plan [] result }
+            → IfSome pending (Holds plan.begins []) → IfSome coverage (Covers plan.begins [] [])
+            → waits ≡ waits_after plan.within plan.begins [] → Judges plan [] result }
         ensures layout { result.tally.watch.layout ≡ watch.layout }
         ensures trace { is_traced result ≡ trace }
         ensures asked { is_asked result ≡ is_some pending }
@@ -75,6 +80,7 @@ impl Judge {
                 trace,
                 pending,
                 coverage,
+                waits,
                 requests: 0,
                 answered: 0,
             },
@@ -146,7 +152,7 @@ impl Judge {
     {
         // asked for its clause that they are a moment
         let _rows = self.moment.len();
-        if let Err(refusal) = self.tally.judge_rows(alloc, &self.moment, text) {
+        if let Err(refusal) = self.tally.judge_moment(alloc, &self.moment, text) {
             return Err(stop_of(refusal));
         }
         self.begin_moment(row, lanes);
@@ -258,7 +264,9 @@ impl Judge {
         ensures memory { (plan : SystemPlan) (file : List SeenRow) → Judges plan file self.old
             → IfErr result (λ why. why ≡ Refusal.Memory → MayWantMemory (wants self.old.tally) plan file) }
     {
-        if let Err(refusal) = self.tally.judge_rows(alloc, &self.moment, text) {
+        // asked for its clause that they are a moment
+        let _rows = self.moment.len();
+        if let Err(refusal) = self.tally.judge_moment(alloc, &self.moment, text) {
             return Err(refusal);
         }
         let counts = VerdictCounts {

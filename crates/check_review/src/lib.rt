@@ -20,6 +20,7 @@
 mod begin;
 mod judge;
 pub mod laws;
+mod moment;
 mod stop;
 mod tally;
 

@@ -2,10 +2,9 @@
 ghost use Rattle.std.specs.Prelude.{◌≡◌};
 ghost use Rattle.check_review.specs.Verdict.{stop_of};
 
-use check_lines::VerdictCounts;
+use check_lines::{Breach, VerdictCounts};
 use check_rows::{Row, RowFault};
 use check_unanswered::Left;
-use check_watch::Fault;
 
 /// How a lawful capture ends: its counts, and what is left of its requests, if that is asked for and there are any.
 #[derive(Debug, Clone, Copy, PartialEq, Eq)]
@@ -14,11 +13,11 @@ pub struct Ending {
     pub left: Option<Left>,
 }
 
-/// The first row that makes a capture unlawful, and the first fault of its beat.
+/// The first row that makes a capture unlawful, and how; of a request that has waited for too long the row with which it began.
 #[derive(Debug, Drop)]
 pub struct Unlawful {
     pub row: Row,
-    pub fault: Fault,
+    pub breach: Breach,
 }
 
 /// Why rows are refused as they are judged.

@@ -1,5 +1,5 @@
 //! Beats judged in the order in which they cross, and what they end, counted.
-ghost use Rattle.std.specs.Prelude.{◌≡◌, ◌+◌, ◌≤◌, ℕ, ◌&&◌, false, true, List, ◌∷◌, ◌++◌, [], All, length, reverse, is_some, IsTrue, OnOk, IfOk, IfErr, IfSome};
+ghost use Rattle.std.specs.Prelude.{◌≡◌, ◌+◌, ◌≤◌, ℕ, ◌&&◌, not, false, true, Option, List, ◌∷◌, ◌++◌, [], All, length, reverse, is_some, IsTrue, OnOk, IfOk, IfErr, IfSome};
 ghost use Rattle.check_watch.specs.Plan.{Sighting, seen_at, source_of};
 ghost use Rattle.check_sides.specs.Groups.{are_apart};
 ghost use Rattle.check_turns.specs.Lawful.{IsLawfulInOrder};
@@ -17,6 +17,7 @@ ghost use Rattle.check_start.specs.Loads.{SystemPlan};
 ghost use Rattle.check_review.specs.Count.{one_more};
 ghost use Rattle.check_review.specs.Stretches.{Stretches, Earlier};
 ghost use Rattle.check_review.specs.Order.{sightings_of};
+ghost use Rattle.check_review.specs.Times.{late_before, waits_after};
 ghost use Rattle.check_review.specs.Steps.{SameAsked, TellsRow};
 ghost use Rattle.check_review.specs.Told.{AppendsTold, AppendsToldOf, IsCountedOfOwner};
 ghost use Rattle.check_review.specs.View.{HasLanes, KeepsOn, Kept, KeptIn, Tallied, wants};
@@ -25,10 +26,11 @@ ghost use Rattle.check_review.specs.Covered.{StopsCovering};
 
 use crate::stop::{Refusal, Unlawful};
 use check_coverage::{Coverage, is_counted};
-use check_lines::push_answer;
+use check_lines::{Breach, push_answer};
 use check_memory::Slave;
 use check_rows::{Moment, Row};
 use check_start::Loads;
+use check_times::Waits;
 use check_turns::{Beat, Change, Ended, Link, Links, OrderedWatch, Seen, StepError};
 use check_unanswered::{Left, Pending};
 use std::alloc::{AllocError, Global};
@@ -60,6 +62,8 @@ pub struct Tally {
     pub pending: Option<Pending>,
     /// What the beats have covered, if that is asked for.
     pub coverage: Option<Coverage>,
+    /// The requests that wait for their replies, if there is a limit of time.
+    pub waits: Option<Waits>,
     pub requests: u64,
     pub answered: u64,
 }
@@ -72,6 +76,7 @@ impl Tally {
         ensures trace { self.new.trace ≡ self.old.trace }
         ensures pending { self.new.pending ≡ self.old.pending }
         ensures coverage { self.new.coverage ≡ self.old.coverage }
+        ensures waits { self.new.waits ≡ self.old.waits }
         ensures requests { self.new.requests
             ≡ one_more (is_counted self.old.watch.layout.links link && ends_an_ask end)
             self.old.requests }
@@ -133,6 +138,7 @@ impl Tally {
         requires { CanCross self.old.watch.layout row.now.link lanes.now }
         ensures same { SameAsked self.old self.new }
         ensures pending { self.new.pending ≡ self.old.pending }
+        ensures waits { self.new.waits ≡ self.old.waits }
         ensures keeps { (earlier : Earlier) (plan : Plan) (before : List SeenRow) → Tallied earlier plan before self.old
             → IfOk result (λ taken. taken ≡ true
             → Tallied earlier plan (row_with row.now lanes.now ∷ before) self.new) }
@@ -165,6 +171,7 @@ impl Tally {
         requires { CanCross self.old.watch.layout row.now.link lanes.now }
         ensures same { SameAsked self.old self.new }
         ensures pending { self.new.pending ≡ self.old.pending }
+        ensures waits { self.new.waits ≡ self.old.waits }
         ensures row { TellsRow (row_with row.now lanes.now) self.old self.new text.old.items text.new.items result }
     {
         let seen = match self
@@ -173,7 +180,8 @@ impl Tally {
         {
             Ok(seen) => seen,
             Err(StepError::Unlawful(fault)) => {
-                return Err(Refusal::Unlawful(Unlawful { row: *row, fault }));
+                let breach = Breach::Beat(fault);
+                return Err(Refusal::Unlawful(Unlawful { row: *row, breach }));
             }
             Err(StepError::Memory) => return Err(Refusal::Memory),
         };
@@ -200,6 +208,7 @@ impl Tally {
         requires { CanCross self.old.watch.layout row.now.link lanes.now }
         ensures same { SameAsked self.old self.new }
         ensures pending { self.new.pending ≡ self.old.pending }
+        ensures waits { self.new.waits ≡ self.old.waits }
         ensures row { TellsRow (row_with row.now lanes.now) self.old self.new text.old.items text.new.items result }
     {
         if self.trace {
@@ -211,6 +220,13 @@ impl Tally {
             Ok(false) => self.tell_row(alloc, row, lanes, text),
             Err(AllocError) => Err(Refusal::Memory),
         }
+    }
+
+    /// Whether no requests are kept: neither those in flight are asked for, nor is there a limit of time. So it is in most runs.
+    fn keeps_no_requests(&self) -> bool
+        ensures { result ≡ (not (is_some self.now.pending) && not (is_some self.now.waits)) }
+    {
+        self.pending.is_none() && self.waits.is_none()
     }
 
     /// What the next beat does to the requests in flight, if these are asked for.
@@ -233,6 +249,7 @@ impl Tally {
         ensures loads { self.new.loads ≡ self.old.loads }
         ensures trace { self.new.trace ≡ self.old.trace }
         ensures coverage { self.new.coverage ≡ self.old.coverage }
+        ensures waits { self.new.waits ≡ self.old.waits }
         ensures tallied { (earlier : Earlier) (plan : Plan) (before : List SeenRow) → Tallied earlier plan before self.old
             → Tallied earlier plan before self.new }
         ensures asked { is_some self.new.pending ≡ is_some self.old.pending }
@@ -245,6 +262,22 @@ impl Tally {
         match (&mut self.pending, change) {
             (Some(pending), Some(change)) => pending.note(change, row),
             (Some(_), None) | (None, _) => {}
+        }
+    }
+
+    /// Notes which requests wait after a row that was judged, if there is a limit of time.
+    fn wait(&mut self, row: &Row) -> Result<(), AllocError>
+        ensures rest { self.new ≡ record self.old { waits = self.new.waits } }
+        ensures timed { is_some self.new.waits ≡ is_some self.old.waits }
+        ensures waits { (within : Option ℕ) (plan : Plan) (rows : List SeenRow) (lanes : List ℕ)
+            → KeepsOrdered plan (beats_of (row_with row.now lanes ∷ rows)) self.old.watch
+            → self.old.waits ≡ waits_after within plan rows
+            → OnOk result (self.new.waits ≡ waits_after within plan (row_with row.now lanes ∷ rows)) }
+        ensures memory { IfErr result (λ _. is_some self.old.waits ≡ true) }
+    {
+        match &mut self.waits {
+            Some(waits) => waits.note(self.watch.beats(), row),
+            None => Ok(()),
         }
     }
 
@@ -283,6 +316,19 @@ impl Tally {
         }
     }
 
+    /// After a reset no request waits, if there is a limit of time.
+    fn reset_waits(&mut self)
+        ensures rest { self.new ≡ record self.old { waits = self.new.waits } }
+        ensures waits { (within : Option ℕ) (plan later : Plan) (rows : List SeenRow)
+            → self.old.waits ≡ waits_after within plan rows → self.new.waits ≡ waits_after within later [] }
+        ensures timed { is_some self.new.waits ≡ is_some self.old.waits }
+    {
+        match &mut self.waits {
+            Some(waits) => waits.reset(),
+            None => {}
+        }
+    }
+
     /// After a reset what was covered is kept, if it is asked for.
     fn reset_coverage(&mut self)
         ensures rest { self.new ≡ record self.old { coverage = self.new.coverage } }
@@ -311,6 +357,7 @@ impl Tally {
         self.watch.reset(alloc, loaded, own)?;
         self.reset_pending();
         self.reset_coverage();
+        self.reset_waits();
         Ok(())
     }
 
@@ -346,11 +393,14 @@ impl Tally {
             return Err(refusal);
         }
         self.note(change, row);
-        Ok(())
+        match self.wait(row) {
+            Ok(()) => Ok(()),
+            Err(AllocError) => Err(Refusal::Memory),
+        }
     }
 
     /// Judges the beat of a row, or a reset, after the rows before it, and appends what is told of it.
-    fn judge_row(
+    pub(crate) fn judge_row(
         &mut self,
         alloc: Global,
         row: &Row,
@@ -398,8 +448,7 @@ impl Tally {
         if !self.watch.watches(row.link) {
             return Ok(true);
         }
-        // most runs don't ask for the requests in flight
-        if self.pending.is_none() {
+        if self.keeps_no_requests() {
             return self.take_row(alloc, row, lanes);
         }
         let change = self.change(row);
@@ -407,6 +456,7 @@ impl Tally {
             return Ok(false);
         }
         self.note(change, row);
+        self.wait(row)?;
         Ok(true)
     }
 
@@ -430,8 +480,8 @@ impl Tally {
         self.pass_row(alloc, row, lanes)
     }
 
-    /// Takes the beats of the rows of a moment after those before them, if nothing is told of them, they are lawful,
-    /// and there is but one, and no reset: whether it did. Nothing changes if it did not.
+    /// Takes the beats of the rows of a moment after those before them, if nothing is told of them, they are lawful, no request
+    /// has waited for too long, and there is but one, and no reset: whether it did. Nothing changes if it did not.
     pub fn pass_rows(&mut self, alloc: Global, moment: &Moment) -> Result<bool, AllocError>
         requires { All (HasLanes self.old.watch.layout) moment.now.rows }
         ensures same { SameAsked self.old self.new }
@@ -439,11 +489,12 @@ impl Tally {
             → KeptIn system before course self.old → IfOk result (λ passed. passed ≡ true
             → KeepsOn system before course (reverse moment.now.rows ++ before) self.old.trace self.new text text) }
         ensures refused { IfOk result (λ passed. passed ≡ false → self.new ≡ self.old) }
+        ensures in_time { IfOk result (λ passed. passed ≡ true → late_before self.old.waits moment.now.rows ≡ None) }
         ensures memory { (system : SystemPlan) (before : List SeenRow) (course : Stretches system before)
             → KeptIn system before course self.old
             → IfErr result (λ _. MayWantAmong (wants self.old) system moment.now.rows before) }
     {
-        if moment.len() != 1 {
+        if moment.len() != 1 || self.late_before(moment).is_some() {
             return Ok(false);
         }
         let (row, lanes) = moment.get(0);
@@ -452,7 +503,7 @@ impl Tally {
 
     /// Judges the rows of a moment after those before them, in the order in which they cross, up to the first that is not
     /// lawful, and appends what is told of them.
-    pub fn judge_rows(
+    pub(crate) fn judge_rows(
         &mut self,
         alloc: Global,
         moment: &Moment,

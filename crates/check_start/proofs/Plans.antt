@@ -19,8 +19,8 @@ pub plan_of : (terms : Terms) (system : Description) (images : List (List ℕ)) 
     → (IsTrue (are_apart (layout_of terms system)) → own_slaves terms images system.ports ≡ Ok begins.own)
     → (plan : SystemPlan) × IsPlanOf terms system images plan
 plan_of terms system images begins is layout resets own = (
-  record { begins = begins; loads = loads_of system.ports },
-  record { is = is; layout = layout; resets = resets; own = own; loads = refl },
+  record { begins = begins; loads = loads_of system.ports; within = terms.within },
+  record { is = is; layout = layout; resets = resets; own = own; loads = refl; within = refl },
 )
 
 -- what is loaded is what the slaves of the plan held at the beginning

@@ -25,10 +25,12 @@ is_loaded Load = true
 abbrev pub loads_of : List Port → List Bool
 loads_of ports = map (λ (port : Port). is_loaded port.on_reset) ports
 
--- what is known of a system ahead: the plan by which it begins, and which of its ports a reset loads
+-- what is known of a system ahead: the plan by which it begins, which of its ports a reset loads, and the longest time from a
+-- request's first beat to that of its reply, if there is a limit
 pub record SystemPlan : Type 0 where
   pub begins : Plan
   pub loads : List Bool
+  pub within : Option ℕ
 
 -- ---- what is loaded
 

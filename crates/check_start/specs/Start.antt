@@ -40,6 +40,7 @@ pub record IsPlanOf (terms : Terms) (system : Description) (images : List (List 
   pub resets : shared_slaves terms images system.ports ≡ Ok plan.begins.resets
   pub own : IsTrue (are_apart (layout_of terms system)) → own_slaves terms images system.ports ≡ Ok plan.begins.own
   pub loads : plan.loads ≡ loads_of system.ports
+  pub within : plan.within ≡ terms.within
 
 -- something holds by each plan of the system; and there is one
 pub record ByThePlan (terms : Terms) (system : Description) (images : List (List ℕ)) (Holds : SystemPlan → Type 0)

@@ -28,12 +28,13 @@ use check_turns::{Links, OrderedWatch, Paths, is_some_alone};
 use std::alloc::{AllocError, Global};
 use tl_map::{AddressMap, SourceOwners};
 
-/// By what terms beats are judged: which links are watched, and when the requests of a port take effect on a side for which
-/// the system does not say it.
+/// By what terms beats are judged: which links are watched, when the requests of a port take effect on a side for which
+/// the system does not say it, and the longest time from a request's first beat to that of its reply, if there is a limit.
 #[derive(Debug, Clone, Copy, PartialEq, Eq)]
 pub struct Terms {
     pub links: Links,
     pub orders: SideOrders,
+    pub within: Option<u64>,
 }
 
 /// The judge of a system's beats, the names and buses of its links, what a reset loads, and the numbers of sources at ports' links.

@@ -1,8 +1,9 @@
 -- What lawful verdicts say of rows.
-use Rattle.std.proofs.Common.{◌≡◌, ℕ, ◌<◌, ◌≤◌, Bool, if◌then◌else◌, true, false, List, [], ◌∷◌, ◌++◌, map, filter, refl, sym, ap, ltb→lt, T, subst, arith}
-use Rattle.std.specs.Prelude.{◌&&◌, nat_lt, length}
+use Rattle.std.proofs.Common.{◌≡◌, ◌∙◌, ℕ, ◌<◌, ◌≤◌, ◌⊎◌, inl, inr, Option, Some, None, IsTrue, Bool, if◌then◌else◌, true, false, List, [], ◌∷◌, ◌++◌, map, filter, refl, sym, ap, ltb→lt, T, subst, arith}
+use Rattle.std.specs.Prelude.{◌&&◌, nat_lt, length, option_to_list}
 use Rattle.std.specs.List.{AllByRecursion}
 use Rattle.std.specs.List.Sorted.{IsPermutation}
+use Rattle.std.proofs.lemmas.Bool.{true≢false}
 use Rattle.std.proofs.lemmas.List.Elements.{All-from_recursion, recursion_from_All}
 use Rattle.std.proofs.lemmas.List.Sorted.{All-permutation}
 use Rattle.check_flight.specs.Side.{bus_at}
@@ -13,8 +14,11 @@ use Rattle.check_watch.specs.declared.links.Links.TheVariants.{Both, Masters, Po
 use Rattle.check_sides.specs.Plan.{Layout, IsPlan, HasLink, IsWatched, bus_of}
 use Rattle.check_rows.specs.Buses.{bus_of_link as row_bus}
 use Rattle.check_rows.specs.Row.{SeenRow}
-use Rattle.check_review.specs.Verdict.{SystemPlan, IsLawfulFile, IsFirstUnlawful, VerdictCounts}
+use Rattle.check_review.specs.Verdict.{SystemPlan, IsBreach, IsLateAfter, IsLawfulFile, IsFirstUnlawful, IsUnlawfulAfter, VerdictCounts}
 use Rattle.check_review.specs.Stretches.{IsLawfulStretch, Stretch, sightings_in, stretches}
+use Rattle.check_turns.specs.Lawful.{IsLawfulInOrder}
+use Rattle.check_turns.specs.Turns.{AreInTurn}
+use Rattle.check_review.proofs.Watched.{lawful_rest}
 use Rattle.check_review.specs.Order.{are_masters_watched, are_ports_watched, is_watched, sightings_of}
 use Rattle.check_rows.specs.declared.request.Left.{Left}
 use Rattle.check_review.specs.declared.stop.Unlawful.{Unlawful}
@@ -23,11 +27,11 @@ use Rattle.check_text.specs.Buses.{HasBuses, LinkBuses}
 use Rattle.check_text.specs.Capture.{IsVerdict}
 use Rattle.check_text.specs.Rows.{HasRows, SpellAll}
 use Rattle.check_text.specs.declared.fault.Verdict.TheVariants.{Incomplete, Lawful, Unlawful as Not}
-use Rattle.check_text_laws.specs.Groups.{AreAllWatched}
+use Rattle.check_text_laws.specs.Groups.{AreAllCompliant, AreAllWatched, EachGroupKeepsRules}
 use Rattle.check_text_laws.proofs.Across.{Fits, each_fits, ended_lawful}
 use Rattle.check_text_laws.proofs.GroupRules.{always_keeps, rules_make_lawful, all_compliant}
 use Rattle.check_text_laws.proofs.Lanes.{lanes_of_judged_are}
-use Rattle.check_text_laws.specs.Rules.{FileKeepsRules, BreaksRules, CaptureKeepsRules, CaptureBreaksRules, CaptureLeaves, HaveLanes, StretchKeepsRules}
+use Rattle.check_text_laws.specs.Rules.{FileKeepsRules, BreaksRules, CaptureKeepsRules, CaptureBreaksRules, CaptureLeaves, HaveLanes, IsBroken, IsBrokenBy, StretchKeepsRules}
 
 less : (m n : ℕ) → nat_lt m n ≡ true → m < n
 less m n is = ltb→lt m n (subst (λ b. T b) (sym is) tt)
@@ -114,6 +118,7 @@ file_keeps plan file is have lawful =
       each = each_keeps plan.begins.layout (stretches course)
           (each_fits plan lawful.crossed course.now course.ended is lanes course.are)
           (lawful.lawful, ended_lawful plan lawful.crossed course.now course.ended course.are);
+      in_time = lawful.in_time;
     }
 
 pub rules_make_lawful_file : (plan : SystemPlan) (file : List SeenRow) → IsPlan plan.begins
@@ -131,6 +136,7 @@ rules_make_lawful_file plan file is have rules =
             (stretch_watched plan.begins.layout course.now fit.0) rules.each.0.whole rules.each.0.keeps;
         turns = rules.each.0.turns;
       };
+      in_time = rules.in_time;
     }
 
 -- what stands after some of a list
@@ -138,39 +144,96 @@ rest_have : (layout : Layout) (after before : List SeenRow) → HaveLanes layout
 rest_have layout [] before have = have
 rest_have layout (row ∷ after) before have = rest_have layout after before have.1
 
--- the first row that makes a file unlawful is the first after which the rules are not kept
+-- the rows before one that breaks the rules are lawful
+lawful_so : (within : Option ℕ) (stretch : Stretch) (row : SeenRow) (found : Unlawful)
+    → IsUnlawfulAfter stretch row found ⊎ IsLateAfter within stretch row found → IsLawfulStretch stretch
+lawful_so within stretch row found (inl is) = is.lawful
+lawful_so within stretch row found (inr is) = lawful_rest stretch.plan (row ∷ []) stretch.rows is.lawful
+
+-- how a row after a stretch breaks the rules
+module _ (plan : SystemPlan) (stretch : Stretch) (row : SeenRow) (found : Unlawful) (fit : Fits plan.begins.layout stretch)
+    (have : bus_of plan.begins.layout row.sighting.link ≤ length row.sighting.lanes) where
+  -- the beat is lawful if the rules are kept
+  beat_lawful : IsTrue (is_watched stretch.plan.layout row.sighting.link)
+      → AreAllCompliant stretch.plan (row.sighting ∷ sightings_in stretch)
+      → EachGroupKeepsRules stretch.plan (row.sighting ∷ sightings_in stretch)
+      → AreInTurn stretch.plan (row.sighting ∷ sightings_in stretch)
+      → IsLawfulInOrder stretch.plan (row.sighting ∷ sightings_in stretch)
+  beat_lawful watched whole keeps turns =
+      let link = watched_link stretch.plan.layout row.sighting.link watched in
+      record {
+        beats = rules_make_lawful stretch.plan (row.sighting ∷ sightings_in stretch) fit.plan_is (
+          record {
+            link = link.0;
+            watched = link.1;
+            lanes = subst (λ l. bus_of l row.sighting.link ≤ length row.sighting.lanes) (sym fit.layout_is) have;
+          },
+          stretch_watched plan.begins.layout stretch fit,
+        ) whole keeps;
+        turns = turns;
+      }
+
+  broken_by : IsUnlawfulAfter stretch row found ⊎ IsLateAfter plan.within stretch row found
+      → IsBrokenBy plan.within stretch row found.row
+  broken_by (inl is) = record {
+    is = is.named;
+    broken = λ whole keeps turns times. is.unlawful (beat_lawful is.watched whole keeps turns);
+  }
+  broken_by (inr is) = record {
+    is = is.named;
+    broken = λ whole keeps turns times. true≢false (sym is.late ∙ times is.limit is.asked);
+  }
+
+-- how what makes a file unlawful breaks the rules
+broken_so : (plan : SystemPlan) (now : Stretch) (before : List SeenRow) (time : ℕ) (found : Unlawful)
+    → Fits plan.begins.layout now → (next : Option SeenRow)
+    → HaveLanes plan.begins.layout (option_to_list next ++ before) → IsBreach plan.within time now next found
+    → IsBroken plan.within time now next found.row × IsLawfulStretch now
+broken_so plan now before time found fit None lanes breach = (
+  record {
+    row = breach.row;
+    before = breach.before;
+    are = breach.are;
+    now = breach.now;
+    limit = breach.limit;
+    asked = breach.asked;
+    first = breach.first;
+    late = breach.late;
+    is = breach.named;
+  },
+  breach.lawful,
+)
+broken_so plan now before time found fit (Some row) lanes breach = (
+  (breach.0, broken_by plan now row found fit (lanes.0 breach.1) breach.2),
+  lawful_so plan.within now row found breach.2,
+)
+
+-- what makes a file unlawful breaks the rules, and nothing before it does
 pub unlawful_breaks : (plan : SystemPlan) (file : List SeenRow) (found : Unlawful) → IsPlan plan.begins
     → HaveLanes plan.begins.layout file → IsFirstUnlawful plan file found → BreaksRules plan file found.row
 unlawful_breaks plan file found is have first =
-    let row = first.row in
     let course = first.course in
     let now = course.now in
-    let here : HaveLanes plan.begins.layout (row ∷ first.before) = rest_have plan.begins.layout first.after
-    (row ∷ first.before)
-    (have_crossed plan.begins.layout file (first.after ++ row ∷ first.before) have first.crossing.same) in
-    let fit = each_fits plan first.before now course.ended is here.1 course.are in
-    let link = watched_link now.plan.layout row.sighting.link first.is.watched in
+    let there : HaveLanes plan.begins.layout (option_to_list first.next ++ first.before) =
+    rest_have plan.begins.layout first.after (option_to_list first.next ++ first.before)
+    (have_crossed plan.begins.layout file (first.after ++ (option_to_list first.next ++ first.before)) have
+    first.crossing.same) in
+    let here : HaveLanes plan.begins.layout first.before =
+    rest_have plan.begins.layout (option_to_list first.next) first.before there in
+    let fit = each_fits plan first.before now course.ended is here course.are in
+    let both = broken_so plan now first.before first.time found fit.0 first.next there first.is in
     record {
-      row = row;
-      is = first.is.named;
+      next = first.next;
+      time = first.time;
       after = first.after;
       before = first.before;
       crossing = first.crossing;
       course = course;
       each = each_keeps plan.begins.layout (stretches course) fit
-          (first.is.lawful, ended_lawful plan first.before now course.ended course.are);
-      broken = λ whole keeps turns. first.is.unlawful (record {
-        beats = rules_make_lawful now.plan (row.sighting ∷ sightings_in now) fit.0.plan_is (
-          record {
-            link = link.0;
-            watched = link.1;
-            lanes = subst (λ l. bus_of l row.sighting.link ≤ length row.sighting.lanes) (sym fit.0.layout_is)
-                (here.0 first.beat);
-          },
-          stretch_watched plan.begins.layout now fit.0,
-        ) whole keeps;
-        turns = turns;
-      });
+          (both.1, ended_lawful plan first.before now course.ended course.are);
+      in_time = first.in_time;
+      broken = both.0;
+      last = first.last;
     }
 
 -- ---- the rows of a text have the lanes that its system's buses give them

@@ -69,7 +69,11 @@ fn terms_of(links: u8, masters: u8, ports: u8) -> Option<Terms>
     let masters = order_of(masters)?;
     let ports = order_of(ports)?;
     let orders = SideOrders { masters, ports };
-    Some(Terms { links, orders })
+    Some(Terms {
+        links,
+        orders,
+        within: None,
+    })
 }
 
 /// The judge of a draft of which no image lacks, before any beat; or the first fault of its parts.

@@ -79,7 +79,8 @@ returns c =
         made = c.in_ok-system.ensures.made;
         judges = record {
           some = begun.keeps.some;
-          each = λ plan is. judge.judges plan (begun.keeps.each plan is) (begun.loads.each plan is) (covered.none_yet c.args.asked.terms images plan is);
+          each = λ plan is. judge.judges plan (begun.keeps.each plan is) (begun.loads.each plan is) (covered.none_yet c.args.asked.terms images plan is)
+              (sym is.within);
         };
         trace = judge.trace;
         complete = judge.asked;

@@ -6,7 +6,7 @@ use Rattle.check_review.specs.View.{HasTold, JudgeView, Judges, is_asked, is_tra
 use Rattle.check_review.specs.Verdict.{HasCounts, HasLeft, IsFirstUnlawful, IsLawfulFile, IsToldBefore, IsToldFile, IsWhatIsLeft, MayWantMemory, OfUnlawful}
 use Rattle.check_review.specs.declared.stop.Refusal.TheVariants as refusals
 use Rattle.check_review.proofs.Covering.{covered_before, covered_file}
-use Rattle.check_review.proofs.Judging.{first_unlawful, may_want, refused_is_not_lawful, told_before, told_file}
+use Rattle.check_review.proofs.Judging.{first_unlawful, may_want, refused_is_not_lawful, still_in_time, told_before, told_file}
 use Rattle.check_review.proofs.Keeping.{of_unlawful}
 use Rattle.check_review.proofs.judge.Judge.end.Goals as goal
 
@@ -33,12 +33,13 @@ returns-clause-lawful c plan file =
       crossing = judges.crossing;
       course = on.next;
       lawful = on.kept.tallied.keeps.lawful;
+      in_time = still_in_time plan file _ judges c.len-rows.ensures.moment c.in_default.ensures.in_time on.next;
     })
 
 pub returns-in-Err-clause-fault_told : goal.returns-in-Err-clause-fault_told
 returns-in-Err-clause-fault_told c plan file so_far =
     let now = c.args.text.now.items in
-    let next = c.judge_rows.new.text.items in
+    let next = c.judge_moment.new.text.items in
     subst (λ (judge : JudgeView). HasTold plan file judge so_far → OfUnlawful (λ found. (more : List ℕ)
     × (next ≡ now ++ more) × IsToldBefore (is_traced judge) plan file (so_far ++ more) found) c.in-Err.refusal)
     c.self.view_is
@@ -55,10 +56,11 @@ returns-in-Err-clause-memory c plan file =
 pub returns-clause-told : goal.returns-clause-told
 returns-clause-told c plan file so_far =
     let now = c.args.text.now.items in
-    let next = c.judge_rows.new.text.items in
+    let next = c.judge_moment.new.text.items in
     subst (λ (judge : JudgeView). HasTold plan file judge so_far → (more : List ℕ) × (next ≡ now ++ more)
     × IsToldFile (is_traced judge) plan file (so_far ++ more)) c.self.view_is
-    (λ has. told_file plan file _ c.judge_rows.new.self so_far now next has
+    (λ has. told_file plan file _ c.judge_moment.new.self so_far now next has c.len-rows.ensures.moment
+    c.in_default.ensures.in_time
     (c.in_default.ensures.keeps plan has.judges.before has.judges.course has.judges.kept))
 
 pub returns-clause-left : goal.returns-clause-left
@@ -79,8 +81,8 @@ pub returns-clause-counts : goal.returns-clause-counts
 returns-clause-counts c plan file =
     subst (λ (judge : JudgeView). Judges plan file judge → HasCounts plan file (record {
       rows = c.self.inside.rows;
-      requests = c.judge_rows.new.self.requests;
-      answered = c.judge_rows.new.self.answered;
+      requests = c.judge_moment.new.self.requests;
+      answered = c.judge_moment.new.self.answered;
     })) c.self.view_is
     (λ judges.
     let on = c.in_default.ensures.keeps plan judges.before judges.course judges.kept in
@@ -95,7 +97,7 @@ returns-clause-counts c plan file =
 
 pub returns-in-Err-clause-fault_covers : goal.returns-in-Err-clause-fault_covers
 returns-in-Err-clause-fault_covers c plan file =
-    let tally = c.judge_rows.new.self in
+    let tally = c.judge_moment.new.self in
     subst (λ (judge : JudgeView). Judges plan file judge → OfUnlawful (IsCoveredBefore plan file tally) c.in-Err.refusal)
     c.self.view_is
     (λ judges. of_unlawful _ _ c.in-Err.refusal (λ found stops. covered_before plan file _ tally found judges stops)
@@ -103,7 +105,7 @@ returns-in-Err-clause-fault_covers c plan file =
 
 pub returns-clause-covers : goal.returns-clause-covers
 returns-clause-covers c plan file =
-    let tally = c.judge_rows.new.self in
+    let tally = c.judge_moment.new.self in
     subst (λ (judge : JudgeView). Judges plan file judge → IsCoveredFile plan file tally) c.self.view_is
-    (λ judges. covered_file plan file _ tally _ _ _ judges
+    (λ judges. covered_file plan file _ tally _ _ _ judges c.len-rows.ensures.moment c.in_default.ensures.in_time
     (c.in_default.ensures.keeps plan judges.before judges.course judges.kept))

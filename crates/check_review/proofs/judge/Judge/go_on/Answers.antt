@@ -13,8 +13,8 @@ pub returns-in-Err-clause-row : goal.returns-in-Err-clause-row
 returns-in-Err-clause-row c =
     let row = seen_row c.args.row.now c.args.lanes.now in
     let now = c.args.text.now.items in
-    let next = c.judge_rows.new.text.items in
-    let tally = c.judge_rows.new.self in
+    let next = c.judge_moment.new.text.items in
+    let tally = c.judge_moment.new.self in
     let new : JudgeView = record { tally = tally; moment = c.self.inside.moment; rows = c.self.inside.rows } in
     subst (λ (judge : JudgeView). judge.moment.time < row.time → TakesRow row judge new now next (Err c.stop_of.result))
     c.self.view_is
@@ -42,8 +42,8 @@ returns-clause-row c =
     let row = seen_row c.args.row.now c.args.lanes.now in
     let new = c.begin_moment.new.self in
     let now = c.args.text.now.items in
-    let next = c.judge_rows.new.text.items in
-    let tally : new.tally ≡ c.judge_rows.new.self = ap (λ (judge : JudgeView). judge.tally) c.begin_moment.ensures in
+    let next = c.judge_moment.new.text.items in
+    let tally : new.tally ≡ c.judge_moment.new.self = ap (λ (judge : JudgeView). judge.tally) c.begin_moment.ensures in
     subst (λ (judge : JudgeView). judge.moment.time < row.time → TakesRow row judge new now next (Ok tt)) c.self.view_is
     (λ later. record {
       keeps = λ plan file judges.
@@ -55,16 +55,16 @@ returns-clause-row c =
             moment = ap (λ (judge : JudgeView). judge.moment) c.begin_moment.ensures;
             rows = ap (λ (judge : JudgeView). judge.rows) c.begin_moment.ensures;
           })
-          on.next
+          c.in_default.ensures.in_time on.next
           (subst (KeptIn plan (reverse c.self.inside.moment.rows ++ judges.before) on.next) (sym tally) on.kept);
-      told = λ plan file so_far has. told_later plan file row _ new c.judge_rows.new.self so_far now next has
+      told = λ plan file so_far has. told_later plan file row _ new c.judge_moment.new.self so_far now next has
           (record {
             was = c.len-rows.ensures.moment;
             later = later;
             moment = ap (λ (judge : JudgeView). judge.moment) c.begin_moment.ensures;
             rows = ap (λ (judge : JudgeView). judge.rows) c.begin_moment.ensures;
           })
-          tally (ap (λ (t : Tally). t.trace) tally ∙ c.in_default.ensures.same.trace)
+          c.in_default.ensures.in_time tally (ap (λ (t : Tally). t.trace) tally ∙ c.in_default.ensures.same.trace)
           (c.in_default.ensures.keeps plan has.judges.before has.judges.course has.judges.kept);
       stop = λ plan file judges. tt;
       stop_told = λ plan file so_far has. tt;

@@ -21,6 +21,7 @@ returns-clause-told c plan file so_far text has = λ _.
       moment = ap (λ (judge : JudgeView). judge.moment) c.begin_moment.ensures;
       rows = ap (λ (judge : JudgeView). judge.rows) c.begin_moment.ensures;
     })
+    (c.in_ok-pass_rows.ensures.in_time passed)
     (ap (λ (judge : JudgeView). judge.tally) c.begin_moment.ensures)
     (ap (λ (judge : JudgeView). judge.tally.trace) c.begin_moment.ensures ∙ c.in_ok-pass_rows.ensures.same.trace)
     (c.in_ok-pass_rows.ensures.keeps plan has.judges.before has.judges.course text has.judges.kept passed))

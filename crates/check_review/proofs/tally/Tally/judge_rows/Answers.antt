@@ -1,5 +1,5 @@
 -- One row more, and the first that is not lawful.
-use Rattle.std.proofs.Common.{◌≡◌, ◌<◌, ◌++◌, ◌∷◌, All, List, refl, length, reverse, take, sym, subst, arith}
+use Rattle.std.proofs.Common.{◌≡◌, ◌<◌, ◌++◌, ◌∷◌, inl, All, List, refl, length, reverse, take, sym, subst, arith}
 use Rattle.std.proofs.lemmas.List.{take_all}
 use Rattle.check_sides.specs.Plan.{Layout}
 use Rattle.check_rows.specs.Row.{SeenRow, row_with}
@@ -7,7 +7,7 @@ use Rattle.check_review.specs.Stretches.{stretches}
 use Rattle.check_review.specs.Verdict.{MayWantAfter}
 use Rattle.check_review.specs.View.{HasLanes, KeepsOn, KeptIn, wants}
 use Rattle.check_review.specs.declared.tally.Tally.{Tally}
-use Rattle.check_review.proofs.Keeping.{keeps_then, lanes_at, one_more, row_at, same_then, stops_there, wants_there}
+use Rattle.check_review.proofs.Keeping.{keeps_then, lanes_at, of_unlawful, one_more, row_at, same_then, stops_there, wants_there}
 use Rattle.check_review.proofs.Covering.{covers_there, wants_same}
 use Rattle.check_review.proofs.Stretching.{grows_nothing}
 use Rattle.check_review.proofs.tally.Tally.judge_rows.Goals as goal
@@ -22,7 +22,8 @@ returns-in-Err-clause-memory c system before course kept = λ is.
     let so_far = c.loop-place.invariant.keeps system before course kept in
     wants_there (wants c.args.self.now) system rows before i row inside here so_far.next
     (subst (λ t. MayWantAfter t so_far.next.now row)
-    (wants_same c.args.self.now c.loop-place.self c.loop-place.invariant.same.trace c.loop-place.invariant.same.covered)
+    (wants_same c.args.self.now c.loop-place.self c.loop-place.invariant.same.trace c.loop-place.invariant.same.covered
+    c.loop-place.invariant.same.timed)
     (c.in-Err.ensures.memory system (reverse (take i rows) ++ before) so_far.next so_far.kept))
 
 pub returns-in-Err-judge_row-clause-fault : goal.returns-in-Err-judge_row-clause-fault
@@ -37,7 +38,8 @@ returns-in-Err-judge_row-clause-fault c system before course kept =
     let still = subst (KeptIn system (reverse (take i rows) ++ before) so_far.next) (sym same) so_far.kept in
     stops_there c.args.self.now.trace system rows before i row course so_far.next c.args.text.now.items
     c.loop-place.text.items c.judge_row.new.text.items c.in-Err-judge_row.refusal inside here c.in-Err-judge_row.ensures.beat
-    (c.in-Err-judge_row.ensures.fault system (reverse (take i rows) ++ before) so_far.next still)
+    (of_unlawful _ _ c.in-Err-judge_row.refusal (λ found is. inl is)
+    (c.in-Err-judge_row.ensures.fault system (reverse (take i rows) ++ before) so_far.next still))
     c.in-Err-judge_row.ensures.quiet so_far.told
 
 pub returns-in-Err-judge_row-clause-memory : goal.returns-in-Err-judge_row-clause-memory
@@ -52,7 +54,8 @@ returns-in-Err-judge_row-clause-memory c system before course kept = λ is.
     let still = subst (KeptIn system (reverse (take i rows) ++ before) so_far.next) (sym same) so_far.kept in
     wants_there (wants c.args.self.now) system rows before i row inside here so_far.next
     (subst (λ t. MayWantAfter t so_far.next.now row)
-    (wants_same c.args.self.now c.loop-place.self c.loop-place.invariant.same.trace c.loop-place.invariant.same.covered)
+    (wants_same c.args.self.now c.loop-place.self c.loop-place.invariant.same.trace c.loop-place.invariant.same.covered
+    c.loop-place.invariant.same.timed)
     (subst (λ (s : Tally). MayWantAfter (wants s) so_far.next.now row) same
     (c.in-Err-judge_row.ensures.memory system (reverse (take i rows) ++ before) so_far.next still is)))
 
@@ -68,12 +71,13 @@ returns-in-Err-judge_row-clause-fault_covered c system before course kept =
     let still = subst (KeptIn system (reverse (take i rows) ++ before) so_far.next) (sym same) so_far.kept in
     covers_there system rows before i row so_far.next c.pass.new.self c.judge_row.new.self c.in-Err-judge_row.refusal inside here
     c.in-Err-judge_row.ensures.beat
-    (c.in-Err-judge_row.ensures.fault system (reverse (take i rows) ++ before) so_far.next still) still
+    (of_unlawful _ _ c.in-Err-judge_row.refusal (λ found is. inl is)
+    (c.in-Err-judge_row.ensures.fault system (reverse (take i rows) ++ before) so_far.next still)) still
     c.in-Err-judge_row.ensures.same.layout c.in-Err-judge_row.ensures.uncovered
 
 pub loop-place-init : goal.loop-place-init
 loop-place-init c = record {
-  same = record { layout = refl; loads = refl; trace = refl; asked = refl; covered = refl };
+  same = record { layout = refl; loads = refl; trace = refl; asked = refl; covered = refl; timed = refl };
   keeps = λ system before course kept. record {
     next = course;
     kept = kept;

@@ -1,10 +1,12 @@
 -- What is kept after a row that is taken quietly, and of its request.
-use Rattle.std.proofs.Common.{◌≡◌, ◌∙◌, ◌∷◌, false, not, ap, sym, subst}
+use Rattle.std.proofs.Common.{◌≡◌, ◌∙◌, ◌∷◌, true, false, IfSome, Option, is_some, ap, sym, subst}
 use Rattle.check_rows.specs.Row.{row_with}
 use Rattle.check_sides.specs.Plan.{HasLink, IsWatched, Layout}
+use Rattle.check_unanswered.specs.View.{Holds, PendingView}
+use Rattle.check_review.specs.declared.tally.Tally.{Tally}
 use Rattle.check_review.specs.Order.{is_watched, sightings_of, watched}
 use Rattle.check_review.proofs.Keeping.{on_true}
-use Rattle.check_review.proofs.Leaving.{kept_noted, kept_unasked, kept_unwatched}
+use Rattle.check_review.proofs.Leaving.{kept_noted, kept_unasked, kept_unwatched, none_kept, still_waits, tallied_waiting}
 use Rattle.check_review.proofs.Watched.{watched_is, watches_by}
 use Rattle.check_review.proofs.tally.Tally.pass_row.Goals as goal
 
@@ -12,15 +14,25 @@ pub returns-clause-keeps : goal.returns-clause-keeps
 returns-clause-keeps c earlier plan before kept = λ _.
     let row = row_with c.args.row.now c.args.lanes.now in
     let P : Layout → Type 0 = λ l. HasLink l row.sighting.link × IsWatched l.links row.sighting.link in
-    kept_noted earlier plan before row c.args.self.now c.take_row-2.new.self c.note.new.self c.change-change.result kept (record {
-      here = (watched_is plan.layout row.sighting.link).1
-          (subst P kept.tallied.keeps.suits.layout (c.watches.ensures.0 c.if-not-watches.false));
+    let here : is_watched plan.layout row.sighting.link ≡ true =
+    (watched_is plan.layout row.sighting.link).1
+    (subst P kept.tallied.keeps.suits.layout (c.watches.ensures.0 c.if-not-watches.false)) in
+    kept_noted earlier plan before row c.args.self.now c.take_row-2.new.self c.wait.new.self c.change-change.result kept (record {
+      here = here;
       tallied = c.in_ok-take_row.ensures.keeps earlier plan before kept.tallied c.if-not-branch.false;
       same = c.in_ok-take_row.ensures.pending;
       asked = c.change-change.ensures.asked;
       change = c.change-change.ensures.change plan (sightings_of plan.layout before) c.args.lanes.now kept.tallied.keeps;
-      noted = c.note.ensures.tallied earlier plan (row ∷ before);
-      holds = c.note.ensures.holds plan (watched plan.layout before) c.args.lanes.now;
+      noted = λ tallied. tallied_waiting earlier plan (row ∷ before) c.note.new.self c.wait.new.self c.in_ok-wait.ensures.rest
+          (c.note.ensures.tallied earlier plan (row ∷ before) tallied);
+      holds = λ holds same changed. subst (λ (p : Option PendingView). IfSome p (Holds plan (row ∷ watched plan.layout before)))
+          (sym (ap (λ (t : Tally). t.pending) c.in_ok-wait.ensures.rest))
+          (c.note.ensures.holds plan (watched plan.layout before) c.args.lanes.now holds same changed);
+      waits = still_waits earlier plan before row c.args.self.now c.note.new.self c.wait.new.self kept here
+          (c.note.ensures.tallied earlier plan (row ∷ before) (c.in_ok-take_row.ensures.keeps earlier plan before kept.tallied
+          c.if-not-branch.false))
+          (c.note.ensures.waits ∙ c.in_ok-take_row.ensures.waits)
+          (c.in_ok-wait.ensures.waits earlier.system.within plan (watched plan.layout before) c.args.lanes.now);
     })
 
 pub returns-then-not-watches-clause-keeps : goal.returns-then-not-watches-clause-keeps
@@ -32,10 +44,12 @@ returns-then-not-watches-clause-keeps c earlier plan before kept = λ _.
     (sym (watches_by tally.watch.layout row.sighting.link c.watches.result c.watches.ensures) ∙ c.if-not-watches.true) in
     kept_unwatched earlier plan before row tally other kept
 
-pub returns-then-is_none-clause-keeps : goal.returns-then-is_none-clause-keeps
-returns-then-is_none-clause-keeps c earlier plan before kept =
+pub returns-then-keeps_no_requests-clause-keeps : goal.returns-then-keeps_no_requests-clause-keeps
+returns-then-keeps_no_requests-clause-keeps c earlier plan before kept =
     let row = row_with c.args.row.now c.args.lanes.now in
+    let none = none_kept (is_some c.args.self.now.pending) (is_some c.args.self.now.waits)
+    (sym c.keeps_no_requests.ensures ∙ c.if-keeps_no_requests.true) in
     on_true c.take_row.result _ _
-    (kept_unasked earlier plan before row c.args.self.now c.take_row.new.self (c.is_none.ensures ∙ ap not c.if-is_none.true)
-    c.take_row.ensures.pending)
+    (kept_unasked earlier plan before row c.args.self.now c.take_row.new.self kept none.0 c.take_row.ensures.pending none.1
+    c.take_row.ensures.waits)
     (c.take_row.ensures.keeps earlier plan before kept.tallied)
