@@ -54,9 +54,11 @@ no_file file number only = λ more. dite (ℕ_discrete number 0) (λ none. absur
     (λ some. let four = only some in absurd (omega (arith, more, four)))
 
 pub by_terms : (links masters ports : ℕ) (terms : Terms) (Is : Terms → Type 0) → links_of links ≡ Some terms.links
-    → order_of masters ≡ Some terms.orders.masters → order_of ports ≡ Some terms.orders.ports → Is terms
+    → order_of masters ≡ Some terms.orders.masters → order_of ports ≡ Some terms.orders.ports → terms.within ≡ None
+    → Is terms
     → ByTerms links masters ports Is
-by_terms links masters ports terms Is l m p is = rw (l, m, p) is
+by_terms links masters ports terms Is l m p none is =
+    rw (l, m, p) (subst (λ w. Is (record { links = terms.links; orders = terms.orders; within = w })) none is)
 
 -- a fault of the parts is one of the draft, if no image lacks
 pub parts_fault : (draft : DraftView) (fault : SystemFault) → LacksNone draft → IsFirstFaultOf draft.parts fault

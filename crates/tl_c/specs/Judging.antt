@@ -179,8 +179,8 @@ order_of n =
 abbrev pub AreTerms : ℕ → ℕ → ℕ → Type 0
 AreTerms links masters ports = IsSome (links_of links) × IsSome (order_of masters) × IsSome (order_of ports)
 
--- something holds by the terms that they mean
+-- something holds by the terms that they mean, without a limit of time
 abbrev pub ByTerms : ℕ → ℕ → ℕ → (Terms → Type 0) → Type 0
 ByTerms links masters ports Is =
     IsSomeAnd (links_of links) (λ l. IsSomeAnd (order_of masters) (λ m. IsSomeAnd (order_of ports) (λ p.
-    Is (record { links = l; orders = record { masters = m; ports = p } }))))
+    Is (record { links = l; orders = record { masters = m; ports = p }; within = None }))))

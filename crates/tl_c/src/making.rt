@@ -58,11 +58,12 @@ fn order_of(number: u8) -> Option<Order>
     }
 }
 
-/// The terms of three numbers.
+/// The terms of three numbers. A judge by calls has no limit of time.
 fn terms_of(links: u8, masters: u8, ports: u8) -> Option<Terms>
     ensures links { IfSome result (λ terms. links_of links ≡ Some terms.links) }
     ensures masters { IfSome result (λ terms. order_of masters ≡ Some terms.orders.masters) }
     ensures ports { IfSome result (λ terms. order_of ports ≡ Some terms.orders.ports) }
+    ensures within { IfSome result (λ terms. terms.within ≡ None) }
     ensures none { IfNone result (AreTerms links masters ports → ⊥) }
 {
     let links = links_of(links)?;

@@ -12,7 +12,7 @@ returns-in-Ok-clause-ok c ok =
     let file = c.args.file.now in
     by_terms c.args.links c.args.masters c.args.ports c.in-Some.terms
     (λ (t : Terms). HoldsJudge (IsJudgeOfFile t file) c.hold.new.handle.value)
-    c.in-Some.ensures.links c.in-Some.ensures.masters c.in-Some.ensures.ports
+    c.in-Some.ensures.links c.in-Some.ensures.masters c.in-Some.ensures.ports c.in-Some.ensures.within
     (subst (λ (v : Option HandleContent). HoldsJudge (IsJudgeOfFile c.in-Some.terms file) v) (sym (c.hold.ensures.ok ok))
     c.in-Ok.ensures.ok)
 
