@@ -32,6 +32,11 @@ CAUSES = {
                     "a read that passes a write or an atomic to the same bytes", "the moment when requests take effect: --order reply, --order any"],
     "the port gave no such reply": ["the way of the reply through the crossbar: its multiplexer and its register stages",
                                     "an adapter on the way: the source that it gives back, and how it puts beats together"],
+    "late reply": ["an arbiter on the way that lets others go first", "a slave, or a queue before it, that is slower than the limit",
+                   "`--within N`: N counts units of the capture's time, and not clocks"],
+    "no reply in time": ["a request or a reply that was lost on the way, or a slave that does not answer this one",
+                         "a deadlock: each of several waits until another one goes on",
+                         "`--within N`: N counts units of the capture's time, and not clocks"],
 }
 # Before these, of a request at a port whose source would be right with another shift.
 SHIFTED = ["how far the socket at the port shifts sources: `hosts` or `sources` of the port, `stride` of the master"]

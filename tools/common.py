@@ -23,6 +23,8 @@ BUS = 8
 ORDERS = ("accept", "reply", "any")
 # The words of `--order`: one for both sides, or that of the masters' side and that of the ports'.
 ORDER_WORDS = (*ORDERS, *(f"{masters}/{ports}" for masters in ORDERS for ports in ORDERS))
+# The greatest number that `--within` takes.
+LONGEST_WAIT = (1 << 63) - 1
 # The keys of a port's `order`, by the side.
 SIDE_KEYS = {"m": "masters", "p": "ports"}
 # The keys of a script: of the document, of a port and of a master.

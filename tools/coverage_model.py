@@ -37,8 +37,8 @@ def access_of(name):
 class CoveringJudge(Judge):
     """A judge that counts what it has seen, at the links whose messages it counts."""
 
-    def __init__(self, system, images, links, order):
-        super().__init__(system, images, links, order)
+    def __init__(self, system, images, links, order, within=None):
+        super().__init__(system, images, links, order, within)
         self.counts, self.ended, self.begun_so_far, self.latest = collections.Counter(), {}, 0, {}
 
     def flights(self):
@@ -150,8 +150,8 @@ class CoveringJudge(Judge):
         super().step(row)
 
 
-def covered(system, images, capture, links="both", order="accept"):
+def covered(system, images, capture, links="both", order="accept", within=None):
     """The text of a capture's coverage, up to its first unlawful beat; None if it is no capture."""
-    judge = CoveringJudge(system, images, links, order)
+    judge = CoveringJudge(system, images, links, order, within)
     _, status = verdict_of(judge, capture.replace("\r\n", "\n").split("\n"), lambda rows: ("lawful", 0))
     return None if status == 1 else text_of(judge.counts, len(judge.ports))

@@ -8,6 +8,8 @@ The second system has ports that list masters. At `ram` the sources of dma are e
 The third system has a port that is judged by itself, `far`, and one that is compared, `ram`, to which dma has no path.
 
 The fourth system has links whose replies come in order, core's and `ram`'s.
+
+Replies that are late, and requests that wait for too long, are of the first system, with resets, and of the third.
 """
 
 from causes import ADAPTED
@@ -454,4 +456,97 @@ QUEUED_CASES = (
     (["--links", "masters"], REFUSED_LATE, (
         "the next reply has to answer: core, source 1: get 0x7000 of 1 byte, line 2, time 10; not answered yet",
         "that request goes to the error port", "`fifo` of this link in the system file, if replies may overtake there")),
+)
+
+RESETTING = f"resets = true\n{SYSTEM}"
+# ram answers after 1, and the reply crosses at core's link after 5 more.
+LATE_BACK = """10,m0,A,4,0,0,0,1000,01,,,
+11,p0,A,4,0,0,0,1000,01,,,
+12,p0,D,1,,0,0,,,0000000000000000,0,0
+17,m0,D,1,,0,0,,,0000000000000000,0,0
+"""
+# ram answers after 6.
+SLOW_PORT = """10,p0,A,4,0,0,2,1000,01,,,
+16,p0,D,1,,0,2,,,0000000000000000,0,0
+"""
+LATE_NOWHERE = """10,m0,A,4,0,0,0,5000,01,,,
+16,m0,D,1,,0,0,,,0000000000000000,1,1
+"""
+# The request of dma is let in before that of core, which is older. The reply of ram is the first row behind the limit. What follows is not looked at.
+KEPT_OUT = """10,m0,A,4,0,0,0,1000,01,,,
+11,m1,A,4,0,0,1,1000,01,,,
+12,p0,A,4,0,0,3,1000,01,,,
+16,p0,D,1,,0,3,,,0000000000000000,0,0
+17,m1,D,1,,0,1,,,0000000000000000,0,0
+18,m0,A,4,0,0,1,1001,02,,,
+"""
+# slow answers after 1, and another request of core is under way when the limit has passed.
+ON_ITS_WAY = f"""10,m0,A,4,0,3,0,2000,ff,,,
+11,p1,A,4,0,3,0,2000,f,,,
+12,p1,D,1,,3,0,,,33221100,0,0
+13,p1,D,1,,3,0,,,77665544,0,0
+16,m0,A,0,0,4,1,1000,ff,{LOW},,
+17,m0,D,1,,3,0,,,7766554433221100,0,0
+"""
+# The port's link has the first beat of a put before the master's link has its one beat, and does not answer.
+BEFORE_ITS_MASTER = f"""10,p1,A,0,0,3,0,2000,f,a3a2a1a0,,
+12,m0,A,0,0,3,0,2000,ff,{LOW},,
+13,p1,A,0,0,3,0,2000,f,a7a6a5a4,,
+20,m1,A,4,0,0,0,1000,01,,,
+"""
+# A reset drops the first request of source 0.
+AFTER_A_RESET = """10,m0,A,4,0,0,0,1000,01,,,
+12,reset,,,,,,,,,,
+13,m0,A,4,0,0,0,1000,01,,,
+19,m1,A,4,0,0,0,1000,01,,,
+"""
+LATE_FAR = """10,m0,A,4,0,0,0,2000,01,,,
+11,p1,A,4,0,0,9,2000,01,,,
+16,m0,D,1,,0,0,,,0000000000000000,0,0
+"""
+TIMED_CASES = (
+    (["--within", "5"], LATE_BACK, (
+        "the request: core, source 0: get 0x1000 of 1 byte, line 2, time 10", "at time 17 it has waited for 7 units of time, 2 more than --within 5",
+        "at the other side: ram, source 0 (source 0 of core): get 0x1000 of 1 byte, line 3, time 11; answered at line 4, time 12",
+        "of 7: 1 before it crossed at ram's link, 1 in ram, 5 on the way back", "whole replies at core's link before: none",
+        f"!between ram and core: {BETWEEN}", "an arbiter on the way that lets others go first")),
+    (["--links", "masters", "--within=6"], LATE_BACK, (
+        "at time 17 it has waited for 7 units of time, 1 more than --within 6", "in ram, which --links masters does not show, or between core and it")),
+    (["--links", "each", "--within", "5"], LATE_BACK, ("in ram, the link of which is judged by itself, or between core and it",)),
+    (["--links", "ports", "--within", "5"], SLOW_PORT, (
+        "the request: ram, source 2 (source 0 of dma): get 0x1000 of 1 byte, line 2, time 10",
+        "at time 16 it has waited for 6 units of time, 1 more than --within 5", "in ram: it has the request since line 2, time 10")),
+    (["--within", "5"], LATE_NOWHERE, ("in the error port, which has no link, or between core and it",)),
+    (["--within", "5"], KEPT_OUT, (
+        "the request: core, source 0: get 0x1000 of 1 byte, line 2, time 10; not answered yet",
+        "at time 16 it has waited for 6 units of time, 1 more than --within 5", "at the other side: it has not crossed at ram's link",
+        "between core and ram: it has not crossed at ram's link", "dma, source 1: get 0x1000 of 1 byte, line 3, time 11; not answered yet",
+        "!core, source 1: get 0x1001 of 1 byte, line 7, time 18; not answered yet", "whole replies at core's link before: none",
+        "a deadlock: each of several waits until another one goes on")),
+    (["--within", "5"], ON_ITS_WAY, (
+        "the request: core, source 0: get 0x2000 of 8 bytes, line 2, time 10; not answered yet",
+        "at time 16 it has waited for 6 units of time, 1 more than --within 5",
+        "of 6: 1 before it crossed at slow's link, 1 in slow, 4 on the way back", "the bus has 8 bytes at core's link and 4 bytes at slow's",
+        "core, source 1: putfull 0x1000 of 16 bytes a0a1a2a3a4a5a6a7, line 6, time 16; under way, 1 beat so far",
+        "!the beat goes on with: core, source 1: putfull 0x1000 of 16 bytes a0a1a2a3a4a5a6a7, line 6, time 16")),
+    (["--within", "5"], BEFORE_ITS_MASTER, (
+        "at time 20 it has waited for 8 units of time, 3 more than --within 5",
+        "of 8: 0 before it crossed at slow's link, 8 in slow, which has not answered it")),
+    (["--links", "ports", "--within", "3"], KEPT_OUT, (
+        "the request: ram, source 3 (source 1 of dma): get 0x1000 of 1 byte, line 4, time 12",
+        "at time 16 it has waited for 4 units of time, 1 more than --within 3", "in ram: it has the request since line 4, time 12")),
+    (["--links", "ports", "--within", "2", "--order=any"], SLOW_PORT + "17,m0,A,4,0,0,0,1000,01,,,\n", (
+        "at time 16 it has waited for 6 units of time, 4 more than --within 2",)),
+    (["--within", "5"], AFTER_A_RESET, (
+        "the request: core, source 0: get 0x1000 of 1 byte, line 4, time 13; not answered yet",
+        "at time 19 it has waited for 6 units of time, 1 more than --within 5", "between core and ram: it has not crossed at ram's link")),
+    # with another order the get is right, and then the put waits for too long
+    (["--within", "2"], PASSED, (
+        "with --order reply: unlawful: line 2, time 10, core A: no reply in time", "with --order any: unlawful: line 2, time 10, core A: no reply in time",
+        "!the order in which requests take effect: with --order reply all is lawful")),
+)
+TIMED_APART_CASES = (
+    (["--within", "5"], LATE_FAR, (
+        "in far, the link of which is judged by itself, or between core and it", "at time 16 it has waited for 6 units of time, 1 more than --within 5")),
+    (["--within", "4"], LATE_FAR, ("in far, the link of which is judged by itself, or between core and it",)),
 )

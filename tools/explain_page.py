@@ -51,7 +51,7 @@ def beats_of(explanation, explainer):
     request = set((explanation.get("request") or {}).get("asked", []))
     seen = {row.line for row, _ in story.recent}
     beats = [beat_of(row, message, "request" if row.line in request else "writer" if row.line in writers else "other", names)
-             for row, message in story.recent]
+             for row, message in story.recent if row is not story.last]
     older = writers - seen
     for message in (message for writes in story.writes.values() for message in writes if older):
         beats += [beat_of(row, message, "writer", names) for row in message.asked if row.line in older]

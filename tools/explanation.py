@@ -35,8 +35,8 @@ def changes(first, row, columns):
 class Explainer:
     """Explains the verdict of a capture."""
 
-    def __init__(self, system, story, view, views):
-        self.system, self.story, self.view, self.views = system, story, view, views
+    def __init__(self, system, story, view, views, within=None):
+        self.system, self.story, self.view, self.views, self.within = system, story, view, views, within
         self.sides = Sides(self)
 
     def whose(self, message):
@@ -202,9 +202,28 @@ class Explainer:
             yield from self.of_changed(under.answered[0], row, ((3, "opcode"), (5, "size"), (6, "source"), (10, "denied")))
         elif fault == "the port gave no such reply":
             yield from self.of_given(row, message)
+        elif fault == "late reply":
+            yield self.of_limit(message)
         if row.link[0] == "m":
             yield from self.sides.of_other(message) if message else ()
             yield from self.sides.of_not_had(row)
+
+    def waiting(self):
+        """The request that the row of the fault begins, if it has waited for too long; or None."""
+        row = self.story.last
+        message = row and self.story.flights.get((row.link, row.number(6)))
+        return message if message and message.asked[0] is row else None
+
+    def of_limit(self, message):
+        """How long a request has waited when that is seen, beside the limit."""
+        waited = self.story.seen - message.asked[0].time
+        return f"at time {self.story.seen} it has waited for {waited} units of time, {waited - self.within} more than --within {self.within}"
+
+    def of_waiting(self, message):
+        """Explains that a request has no reply in time."""
+        yield f"the request: {self.text(message)}"
+        yield self.of_limit(message)
+        yield from self.sides.of_other(message)
 
     def of_turn(self, row):
         """The oldest request of a link without a reply, which the next reply has to answer, and how many are older than the beat's own."""
@@ -313,8 +332,9 @@ class Explainer:
     # ---- the whole
 
     def asked_by(self, row):
-        """The request that a beat goes on with or answers, or None."""
-        return self.story.under.get((row.link, "A")) if row.channel == "A" else self.story.flights.get((row.link, row.number(6)))
+        """The request that a beat goes on with or answers, or that waits since this beat; or None."""
+        key = row.link, row.number(6)
+        return self.waiting() or self.story.under.get((row.link, "A")) if row.channel == "A" else self.story.flights.get(key)
 
     def place_in(self, verdict):
         """The place of the unlawful beat of a verdict among all rows, or None."""
@@ -331,7 +351,8 @@ class Explainer:
     def links(self):
         """The link of the fault, and that of the other side if the fault lies between both."""
         row = self.story.last
-        asked = self.asked_by(row) if (row.link[0], row.channel) in (("p", "A"), ("m", "D")) else None
+        is_between = (row.link[0], row.channel) in (("p", "A"), ("m", "D")) or row.link[0] == "m" and self.waiting()
+        asked = self.asked_by(row) if is_between else None
         other = self.sides.other(asked) if asked else None
         return [row.link, *([other.link] if other else [])]
 
@@ -345,9 +366,11 @@ class Explainer:
             more, runs = self.of_wrong(message, wrong)
             lines += [f"the request: {self.name(message)}", *more, *self.of_expected(row, message, wrong)]
             orders = [*self.views.of_orders(found[0])]
+        elif fault == "no reply in time":
+            lines += self.of_waiting(self.waiting())
         else:
             lines += self.of_request(row, fault) if row.channel == "A" else self.of_reply(row, fault)
-        asked, under = self.asked_by(row), self.story.under.get((row.link, row.channel))
+        asked, under = self.asked_by(row), None if self.waiting() else self.story.under.get((row.link, row.channel))
         port = row.link if row.link[0] == "p" else f"p{asked.port}" if asked and under in (None, asked) else None
         other = self.sides.other(asked) if asked else None
         lawful = [order for order, said in orders if said.startswith("lawful:")]
@@ -355,8 +378,9 @@ class Explainer:
         # a reply without a request at the port is one that something before it gives
         is_adapted = bool(adapters) or fault == "the port gave no such reply" and other is None
         hints = {"is_shifted": any(self.of_shift(row, fault)), "is_part": any(is_part for _, is_part in adapters), "is_adapted": is_adapted}
-        where = [*self.sides.where(row, asked, port, self.views, lawful)]
-        return {"line": row.line, "time": row.time, "link": found[3], "channel": row.channel, "why": lines, "where": where,
+        is_late = fault == "late reply" or self.waiting()
+        where = self.sides.where_waited(row, asked, port) if is_late else self.sides.where(row, asked, port, self.views, lawful)
+        return {"line": row.line, "time": row.time, "seen": self.story.seen, "link": found[3], "channel": row.channel, "why": lines, "where": [*where],
                 "request": self.record(asked) if asked else None, "other_side": self.record(other) if other else None,
                 "bytes": runs, "orders": [f"with --order {order}: {said}" for order, said in orders],
                 "in_flight": [self.record(message) for message in self.in_flight()], "look_at": causes_of(fault, wrong, lawful, **hints)}
@@ -403,11 +427,14 @@ def told_of(words, verdict):
     found = VERDICT.fullmatch(verdict)
     if not found and not verdict.startswith("incomplete:"):
         return {}, None
-    view, order = option(words, "--links", "both"), option(words, "--order", "accept")
+    view, order, within = option(words, "--links", "both"), option(words, "--order", "accept"), int(option(words, "--within", 0))
     system = System(words[-2], view)
     story = Story(system, order, view)
-    story.tell(words[-1], int(found[1]) if found else None)
-    explainer = Explainer(system, story, view, Views(words, view, order))
+    if found and found[5] == "no reply in time":
+        story.tell_past(words[-1], int(found[1]), int(found[2]) + within)
+    else:
+        story.tell(words[-1], int(found[1]) if found else None)
+    explainer = Explainer(system, story, view, Views(words, view, order, within), within)
     if found:
         return explainer.unlawful(found), explainer
     return {"where": [*explainer.sides.where_left()], "in_flight": [explainer.record(message) for message in explainer.in_flight()]}, explainer

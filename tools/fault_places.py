@@ -1,5 +1,6 @@
-"""Compares the words and the numbers of faults in each place where they stand with their sources: check_lines for beats, check_rows for rows,
-check_keys for system files, tl_script for scripts, tl_program for runs, tl_c for numbers. Every failure names a file, a line and a word."""
+"""Compares the words and the numbers of faults in each place where they stand with their sources: check_lines for beats and for times, check_rows
+for rows, check_keys for system files, tl_script for scripts, tl_program for runs, tl_c for numbers. Every failure names a file, a line and a
+word."""
 
 import functools
 import re
@@ -7,6 +8,8 @@ import re
 from fault_words import NAME, REPLY, Files, OtherForm, Template, filled, templates
 
 VERDICT, BEAT_SPEC = "crates/check_lines/src/verdict.rt", "crates/check_lines/specs/Verdict.antt"
+# Where a row stands that is unlawful, and the words of the times that replies take, which have no number: calls have no limit.
+PLACE, TIMED = "\nfn push_place(", "\npub fn push_breach("
 NUMBERS, NUMBER_SPEC, HEADER = "crates/tl_c/src/fault.rt", "crates/tl_c/specs/Numbers.antt", "include/tlx.h"
 FUNCTIONS = ("script_number", "file_number", "image_number", "serve_number", "form_number", "beat_number")
 LINES = r"(?:unlawful: line \d|incomplete: \d|empty: no|lawful: \d+ (?!rows`)|capture: line \d)"
@@ -85,15 +88,20 @@ class Places:
         return [*self.form, *made, self.wrong[0]._replace(key="WrongReply", text=self.wrong[0].text.split(":")[0])]
 
     @functools.cached_property
-    def beat_templates(self):
-        return templates([said._replace(types="") for said in self.beats])
+    def times(self):
+        """The faults of the times that replies take, in the order in which they are tried: after all those of beats."""
+        return self.files.words(VERDICT, r'Breach::(?P<key>\w+) => push_timed\(text, names, row, "(?P<text>[^"]+)"\)', TIMED, every=r"Breach::(?!Beat\b)\w+")
 
     @functools.cached_property
-    def whole_beats(self):
-        """The faults of beats as lines have them, with the replies of a wrong one."""
-        reply = self.beat_templates[-1]
+    def fault_templates(self):
+        """What the beat of a row may have, of a wrong reply the first words."""
+        return templates([said._replace(types="") for said in [*self.beats, *self.times]])
+
+    @functools.cached_property
+    def whole_templates(self):
+        """The same as lines have it, with the replies of a wrong one."""
         pattern = f"{re.escape(self.wrong[0].text)}{REPLY}{re.escape(self.wrong[1].text)}{REPLY}"
-        return [*self.beat_templates[:-1], Template(reply.said, reply.key, pattern)]
+        return [one._replace(pattern=pattern) if one.key == ("WrongReply",) else one for one in self.fault_templates]
 
     def literals(self, function, path=VERDICT, tail="\n}\n"):
         """The words that a function appends."""
@@ -102,9 +110,9 @@ class Places:
     @functools.cached_property
     def line_templates(self):
         """The lines of verdicts, and of records that are no rows."""
-        lawful, empty, unlawful = (self.literals(f"\npub fn push_{kind}(") for kind in ("lawful", "empty", "unlawful"))
+        lawful, empty, unlawful = (self.literals(head) for head in ("\npub fn push_lawful(", "\npub fn push_empty(", PLACE))
         began = self.literals("", "crates/check_lines/src/left.rt")
-        fault = "|".join(one.pattern for one in self.whole_beats)
+        fault = "|".join(one.pattern for one in self.whole_templates)
         numbers = r"\d+".join(re.escape(said.text) for said in lawful)
         place = r"\d+".join(re.escape(said.text) for said in unlawful)
         left = r"\d+".join(re.escape(said.text) for said in [began[-1], *began[:-1]])
@@ -195,30 +203,34 @@ class Places:
         fault = spec(r'fault_text (?P<key>[A-Z]\w+) = codes "(?P<text>[^"]+)"', every="fault_text [A-Z]")
         self.keyed(self.beats[:-1], form + fault)
         self.ordered(self.wrong, spec(r'codes "(?P<text>[^"]+)"', "\nwrong_text expected captured =", "\n\n", "codes"))
-        for function, head in (("\npub fn push_lawful(", "\nlawful_line counts ="), ("\npub fn push_empty(", "\nempty_line ="),
-                               ("\npub fn push_unlawful(", "\nunlawful_line names row fault =")):
-            self.ordered(self.literals(function), spec(r'codes "(?P<text>[^"]+)"', head, "10 ∷ []", "codes"))
+        for function, head, tail in (("\npub fn push_lawful(", "\nlawful_line counts =", "10 ∷ []"), ("\npub fn push_empty(", "\nempty_line =", "10 ∷ []"),
+                                     (PLACE, "\nunlawful_text names row =", "\n\n")):
+            self.ordered(self.literals(function), spec(r'codes "(?P<text>[^"]+)"', head, tail, "codes"))
         self.ordered(self.literals("", "crates/check_lines/src/left.rt"), spec(r'codes "(?P<text>[^"]+)"', "\n-- where and when a request began\n",
                                                                                "10 ∷ []", "codes"))
         self.keyed(self.channels, spec(r'channel_text \((?P<key>\w) \w+\) = codes "(?P<text>[^"]+)"', every=r"channel_text \("))
         form = self.variants("crates/check_beats/src/fault.rt", "FormFault", "Form.")
         fault = [said for said in self.variants("crates/check_watch/src/fault.rt", "Fault") if said.key != "Form"]
         self.ordered([said._replace(text=said.key) for said in self.beats], [said._replace(text=said.key) for said in form + fault])
+        times = [said for said in self.variants("crates/check_lines/src/breach.rt", "Breach") if said.key != "Beat"]
+        self.ordered([said._replace(text=said.key) for said in self.times], times)
+        self.keyed(self.times, spec(r'breach_line names row breach\.(?P<key>\w+) = timed_line names row \(codes "(?P<text>[^"]+)"\)',
+                                    every=r"breach_line names row breach\."))
 
     def of_beats_in_tools(self):
-        words, beats = self.files.words, self.beat_templates
+        words, faults = self.files.words, self.fault_templates
         model = "tools/judge_model.py"
-        self.said(beats, words(model, r'raise Unlawful\(f?"(?!unlawful: )(?P<text>[^":]+)', every=r'raise Unlawful\((?!f"unlawful: )'), [("UnknownData",)])
+        self.said(faults, words(model, r'raise Unlawful\(f?"(?!unlawful: )(?P<text>[^":]+)', every=r'raise Unlawful\((?!f"unlawful: )'), [("UnknownData",)])
         self.said(self.row_words, words(model, r'raise NoRow\("(?P<text>[^"]+)"\)', every=r"raise NoRow\("))
         verdicts = [Template(one.said, one.key, f"{one.key[0]}") for one in self.line_templates[:4] if one.key != ("unlawful",)]
-        letters = [one._replace(pattern=one.pattern + (r"\ [AD]" if one.key in (("Form.UnknownData",), ("UnknownData",)) else "")) for one in beats]
+        letters = [one._replace(pattern=one.pattern + (r"\ [AD]" if one.key in (("Form.UnknownData",), ("UnknownData",)) else "")) for one in faults]
         self.said(letters + self.row_words + verdicts, words("tools/random_captures", r'"(?P<text>[^"]+)"', "\nKINDS = {\n", "}\n", '"[^"]+"'))
         causes = words("tools/causes.py", r'^    "(?P<text>[^"]+)": \[', "CAUSES = {\n", "\n}\n", r'": \[')
-        self.said(beats, causes)
-        self.said(beats, words("tools/explanation.py", r'fault == "(?P<text>[^"]+)"', every="fault == "), is_whole=False)
+        self.said(faults, causes)
+        self.said(faults, words("tools/explanation.py", r'fault == "(?P<text>[^"]+)"', every="fault == "), is_whole=False)
         self.ordered(causes, self.files.table("docs/UNLAWFUL.md", "| Fault | Look at |\n|---|---|\n", 0))
         self.parts(self.wrong, "tools/explanation.py", "\nWRONG = re.compile(", "\n")
-        line = self.literals("\npub fn push_unlawful(")
+        line = self.literals(PLACE)
         self.parts([*line[:2], self.wrong[0]._replace(text=self.wrong[0].text.split(": ")[0])], "tools/random_orders", "\nWRONG = re.compile(", "\n")
         lawful, empty = (self.literals(f"\npub fn push_{kind}(") for kind in ("lawful", "empty"))
         ends = [*line, *self.wrong, *lawful, *empty, *self.literals("", "crates/check_lines/src/left.rt")]
@@ -228,14 +240,14 @@ class Places:
         """The tables of docs/CAPTURE.md, in the order in which faults are tried."""
         table = functools.partial(self.files.table, "docs/CAPTURE.md")
         found = table("| Text | When | Capture |\n|---|---|---|\n", 0)
-        self.said(self.whole_beats, found)
-        self.ordered(self.beats, [said._replace(text=said.text.split(": ")[0]) for said in found])
+        self.said(self.whole_templates, found)
+        self.ordered([*self.beats, *self.times], [said._replace(text=said.text.split(": ")[0]) for said in found])
         kinds = table("| Kind | Such a row |\n|---|---|\n", 0)
         self.said(self.row_words, kinds)
         self.ordered([one.said for one in self.rows][-len(self.row_faults):], kinds[2:])
         explained = table("| Fault | What is printed |\n|---|---|\n", 0)
         denied = [Template(explained[0], (word,), word) for word in ("denied", "incomplete")]
-        self.said(self.beat_templates + denied, explained, is_whole=False)
+        self.said(self.fault_templates + denied, explained, is_whole=False)
         self.said(self.row_words, self.files.errors("crates/check_records/src/fault.rt", "RecordFault")[:1], is_whole=False)
         self.said(self.rows, self.files.alternatives("tools/hostile_systems.py", "CAPTURE_FAULT"))
         for path in PAGES:

@@ -1,6 +1,6 @@
 """A save file of GTKWave for a fault that was found in a dump: the clock, the signals of the fault's link by the names of the system file,
-of a fault between both sides also those of the other side's link, the cursor at the fault, and markers at its request (A to M) and at the
-requests that wrote its bytes (N to Z). For tools/explain.
+of a fault between both sides also those of the other side's link, the cursor at the time of the fault, or at that at which a request has waited
+for too long, and markers at its request (A to M) and at the requests that wrote its bytes (N to Z). For tools/explain.
 """
 
 import math
@@ -117,13 +117,13 @@ def save_of(dump, table, links, explanation):
     names += [name for of_link in of_links for name in signals_of(of_link, table, variables)]
     times = " ".join(str(time) for time in markers_of(explanation))
     lines = ["[*] tools/explain", f'[dumpfile] "{os.path.abspath(dump)}"', f"[timestart] {max(0, first_of(explanation) - 1)}",
-             f"*{zoom_of(explanation):.6f} {explanation['time']} {times}", *shown_of(names, variables)]
+             f"*{zoom_of(explanation):.6f} {explanation['seen']} {times}", *shown_of(names, variables)]
     return "".join(f"{line}\n" for line in lines)
 
 
 def zoom_of(explanation):
     """The zoom at which all from the first time to the fault is in view, and a quarter more. One less shows twice the time."""
-    span = max(LEAST_SPAN, 1.25 * (explanation["time"] - first_of(explanation)))
+    span = max(LEAST_SPAN, 1.25 * (explanation["seen"] - first_of(explanation)))
     return -math.log2(span * UNIT / PIXELS)
 
 

@@ -24,7 +24,7 @@ PIECES = [b"", b"0", b"1", b"x", b"z", b"#", b"b", b"!", b" ", b"\n", b"$end", b
 
 
 def examples():
-    """Systems with their dumps, and the words for the links that have signals."""
+    """Systems with their dumps, and the words of tlcheck for the links that have signals."""
     pairs = [(read(system), read(dump), ["--links", "both"]) for system, dump in (("system.toml", "get.vcd"), ("widths.toml", "widths.vcd"))]
     group = tomllib.loads(read(os.path.join("dumps", "dumps_are_judged.toml")).decode())
     for dump in group["dump"]:
@@ -57,7 +57,10 @@ def changed(rng, dump):
 def files_of(seed, found):
     rng = random.Random(f"dump {seed}")
     system, dump, words = rng.choice(found)
-    return system, changed(rng, dump), words
+    dump = changed(rng, dump)
+    # some replies there begin 10 units of time after their requests
+    limit = ["--within", str(rng.choice([1, 9, 10, 20, 40]))] * (rng.random() < 0.3)
+    return system, dump, words + limit
 
 
 def run(words, given):

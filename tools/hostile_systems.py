@@ -12,7 +12,7 @@ import re
 import subprocess
 
 import coverage_text
-from common import GROUPS, HEADER, LONGEST_SCRIPT, OPERATIONS, ORDER_WORDS, REPLIES, SECONDS, SYSTEM_KINDS, TLCHECK, TOP, system_of
+from common import GROUPS, HEADER, LONGEST_SCRIPT, LONGEST_WAIT, OPERATIONS, ORDER_WORDS, REPLIES, SECONDS, SYSTEM_KINDS, TLCHECK, TOP, system_of
 from system_keys import SYSTEM_KEYS
 
 KEY = "|".join(sorted({key for keys in SYSTEM_KEYS.values() for key in keys}))
@@ -235,6 +235,7 @@ def judge(seed, found, folder):
             file.write(text)
     words = ["--links", rng.choice(["both", "masters", "ports", "each"]), "--order", rng.choice(ORDER_WORDS)]
     words += [word for word in ("--trace", "--complete") if rng.random() < 0.5]
+    words += ["--within", str(rng.choice([1, 2, 3, 5, 1 << 32, LONGEST_WAIT]))] * (rng.random() < 0.3)
     coverage = os.path.join(folder, f"{seed}.cov")
     words += ["--coverage", coverage] * (rng.random() < 0.5)
     read_file, read_input = run([*words, *paths], b""), run([*words, paths[0], "-"], capture)

@@ -25,7 +25,11 @@ class NoRow(Exception):
 
 
 class Unlawful(Exception):
-    """The fault of a beat."""
+    """A fault in words, and the row whose beat has it; none as long as that is the beat that crosses."""
+
+    def __init__(self, words, row=None):
+        super().__init__(words)
+        self.row = row
 
 
 def number_of(word, most):
@@ -140,9 +144,9 @@ class Rows:
 
 
 class Judge:
-    """Watches links of a system, in the views and by the orders that the command line names."""
+    """Watches links of a system, in the views, by the orders and with the limit of time that the command line names."""
 
-    def __init__(self, system, images, links, order):
+    def __init__(self, system, images, links, order, within=None):
         ports, masters = system.get("port", []), system["master"]
         self.system, self.ports, self.masters, self.view, self.order = system, ports, masters, links, order
         self.sources, self.may_be_unaligned, self.resets = WideSources(system), system.get("unaligned", False), system.get("resets", False)
@@ -151,8 +155,8 @@ class Judge:
         self.watched = {"masters": "m", "ports": "p"}.get(links, "mp")
         # the ports whose links are judged by themselves
         self.apart = [links == "each" or links == "both" and port.get("crossing") == "none" for port in ports]
-        # what is counted and traced
-        self.told = "p" if links == "ports" else "m"
+        # what is counted and traced, and there the longest time from a request's first beat to that of its reply
+        self.told, self.within = "p" if links == "ports" else "m", within
         self.slaves = {side: [*(Slave(port, images.get(number, b""), self.resets) for number, port in enumerate(ports)), Slave(ERROR_PORT)]
                        for side in self.watched}
         self.requests, self.answered, self.lines = 0, 0, []
@@ -283,9 +287,15 @@ class Judge:
             if None in flight.answer and not self.slaves[link.side][flight.port].may_answer_unknown():
                 raise Unlawful("unknown data")
         flight.answered += 1
-        if flight.answered == link.bus.count(row.size, carries):
+        is_whole, reply = flight.answered == link.bus.count(row.size, carries), Reply(row.denied, flight.answer)
+        if is_whole:
+            self.check_whole(link, flight, reply)
+        # the last fault of a beat
+        if is_first and link.side == self.told and self.has_passed(flight, row.time):
+            raise Unlawful("late reply")
+        if is_whole:
             link.answering = None
-            self.end_reply(link, flight, Reply(row.denied, flight.answer))
+            self.end_reply(link, flight, reply)
             del link.flights[row.source]
 
     def check_reply(self, row, flight):
@@ -321,18 +331,35 @@ class Judge:
         flight.reply_row = row
         return flight
 
-    def end_reply(self, link, flight, reply):
+    def check_whole(self, link, flight, reply):
+        """The faults of a reply that has ended."""
         if link.side == "m" and self.crosses(link, flight):
             if flight.given != reply:
                 raise Unlawful("the port gave no such reply")
         elif not fits(flight.expected, reply):
             raise Unlawful(f"wrong reply: expected {reply_text(flight.name, flight.expected)}, captured {reply_text(flight.name, reply)}")
+
+    def end_reply(self, link, flight, reply):
         if flight.origin:
             flight.origin.given, flight.origin.place = reply, flight.place
         if link.side == self.told:
             self.answered += 1
             master, source = flight.owner
             self.lines.append(f"m{master} s{source} {ask_text(flight)} -> {reply_text(flight.name, reply)} p{flight.port} #{flight.place}")
+
+    # ---- times
+
+    def has_passed(self, flight, time):
+        """Whether a request has waited for longer than the limit at a time."""
+        return self.within is not None and time > flight.row.time + self.within
+
+    def look_at(self, time):
+        """After all beats of a time: the first request that waits for too long then."""
+        links = [link for link in self.links.values() if link.side == self.told]
+        waiting = [flight for link in links for flight in link.flights.values() if flight.answered == 0]
+        first = min(waiting, key=lambda flight: turn_of(flight.row), default=None)
+        if first and self.has_passed(first, time):
+            raise Unlawful("no reply in time", first.row)
 
     # ---- the end
 
@@ -374,8 +401,10 @@ def verdict_of(judge, rows, last_line):
             try:
                 judge.step(row)
             except Unlawful as fault:
-                raise Unlawful(f"unlawful: line {row.line}, time {row.time}, {judge.links[row.side, row.number].name} {row.channel}: "
-                               f"{fault}") from None
+                fault.row = row
+                raise
+        if group:
+            judge.look_at(group[0].time)
         group.clear()
 
     # empty lines are no rows, in front of the header neither
@@ -394,13 +423,14 @@ def verdict_of(judge, rows, last_line):
     except NoRow as fault:
         return f"capture: line {line}: {fault}", 1
     except Unlawful as fault:
-        return str(fault), 3
+        row = fault.row
+        return f"unlawful: line {row.line}, time {row.time}, {judge.links[row.side, row.number].name} {row.channel}: {fault}", 3
     return last_line(judged)
 
 
-def judged(system, images, capture, links="both", order="accept", trace=False, complete=False):
+def judged(system, images, capture, links="both", order="accept", trace=False, complete=False, within=None):
     """What tlcheck writes of a capture with these options, and its status. `images` has the bytes of the ports that have an image."""
-    judge = Judge(system, images, links, order)
+    judge = Judge(system, images, links, order, within)
 
     def last_line(count):
         left = judge.left() if complete else []

@@ -34,14 +34,15 @@ def asks_same(row, message):
 
 
 class Views:
-    """What tlcheck says of the same capture in other views and orders."""
+    """What tlcheck says of the same capture in other views and orders. The limit of time is one of the links of its own view."""
 
-    def __init__(self, words, view, order):
-        self.files, self.view, self.order = words[-2:], view, order
+    def __init__(self, words, view, order, within=None):
+        self.files, self.view, self.order, self.within = words[-2:], view, order, within
 
     def said(self, view=None, order=None):
         """Its line, or None if it judges nothing."""
         options = ["--quiet", "--links", view or self.view, "--order", order or self.order]
+        options += ["--within", str(self.within)] if self.within and view is None else []
         run = said_by(TLCHECK, [*options, *self.files], stdout=-1)
         return run.stdout.decode(errors="replace").strip() if run.returncode in (0, 3) else None
 
@@ -217,12 +218,41 @@ class Sides:
         """On which side the fault lies, with what says so; and what crossed that way before. With the orders of `lawful` all is lawful."""
         yield from self.side_of(row, port, views)
         yield from self.of_order(row, port, lawful)
+        yield from self.before(row, message, port)
+
+    def before(self, row, message, port):
+        """What the way of a message has, and what crossed there before."""
         if port in self.system.buses:
             yield from self.width_of(row, message, port)
             if port in self.story.most:
                 most, first = self.story.most[port]
                 yield f"in flight at {self.name(port)}'s link: at most {counted(most, 'request')} so far, first at {place_of([first])}"
         yield from self.counts(row)
+
+    def where_waited(self, row, message, port):
+        """Where a request has waited, as far as links show it, with what crossed that way before."""
+        name, port_name = self.name(row.link), self.name(port)
+        if row.link[0] == "p":
+            yield f"in {name}: it has the request since {place_of(message.asked)}"
+        elif port not in self.system.buses:
+            yield f"in the error port, which has no link, or between {name} and it"
+        elif self.compares(port):
+            yield self.spent(message, self.story.seen)
+        else:
+            why = "the link of which is judged by itself" if port in self.system.apart else f"which --links {self.view} does not show"
+            yield f"in {port_name}, {why}, or between {name} and it"
+        yield from self.before(row, message, port)
+
+    def spent(self, message, time):
+        """How long a request has waited on its way to the port, in the port, and on the way back."""
+        given, name, port = self.at_port(message), self.name(message.link), self.name(f"p{message.port}")
+        if given is None:
+            return f"between {name} and {port}: it has not crossed at {port}'s link"
+        # an adapter may take beats at the port before the master's beat
+        came, gave = max(message.asked[0].time, given.asked[0].time), given.answered[0].time if given.answered else time
+        began = message.asked[0].time
+        parts = f"of {time - began}: {came - began} before it crossed at {port}'s link, {gave - came} in {port}"
+        return f"{parts}, {time - gave} on the way back" if given.answered else f"{parts}, which has not answered it"
 
     def of_order(self, row, port, lawful):
         """At a master's link, if the view has no order of requests at the port: that it may be this one."""

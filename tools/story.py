@@ -226,7 +226,8 @@ class Story:
         self.writes, self.resets = {"m": [], "p": []}, []
         # the requests that a reset has dropped, each with the reset, by link and source until the source is used again
         self.dropped = {}
-        self.last, self.behind = None, []
+        # the row of the fault, some behind it, and the time at which the fault is seen
+        self.last, self.behind, self.seen = None, [], None
         # the last rows that were taken, each with its request
         self.recent = collections.deque(maxlen=RECENT)
         # of each link how many requests are in flight, and the most so far with the row at which there were so many
@@ -242,8 +243,19 @@ class Story:
         for row in rows:
             if row.line == line:
                 following = itertools.takewhile(lambda other: other.link != RESET, rows)
-                self.last, self.behind = row, list(itertools.islice(following, BEHIND))
+                self.last, self.behind, self.seen = row, list(itertools.islice(following, BEHIND)), row.time
                 return
+            self.take(row)
+
+    def tell_past(self, path, line, limit):
+        """Takes all rows up to the first time after a limit, at which the request that this line begins has waited for too long. It keeps its row."""
+        self.seen = 0
+        for row in well_formed(rows_of(path)):
+            if limit < self.seen < row.time:
+                return
+            self.seen = row.time
+            if row.line == line:
+                self.last = row
             self.take(row)
 
     def take(self, row):

@@ -1,4 +1,5 @@
-/* Judges the captures of a folder by calls: each must have its verdict, also if each request for memory is refused once. */
+/* Judges the captures of a folder by calls: each must have its verdict, also if each request for memory is refused once. Those with a limit of
+ * time are left out, since calls have none. */
 #include "check.h"
 
 #include <dirent.h>
@@ -217,6 +218,8 @@ static void check_capture(const char *folder, const char *name) {
   read_file(folder, path, expected);
   for (char *at = expected; (at = strchr(at, '\n')) && at[1];) last = ++at;
   if (!strncmp(last, "capture:", 8)) return; /* of the text of a capture, which is no beat */
+  snprintf(path, sizeof path, "%s.args", name);
+  if (read_file(folder, path, text) && strstr(text, "--within")) return;
   snprintf(path, sizeof path, "%s.csv", name);
   read_file(folder, path, text);
   size_t count = read_rows(text, rows);

@@ -2,7 +2,8 @@
 """Judges the captures of examples/captures and examples/systems by calls: captures.py FOLDER of the examples.
 
 Each must have its verdict, beat by beat and as one array. The system file of a capture NAME.csv is NAME.toml beside it, or that of the first word
-of its name (narrow.toml), or else system.toml. One whose verdict is about its text, which has no beats, is left out.
+of its name (narrow.toml), or else system.toml. One whose verdict is about its text, which has no beats, is left out; so is one with a limit of
+time, which calls don't have.
 """
 
 import csv
@@ -101,6 +102,8 @@ def main():
         if wanted.startswith("capture:"):
             continue
         words = path.with_suffix(".args").read_text().split() if path.with_suffix(".args").exists() else []
+        if "--within" in words:
+            continue
         # its own, that of all captures whose names begin with its first word, or that of its folder
         names = (f"{path.stem}.toml", f"{path.stem.split('_')[0]}.toml", "system.toml")
         system = tlx.System.read(next(path.with_name(name) for name in names if path.with_name(name).exists()))
