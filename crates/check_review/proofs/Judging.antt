@@ -20,7 +20,7 @@ use Rattle.check_review.specs.declared.stop.Refusal.TheVariants as refusal
 use Rattle.check_review.specs.declared.stop.Stop.TheVariants as stop
 use Rattle.check_review.specs.declared.stop.Unlawful.{Unlawful}
 use Rattle.check_review.specs.declared.tally.Tally.{Tally}
-use Rattle.check_times.specs.Waiting.{first_late, waiting_in}
+use Rattle.check_review.specs.Waiting.{first_late, waiting_in}
 use Rattle.check_review.specs.Stretches.{AreStretches, GoOnWith, IsLawfulStretch, Stretches, Stretch, stretches, watched_in}
 use Rattle.check_review.specs.Order.{CrossesBefore, IsCrossing, IsLater, NeverFalls, HasRowFault, sightings_of}
 use Rattle.check_review.specs.Times.{StretchesInTime, StretchesInTimeBefore, late_before, waits_after}

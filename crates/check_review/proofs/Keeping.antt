@@ -1,5 +1,5 @@
 -- The row among some at which a judge stops, with what is told.
-use Rattle.std.proofs.Common.{◌≡◌, ◌∙◌, ℕ, ◌+◌, ◌<◌, ◌≤◌, ◌⊎◌, inl, All, Bool, true, false, List, [], ◌∷◌, ◌++◌, Some, reverse, length, get_or, slice_get, take, drop, Result, Ok, Err, IfOk, IfErr, refl, sym, ap, subst, arith}
+use Rattle.std.proofs.Common.{◌≡◌, ◌∙◌, ℕ, ◌+◌, ◌<◌, ◌≤◌, ◌⊎◌, All, Bool, true, false, List, [], ◌∷◌, ◌++◌, Some, reverse, length, get_or, slice_get, take, drop, Result, Ok, Err, IfOk, IfErr, refl, sym, ap, subst, arith}
 use Rattle.std.specs.List.Sorted.{IsPermutation}
 use Rattle.std.proofs.lemmas.List.{drop_more, length-take-le, reverse-append, take-append-drop, take_all, take_more}
 use Rattle.std.proofs.lemmas.List.Elements.{All-append, All-from_recursion}

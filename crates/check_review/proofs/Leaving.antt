@@ -11,8 +11,8 @@ use Rattle.check_coverage.specs.View.{Covers}
 use Rattle.check_unanswered.specs.Began.{IsComplete, IsLeft}
 use Rattle.check_unanswered.specs.View.{Holds, PendingView}
 use Rattle.check_rows.specs.declared.request.Left.{Left}
-use Rattle.check_times.specs.View.{WaitsView}
-use Rattle.check_times.specs.Waiting.{waiting_in}
+use Rattle.check_review.specs.Waiting.{WaitsView}
+use Rattle.check_review.specs.Waiting.{waiting_in}
 use Rattle.check_review.specs.declared.tally.Tally.{Tally}
 use Rattle.check_review.specs.Count.{answered_in, answered_in_past, asked_in, asked_in_past}
 use Rattle.check_review.specs.Stretches.{Earlier, bins_in}

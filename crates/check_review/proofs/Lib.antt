@@ -11,5 +11,6 @@ pub mod Judging
 pub mod Counting
 pub mod Covering
 pub mod OneCourse
+pub mod Late
 pub mod Timing
 pub mod Refusing

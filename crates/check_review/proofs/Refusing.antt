@@ -1,13 +1,13 @@
 -- How a moment is refused by whose time a request has waited for too long.
-use Rattle.std.proofs.Common.{◌≡◌, ◌∙◌, ℕ, ◌+◌, ◌<◌, All, Bool, true, false, cond, List, [], ◌∷◌, ◌++◌, Option, Some, None, Contains, length, append-nil, reverse, refl, sym, ap, subst, arith}
+use Rattle.std.proofs.Common.{◌≡◌, ℕ, Bool, true, false, cond, List, [], ◌∷◌, ◌++◌, Option, Some, None, Contains, length, append-nil, reverse, refl, sym, ap, subst, arith}
 use Rattle.std.specs.List.{AllByRecursion}
 use Rattle.std.proofs.lemmas.List.Elements.{All-contains, All-from_recursion}
 use Rattle.std.proofs.lemmas.List.Sorted.{Contains-permutation, IsPermutation-reverse, IsPermutation-sym, length_permutation}
 use Rattle.check_rows.specs.Moment.{Cross}
 use Rattle.check_rows.specs.Row.{SeenRow}
-use Rattle.check_times.specs.declared.waiting.Waiting.{Waiting}
-use Rattle.check_times.specs.View.{WaitsView}
-use Rattle.check_times.specs.Waiting.{first_late, waiting_in}
+use Rattle.check_review.specs.declared.waiting.Waiting.{Waiting}
+use Rattle.check_review.specs.Waiting.{WaitsView}
+use Rattle.check_review.specs.Waiting.{first_late, waiting_in}
 use Rattle.check_lines.specs.declared.breach.Breach.TheVariants as breach
 use Rattle.check_start.specs.Loads.{SystemPlan}
 use Rattle.check_review.specs.declared.stop.Refusal.{Refusal}

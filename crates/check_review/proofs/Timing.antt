@@ -1,17 +1,16 @@
 -- Whether replies come in time, row by row, and over the stretches of rows that crossed.
-use Rattle.std.proofs.Common.{◌≡◌, ◌∙◌, ℕ, ◌+◌, ◌<◌, ◌≤◌, All, Bool, true, false, cond, List, [], ◌∷◌, ◌++◌, Option, Some, None, IfSome, IsTrue, option_map, reverse, refl, sym, ap, subst, arith}
+use Rattle.std.proofs.Common.{◌≡◌, ◌∙◌, ℕ, ◌+◌, ◌≤◌, All, Bool, true, false, cond, List, [], ◌∷◌, ◌++◌, Option, Some, None, reverse, refl, sym, ap, subst, arith}
 use Rattle.std.specs.List.{AllByRecursion}
-use Rattle.std.proofs.lemmas.List.Elements.{All-contains, recursion_from_All}
-use Rattle.check_sides.specs.Plan.{Layout, Plan}
+use Rattle.std.proofs.lemmas.List.Elements.{recursion_from_All}
+use Rattle.check_sides.specs.Plan.{Plan}
 use Rattle.check_rows.specs.Moment.{Cross, place_by, place_of_row}
 use Rattle.check_rows.specs.Row.{SeenRow}
-use Rattle.check_times.specs.declared.waiting.Waiting.{Waiting}
-use Rattle.check_times.specs.View.{WaitsView}
-use Rattle.check_times.specs.Waiting.{first_late, is_late_reply, waiting_in}
-use Rattle.check_times.proofs.Late.{late_waits, none_row, some_row}
+use Rattle.check_review.specs.declared.waiting.Waiting.{Waiting}
+use Rattle.check_review.specs.Waiting.{first_late, is_late_reply, waiting_in}
+use Rattle.check_review.proofs.Late.{late_waits, none_row, some_row}
 use Rattle.check_start.specs.Loads.{SystemPlan}
 use Rattle.check_review.specs.Order.{is_watched, watched}
-use Rattle.check_review.specs.Stretches.{AreStretches, EndsStretch, GoOnWith, Stretch, Stretches, stretches, watched_in}
+use Rattle.check_review.specs.Stretches.{AreStretches, GoOnWith, Stretch, Stretches, stretches, watched_in}
 use Rattle.check_review.specs.Times.{AreInTime, AreInTimeBefore, IsNoneLate, StretchesInTime, StretchesInTimeBefore, late_before, waits_after}
 use Rattle.check_review.proofs.OneCourse.{one_course}
 use Rattle.check_review.proofs.Ordered.{reversed_onto}

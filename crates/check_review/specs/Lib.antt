@@ -1,5 +1,6 @@
 pub mod Order
 pub mod Stretches
+pub mod Waiting
 pub mod Times
 pub mod Count
 pub mod Told

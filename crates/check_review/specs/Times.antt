@@ -1,13 +1,13 @@
 -- Whether replies come in time, if there is a limit: a request may wait for so long, from its first beat to the first beat of its
 -- reply. Lists of rows have the latest first. This project's own: the standard sets no limit of time.
-use Rattle.std.specs.Prelude.{◌≡◌, ℕ, ◌<◌, Bool, true, false, if◌then◌else◌, List, [], ◌∷◌, Option, Some, None, IfSome, option_map}
+use Rattle.std.specs.Prelude.{◌≡◌, ℕ, ◌<◌, if◌then◌else◌, List, [], ◌∷◌, Option, Some, None, IfSome, option_map}
 use Rattle.std.specs.List.{AllByRecursion}
 use Rattle.check_sides.specs.Plan.{Plan}
 use Rattle.check_rows.specs.Row.{SeenRow}
 use Rattle.check_rows.specs.declared.row.Row.{Row}
-use Rattle.check_times.specs.declared.waiting.Waiting.{Waiting}
-use Rattle.check_times.specs.View.{WaitsView}
-use Rattle.check_times.specs.Waiting.{first_late, waiting_in}
+use Rattle.check_review.specs.declared.waiting.Waiting.{Waiting}
+use Rattle.check_review.specs.Waiting.{WaitsView}
+use Rattle.check_review.specs.Waiting.{first_late, waiting_in}
 use Rattle.check_review.specs.Order.{watched}
 use Rattle.check_review.specs.Stretches.{Stretch}
 

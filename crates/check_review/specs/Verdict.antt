@@ -9,8 +9,8 @@ use Rattle.check_rows.specs.Row.{SeenRow, row_with}
 use Rattle.check_rows.specs.declared.row.Row.{Row}
 use Rattle.check_unanswered.specs.Began.{IsComplete, IsLeft}
 use Rattle.check_rows.specs.declared.request.Left.{Left}
-use Rattle.check_times.specs.declared.waiting.Waiting.{Waiting}
-use Rattle.check_times.specs.Waiting.{first_late, is_late_reply, waiting_in}
+use Rattle.check_review.specs.declared.waiting.Waiting.{Waiting}
+use Rattle.check_review.specs.Waiting.{first_late, is_late_reply, waiting_in}
 use Rattle.check_lines.specs.declared.breach.Breach.{Breach}
 use Rattle.check_lines.specs.declared.breach.Breach.TheVariants as breach
 pub use Rattle.check_lines.specs.declared.verdict.VerdictCounts.{VerdictCounts}

@@ -9,9 +9,9 @@ ghost use Rattle.check_review.specs.Times.{waits_after};
 ghost use Rattle.check_review.specs.View.{Judges, is_asked, is_covered, is_traced};
 
 use crate::judge::Judge;
+use crate::waits::Waits;
 use check_coverage::Coverage;
 use check_start::Loads;
-use check_times::Waits;
 use check_turns::OrderedWatch;
 use check_unanswered::Pending;
 use std::alloc::{AllocError, Global};

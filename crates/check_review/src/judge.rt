@@ -18,11 +18,11 @@ ghost use Rattle.check_review.specs.Verdict.{HasCounts, HasLeft, IsFirstUnlawful
 
 use crate::stop::{Ending, Refusal, Stop, stop_of};
 use crate::tally::Tally;
+use crate::waits::Waits;
 use check_coverage::Coverage;
 use check_lines::VerdictCounts;
 use check_rows::{Moment, Row, RowFault};
 use check_start::Loads;
-use check_times::Waits;
 use check_turns::OrderedWatch;
 use check_unanswered::Pending;
 use std::alloc::{AllocError, Global};

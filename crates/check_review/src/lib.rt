@@ -12,7 +12,9 @@
 //! A judge that is given the requests in flight ([`check_unanswered::Pending`], made by [`pending_of`]) says at the end of a lawful file which of
 //! them are left. If replies are traced, what is reported of rows is appended to a text as they are judged: a line for each
 //! whole reply that is counted, in the order in which the replies end (`specs/Told.antt`). A judge that is given what is
-//! covered ([`check_coverage::Coverage`]) counts it of the lawful rows, up to the first that is not (`specs/Covered.antt`).
+//! covered ([`check_coverage::Coverage`]) counts it of the lawful rows, up to the first that is not (`specs/Covered.antt`). With a
+//! limit of time no request may wait longer for its reply: those that wait are kept (`specs/Waiting.antt`), and rows are lawful only
+//! if none waits too long when one of them crosses (`specs/Times.antt`).
 //!
 //! Read on in `docs/MODEL.md`, "Traces of others".
 #![tactic(auto)]
@@ -23,6 +25,8 @@ pub mod laws;
 mod moment;
 mod stop;
 mod tally;
+mod waiting;
+mod waits;
 
 pub use begin::pending_of;
 pub use check_lines::VerdictCounts;

@@ -6,7 +6,7 @@ ghost use Rattle.check_turns.specs.Lawful.{IsLawfulInOrder};
 ghost use Rattle.check_turns.specs.View.{KeepsOrdered};
 ghost use Rattle.check_rows.specs.Moment.{IsMoment};
 ghost use Rattle.check_rows.specs.Row.{SeenRow, beats_of, row_with};
-ghost use Rattle.check_times.specs.Waiting.{is_late_reply};
+ghost use Rattle.check_review.specs.Waiting.{is_late_reply};
 ghost use Rattle.check_lines.specs.declared.breach.Breach.TheVariants.{NoReply};
 ghost use Rattle.check_start.specs.Loads.{SystemPlan};
 ghost use Rattle.check_review.specs.Covered.{StopsCovering};
@@ -19,9 +19,9 @@ ghost use Rattle.check_review.specs.View.{HasLanes, KeepsOn, KeptIn, Tallied, wa
 
 use crate::stop::{Refusal, Unlawful};
 use crate::tally::Tally;
+use crate::waiting::Waiting;
 use check_lines::Breach;
 use check_rows::{Moment, Row};
-use check_times::Waiting;
 use check_turns::StepError;
 use std::alloc::Global;
 

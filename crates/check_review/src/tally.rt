@@ -25,12 +25,12 @@ ghost use Rattle.check_review.specs.Verdict.{IsUnlawfulAfter, IsWhatIsLeft, MayW
 ghost use Rattle.check_review.specs.Covered.{StopsCovering};
 
 use crate::stop::{Refusal, Unlawful};
+use crate::waits::Waits;
 use check_coverage::{Coverage, is_counted};
 use check_lines::{Breach, push_answer};
 use check_memory::Slave;
 use check_rows::{Moment, Row};
 use check_start::Loads;
-use check_times::Waits;
 use check_turns::{Beat, Change, Ended, Link, Links, OrderedWatch, Seen, StepError};
 use check_unanswered::{Left, Pending};
 use std::alloc::{AllocError, Global};

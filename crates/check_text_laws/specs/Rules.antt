@@ -6,8 +6,8 @@ use Rattle.check_turns.specs.Turns.{AreInTurn}
 use Rattle.check_rows.specs.Row.{SeenRow}
 use Rattle.check_rows.specs.declared.row.Row.{Row}
 use Rattle.check_review.specs.Verdict.{SystemPlan, HasCounts, HasLeft, IsNamedBy, VerdictCounts}
-use Rattle.check_times.specs.declared.waiting.Waiting.{Waiting}
-use Rattle.check_times.specs.Waiting.{first_late, is_late_reply, waiting_in}
+use Rattle.check_review.specs.declared.waiting.Waiting.{Waiting}
+use Rattle.check_review.specs.Waiting.{first_late, is_late_reply, waiting_in}
 use Rattle.check_review.specs.Order.{IsCrossing}
 use Rattle.check_review.specs.Stretches.{Stretch, Stretches, sightings_in, stretches, watched_in}
 use Rattle.check_review.specs.Times.{IsNamedAs, StretchesInTime, StretchesInTimeBefore}

@@ -1,11 +1,11 @@
 -- The link is watched, and there is a limit.
-use Rattle.std.proofs.Common.{◌≡◌, ◌∙◌, false, true, Some, ap, sym, subst}
+use Rattle.std.proofs.Common.{◌≡◌, ◌∙◌, false, ap, sym, subst}
 use Rattle.std.proofs.lemmas.Bool.{true≢false}
 use Rattle.std.proofs.lemmas.Option.{none-some, same_Some}
 use Rattle.check_sides.specs.Plan.{Layout}
 use Rattle.check_rows.specs.Row.{row_with}
-use Rattle.check_times.specs.View.{WaitsView}
-use Rattle.check_times.specs.Waiting.{is_late_reply, waiting_in}
+use Rattle.check_review.specs.Waiting.{WaitsView}
+use Rattle.check_review.specs.Waiting.{is_late_reply, waiting_in}
 use Rattle.check_review.specs.Order.{is_watched}
 use Rattle.check_review.proofs.Watched.{watches_by}
 use Rattle.check_review.proofs.tally.Tally.begins_late_reply.Goals as goal

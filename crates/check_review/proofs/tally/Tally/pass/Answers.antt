@@ -1,10 +1,9 @@
 -- The row is a beat, and nothing is told of it.
-use Rattle.std.proofs.Common.{◌≡◌, ◌∷◌, true, IfOk, sym, subst}
+use Rattle.std.proofs.Common.{◌∷◌, sym, subst}
 use Rattle.check_rows.specs.Row.{row_with}
 use Rattle.check_review.specs.Order.{sightings_of}
 use Rattle.check_review.specs.Stretches.{Earlier}
 use Rattle.check_review.specs.Told.{AppendsTold}
-use Rattle.check_review.specs.View.{KeepsOn}
 use Rattle.check_review.proofs.Keeping.{keeps_beat, on_true}
 use Rattle.check_review.proofs.Telling.{tells_none}
 use Rattle.check_review.proofs.tally.Tally.pass.Goals as goal

@@ -1,20 +1,16 @@
 -- One row more, and the first that is not lawful or begins a late reply; or none is, and a request has waited for too long.
-use Rattle.std.proofs.Common.{◌≡◌, ◌∙◌, ℕ, ◌<◌, ◌++◌, ◌∷◌, inl, true, false, All, Contains, List, Some, refl, append-nil, length, reverse, take, sym, subst, arith}
-use Rattle.std.specs.List.{AllByRecursion}
+use Rattle.std.proofs.Common.{◌≡◌, ◌∙◌, ℕ, ◌<◌, ◌++◌, ◌∷◌, inl, true, false, All, Contains, List, Some, refl, length, reverse, take, sym, subst, arith}
 use Rattle.std.proofs.lemmas.List.{take_all}
 use Rattle.std.proofs.lemmas.List.Elements.{All-contains}
 use Rattle.check_sides.specs.Plan.{HasLink, IsWatched, Layout}
 use Rattle.check_turns.specs.Lawful.{IsLawfulInOrder}
 use Rattle.check_rows.specs.Row.{SeenRow, row_with}
-use Rattle.check_times.specs.View.{WaitsView}
-use Rattle.check_times.specs.Waiting.{first_late, is_late_reply, waiting_in}
-use Rattle.std.proofs.Common.{Option}
-use Rattle.check_review.specs.Order.{is_watched, sightings_of, watched}
+use Rattle.check_review.specs.Waiting.{first_late, is_late_reply, waiting_in}
+use Rattle.check_review.specs.Order.{is_watched}
 use Rattle.check_review.specs.Stretches.{Earlier, Stretch, Stretches, sightings_in, stretches, watched_in}
 use Rattle.check_review.specs.Times.{late_before, waits_after}
 use Rattle.check_review.specs.Verdict.{MayWantAfter}
-use Rattle.check_review.specs.View.{HasLanes, KeepsOn, KeptIn, wants}
-use Rattle.check_review.specs.declared.tally.Tally.{Tally}
+use Rattle.check_review.specs.View.{HasLanes, KeepsOn, wants}
 use Rattle.check_review.proofs.Covering.{covers_there, has_covered, wants_same}
 use Rattle.check_review.proofs.Keeping.{keeps_then, lanes_at, of_unlawful, one_more, row_at, same_then, stops_there, wants_there}
 use Rattle.check_review.proofs.OneCourse.{one_course}

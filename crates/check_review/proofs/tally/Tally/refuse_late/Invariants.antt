@@ -1,7 +1,7 @@
 -- The rows so far are judged, and told, and none of them began a late reply.
 use Rattle.std.proofs.Common.{◌≡◌, List, ◌++◌, reverse, take, Some, ℕ}
 use Rattle.check_rows.specs.Row.{SeenRow}
-use Rattle.check_times.specs.Waiting.{first_late, waiting_in}
+use Rattle.check_review.specs.Waiting.{first_late, waiting_in}
 use Rattle.check_start.specs.Loads.{SystemPlan}
 use Rattle.check_review.specs.Stretches.{Stretches, watched_in}
 use Rattle.check_review.specs.Steps.{SameAsked}

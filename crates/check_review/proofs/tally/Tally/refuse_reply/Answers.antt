@@ -1,5 +1,5 @@
 -- The beat is lawful, and begins a late reply; or it has a fault.
-use Rattle.std.proofs.Common.{◌≡◌, ◌∷◌, true, inl, inr, refl, rules, sym, subst}
+use Rattle.std.proofs.Common.{◌≡◌, true, inl, inr, refl, rules, sym, subst}
 use Rattle.std.proofs.lemmas.Bool.{true≢false}
 use Rattle.check_sides.specs.Plan.{HasLink, IsWatched, Layout}
 use Rattle.check_turns.specs.Lawful.{IsLawfulInOrder}

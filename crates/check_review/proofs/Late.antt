@@ -1,5 +1,5 @@
 -- Which requests wait after one row more, and which of them have waited for more than the limit.
-use Rattle.std.proofs.Common.{◌≡◌, ◌∙◌, ℕ, ◌+◌, Bool, true, false, cond, not, ◌&&◌, ◌||◌, List, [], ◌∷◌, ◌++◌, Option, Some, None, refl, sym, ap, subst, arith, nat_lt}
+use Rattle.std.proofs.Common.{◌≡◌, ◌∙◌, ℕ, Bool, true, false, cond, not, ◌&&◌, ◌||◌, List, [], ◌∷◌, ◌++◌, Some, None, refl, ap, subst, arith}
 use Rattle.std.specs.Prelude.{filter, find}
 use Rattle.std.specs.List.{list_any}
 use Rattle.std.proofs.lemmas.Bool.Decides.{nat_tests}
@@ -8,8 +8,8 @@ use Rattle.check_watch.specs.declared.beat.Beat.TheVariants.{A, D}
 use Rattle.check_sides.specs.Plan.{Plan}
 use Rattle.check_rows.specs.Row.{SeenRow}
 use Rattle.check_coverage.specs.Flights.{is_counted, wide_at}
-use Rattle.check_times.specs.declared.waiting.Waiting.{Waiting}
-use Rattle.check_times.specs.Waiting.{answers_late, first_late, is_late, is_late_reply, is_waiting_of, waiting_after, waiting_from, waiting_in}
+use Rattle.check_review.specs.declared.waiting.Waiting.{Waiting}
+use Rattle.check_review.specs.Waiting.{answers_late, first_late, is_late, is_late_reply, is_waiting_of, waiting_after, waiting_from, waiting_in}
 
 -- ---- the first that passes a test
 

@@ -7,7 +7,7 @@ use Rattle.check_watch.specs.declared.beat.Beat.TheVariants.{A, D}
 use Rattle.check_sides.specs.Plan.{Plan}
 use Rattle.check_rows.specs.Row.{SeenRow}
 use Rattle.check_coverage.specs.Flights.{is_counted, wide_at}
-use Rattle.check_times.specs.declared.waiting.Waiting.{Waiting}
+use Rattle.check_review.specs.declared.waiting.Waiting.{Waiting}
 
 -- the request is of this wide source
 abbrev pub is_waiting_of : ℕ → Waiting → Bool
@@ -59,3 +59,10 @@ abbrev pub is_late_reply : ℕ → Plan → List SeenRow → SeenRow → Bool
 is_late_reply limit plan before row =
     is_counted plan.layout.links row.sighting.link
     && answers_late limit row.time (wide_at plan row.sighting) row.sighting.beat (waiting_in plan before)
+
+-- ---- what is kept
+
+-- the longest time that a request may wait, and those that wait, the one that began first in front
+pub record WaitsView : Type 0 where
+  pub limit : ℕ
+  pub requests : List Waiting

@@ -2,10 +2,10 @@
 ghost use Rattle.std.specs.Prelude.{◌≡◌, ◌++◌, ◌∷◌, [], ◌+◌, ◌==◌, not, nat_lt, ◌&&◌, ℕ, List, filter, find, OnOk, if◌then◌else◌};
 ghost use Rattle.std.specs.List.{list_any};
 ghost use Rattle.check_rows.specs.Row.{row_with};
-ghost use Rattle.check_times.specs.Waiting.{first_late, is_late, is_waiting_of, waiting_after, waiting_from};
+ghost use Rattle.check_review.specs.Waiting.{first_late, is_late, is_waiting_of, waiting_after, waiting_from};
 
 use check_rows::Row;
-use check_watch::{Beat, Link};
+use check_turns::{Beat, Link};
 use std::alloc::AllocError;
 
 /// A request that waits for its reply: its wide source, and of the row of its first beat the line, the time, the link and the

@@ -1,11 +1,11 @@
 -- A request begins that did not wait.
-use Rattle.std.proofs.Common.{◌≡◌, ◌∙◌, ◌++◌, [], ◌∷◌, Bool, false, cond, List, ap, sym}
+use Rattle.std.proofs.Common.{◌≡◌, ◌∙◌, ◌++◌, [], ◌∷◌, Bool, false, cond, ap, sym}
 use Rattle.std.specs.List.{list_any}
 use Rattle.check_watch.specs.declared.beat.Beat.{Beat}
 use Rattle.check_rows.specs.Row.{row_with}
-use Rattle.check_times.specs.declared.waiting.Waiting.{Waiting}
-use Rattle.check_times.specs.Waiting.{is_waiting_of, waiting_after, waiting_from}
-use Rattle.check_times.proofs.waiting.note_beat.Goals as goal
+use Rattle.check_review.specs.declared.waiting.Waiting.{Waiting}
+use Rattle.check_review.specs.Waiting.{is_waiting_of, waiting_after, waiting_from}
+use Rattle.check_review.proofs.waiting.note_beat.Goals as goal
 
 pub returns-in_ok-push-in-A : goal.returns-in_ok-push-in-A
 returns-in_ok-push-in-A c = λ lanes.

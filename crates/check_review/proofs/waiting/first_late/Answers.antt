@@ -1,8 +1,8 @@
 use Rattle.std.proofs.Common.{◌∙◌, rules, tests}
 use Rattle.std.proofs.lemmas.Iterator.{YieldsList-from_slice}
 use Rattle.std.proofs.lemmas.Iterator.Search.{find_from_yields_List}
-use Rattle.check_times.specs.Waiting.{is_late}
-use Rattle.check_times.proofs.waiting.first_late.Goals as goal
+use Rattle.check_review.specs.Waiting.{is_late}
+use Rattle.check_review.proofs.waiting.first_late.Goals as goal
 
 pub returns : goal.returns
 returns c =

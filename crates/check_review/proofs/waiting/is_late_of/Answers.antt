@@ -1,9 +1,9 @@
 use Rattle.std.proofs.Common.{◌&&◌, rules, tests}
 use Rattle.std.proofs.lemmas.Iterator.{YieldsList-from_slice}
 use Rattle.std.proofs.lemmas.Iterator.Search.{any_from_yields_List}
-use Rattle.check_times.specs.Waiting.{is_late, is_waiting_of}
-use Rattle.check_times.specs.declared.waiting.Waiting.{Waiting}
-use Rattle.check_times.proofs.waiting.is_late_of.Goals as goal
+use Rattle.check_review.specs.Waiting.{is_late, is_waiting_of}
+use Rattle.check_review.specs.declared.waiting.Waiting.{Waiting}
+use Rattle.check_review.proofs.waiting.is_late_of.Goals as goal
 
 pub returns : goal.returns
 returns c =
