@@ -31,6 +31,7 @@ abbrev pub StretchesInTime : Option ℕ → List Stretch → Type 0
 StretchesInTime within stretches =
     IfSome within (λ limit. AllByRecursion (λ stretch. AreInTime limit stretch.plan stretch.rows) stretches)
 
+-- the same of their rows of earlier times than this
 abbrev pub StretchesInTimeBefore : ℕ → Option ℕ → List Stretch → Type 0
 StretchesInTimeBefore time within stretches =
     IfSome within (λ limit. AllByRecursion (λ stretch. AreInTimeBefore time limit stretch.plan stretch.rows) stretches)
