@@ -1,6 +1,6 @@
 /* What tl_judge.sv imports: a judge for each crossbar of the simulation, with the beats of the clock cycle that is under way.
  *
- * The monitors of an edge run in any order, and the judge wants beats in the order in which they cross (docs/CAPTURE.md): so they are kept
+ * The monitors of an edge run in any order, and the judge wants beats in the order in which they cross (docs/reference/captures.md): so they are kept
  * until the cycle ends. This file is C and C++, since Verilator compiles it as C++; a compiler that is given the header that the simulator
  * makes of the imports (-include Vtop__Dpi.h) compares them. */
 #include "svdpi.h"

@@ -1,5 +1,5 @@
 """The beats of a message at a data bus of 1 to 64 bytes, and their columns of a capture. They are worked out from the chapters on channels A
-and D of the TileLink specification and from docs/CAPTURE.md, and share no code with the programs."""
+and D of the TileLink specification and from docs/reference/captures.md, and share no code with the programs."""
 
 from common import BUS, OPERATIONS, REPLIES, carries_data
 

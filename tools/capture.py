@@ -3,7 +3,7 @@
 
 Each request crosses its master's link, then its port's with the wide source, and its reply comes back the same way; a request of the
 error port has no link there. A script may say how wide the data bus of each link is, and which wide sources its masters have there, as a system
-file does (docs/FORMATS.md); tlx ignores these keys, so each port has to list all masters that ask there. It needs the built program (./tlx builds
+file does (docs/reference/formats.md); tlx ignores these keys, so each port has to list all masters that ask there. It needs the built program (./tlx builds
 it; TLX=path takes another).
 """
 

@@ -1,4 +1,4 @@
-"""What a system can be covered in: the bins that its ports, masters and tables of sizes have (docs/REGRESSION.md, "What was covered"). Some of
+"""What a system can be covered in: the bins that its ports, masters and tables of sizes have (docs/guide/regression.md, "What was covered"). Some of
 them no run can hit; each such one has the reason."""
 
 from bus import reply_of

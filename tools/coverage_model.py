@@ -1,4 +1,4 @@
-"""What a capture covers, by the judge of judge_model.py (docs/REGRESSION.md, "What was covered"). Nothing of it is proved."""
+"""What a capture covers, by the judge of judge_model.py (docs/guide/regression.md, "What was covered"). Nothing of it is proved."""
 
 import collections
 

@@ -1,4 +1,4 @@
-"""The text of a capture's coverage: its first line, its kinds of lines, and their order (docs/REGRESSION.md, "What was covered")."""
+"""The text of a capture's coverage: its first line, its kinds of lines, and their order (docs/guide/regression.md, "What was covered")."""
 
 import re
 

@@ -1,5 +1,5 @@
 """The links of a crossbar by the names of a dump's signals: the standard's names behind a prefix, Chisel's, or the members of two structs.
-For tools/draft; docs/CAPTURE.md has the rules ("A system file to begin with").
+For tools/draft; docs/guide/your_rtl.md has the rules ("A system file to begin with").
 """
 
 import re
@@ -21,7 +21,7 @@ WIDTHS = {"a_opcode": 8, "a_param": 8, "a_size": 8, "d_opcode": 8, "d_param": 8,
 PARTS = (("_i", "_o"), ("_o", "_i"), ("h2d", "d2h"), ("req", "rsp"))
 MASTER_WORDS = {"host", "master", "client", "cpu"}
 PORT_WORDS = {"device", "slave", "ram", "dram", "sram", "port"}
-# What a name has to be (docs/FORMATS.md, "The system file").
+# What a name has to be (docs/reference/formats.md, "The system file").
 NAME = re.compile(r"(?![mp][0-9]+$)[A-Za-z0-9_.-]{1,32}")
 
 

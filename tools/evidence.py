@@ -19,7 +19,7 @@ from items import files_of, read
 
 FILE = os.path.join(TOP, "planted", "EVIDENCE")
 HEAD = """\
-# Each wrong body, with the goal that the prover left open when it was tried last. Written by tools/planted; docs/PLANTED.md says more.
+# Each wrong body, with the goal that the prover left open when it was tried last. Written by tools/planted; docs/design/planted.md says more.
 # crate edit sum-of-edit sum-of-cone sum-below date function: goal
 """
 

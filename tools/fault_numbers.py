@@ -117,7 +117,7 @@ def of_orders(places):
     beats = {said.text for function in ("form_number", "beat_number") for said in places.numbers(function)}
     for said in places.header:
         places.tell(said.key in used or said.key == "OK" or said.text in beats, f"{said.at}: TLX_{said.key} is in no list of faults")
-    names = places.files.words("docs/EMBEDDING.md", r"\bTLX_(?P<text>[A-Z_]+)\b", every=r"\bTLX_")
+    names = places.files.words("docs/guide/embedding.md", r"\bTLX_(?P<text>[A-Z_]+)\b", every=r"\bTLX_")
     enums = re.findall(r"\bTLX_([A-Z_]+)\b", places.files.text(HEADER))
     for said in names:
         places.tell(said.text in enums, f"{said.at}: TLX_{said.text} is no name of {HEADER}")
@@ -146,7 +146,7 @@ def of_runs(places):
     for said in (*threads, *reads, *inputs, *checks):
         places.tell(keys.get(said.key) == said.text, f"{said.at}: {said.text!r} of {said.key} is {keys.get(said.key)!r} ({places.run_faults[0].path})")
     places.said(runs, files.words("crates/tl_streams/src/streams.rt", r'#\[error\("(?P<text>[^"]+)"\)\]\npub struct WriteFault;'), is_whole=False)
-    table = [said for said in files.table("docs/FORMATS.md", "| Fault | Line | Status |\n|---|---|---|\n", 1, 2) if said.key != "2"]
+    table = [said for said in files.table("docs/reference/formats.md", "| Fault | Line | Status |\n|---|---|---|\n", 1, 2) if said.key != "2"]
     places.said([*audit, *runs, memory], table)
     for said in table:
         wanted = "3" if any(re.fullmatch(one.pattern, said.text) for one in audit) else next(

@@ -1,4 +1,4 @@
-"""A judge of captures, written from docs/CAPTURE.md and docs/FORMATS.md alone: what tlcheck has to print of a system and a capture, byte by
+"""A judge of captures, written from docs/reference/captures.md and docs/reference/formats.md alone: what tlcheck has to print of a system and a capture, byte by
 byte. It has all rows in memory, and shares no code with the programs."""
 
 import collections

@@ -1,4 +1,4 @@
-"""What a slave of a system file answers, worked out from docs/FORMATS.md: a memory each of whose bytes is known or unknown, a device, or the
+"""What a slave of a system file answers, worked out from docs/reference/formats.md: a memory each of whose bytes is known or unknown, a device, or the
 error port. An unknown byte is None; so is a byte that a put leaves unset. This shares no code with the programs."""
 
 import collections

@@ -1,5 +1,5 @@
 """The keys of a system file: a row for each, with the table that may have it, what it may say, and what it means. The limits of their values stand
-here too. The lists of keys of the other tools, docs/system.schema.json and the table of docs/FORMATS.md, "The system file", come of these
+here too. The lists of keys of the other tools, docs/system.schema.json and the table of docs/reference/formats.md, "The system file", come of these
 rows; tools/schema_test compares them with the sources of the programs."""
 
 from typing import NamedTuple
@@ -19,7 +19,7 @@ NAME = f"^(?![mp][0-9]+$)[A-Za-z0-9_.-]{{1,{MAX_NAME}}}$"
 BYTES = "^([0-9a-fA-F]{2})*$"
 # The signals that a design may have none of: their name may be `-`.
 MAY_BE_LEFT_OUT = ("a_corrupt", "d_param", "d_corrupt")
-# What a key is about: the system, where its signals are (docs/CAPTURE.md, "Your own design"), a run of tlx, or nothing.
+# What a key is about: the system, where its signals are (docs/reference/formats.md, "Dumps"), a run of tlx, or nothing.
 SYSTEM, PLACES, RUN, NOTHING = "system", "places", "run", "nothing"
 
 
@@ -218,7 +218,7 @@ RUN_ROWS = (Key("", "slots", ANYTHING, "it is a script's, and is ignored", absen
 TABLES = ("", "names", "port", "master", "sizes", "order", "sources", "wires")
 KEYS = (*SYSTEM_ROWS, *PLACES_ROWS, *RUN_ROWS,
         *(Key(table, "extra", ANYTHING, "it may have any value, and it is ignored", absent="nothing", about=NOTHING) for table in TABLES))
-# The tables whose keys have rows of their own in docs/FORMATS.md, with what stands there before their names.
+# The tables whose keys have rows of their own in docs/reference/formats.md, with what stands there before their names.
 PATHS = {"": "", "port": "port.", "sources": "port.sources.", "master": "master."}
 
 
@@ -252,6 +252,6 @@ def absent_of(row):
 
 
 def page_rows():
-    """The table of docs/FORMATS.md, "The system file": the cells of each row."""
+    """The table of docs/reference/formats.md, "The system file": the cells of each row."""
     return [(f"`{PATHS[row.table]}{row.name}`", row.value.type, row.value.range, absent_of(row), row.meaning)
             for row in SYSTEM_ROWS if row.table in PATHS]

@@ -15,7 +15,7 @@ EXTRAS = ("a_corrupt", "d_param", "d_sink")
 WIDTHS = {"address": 64, "source": 16, "size": 4, "d_param": 8}
 # Those of a master's link that the master drives; the slave drives them at no port's link.
 BY_MASTERS = ("a_valid", "a_opcode", "a_param", "a_size", "a_source", "a_address", "a_mask", "a_data", "a_corrupt", "d_ready")
-# The sizes that a kind of slave serves, by the names of the table of sizes; docs/FORMATS.md, "What is answered".
+# The sizes that a kind of slave serves, by the names of the table of sizes; docs/reference/formats.md, "What is answered".
 ALL = (0, MAX_SIZE)
 KIND_SIZES = {"ram": {"get": ALL, "putfull": ALL, "putpart": ALL, "arithmetic": (2, 3), "logical": (2, 3), "intent": ALL},
               "rom": {"get": ALL, "intent": ALL}, "regs": {"get": (2, 3), "putfull": (2, 3)}, "w1c": {"get": (2, 3), "putfull": (2, 3)}}

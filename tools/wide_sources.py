@@ -1,4 +1,4 @@
-"""The wide sources that the masters of a system have at the links of its ports, and which ports each master reaches (docs/FORMATS.md, "The system
+"""The wide sources that the masters of a system have at the links of its ports, and which ports each master reaches (docs/reference/formats.md, "The system
 file"). It is worked out from that page alone, and shares no code with the programs."""
 
 

@@ -1,4 +1,4 @@
-//! The yardstick: a plain Rust program, std alone and nothing proved, that judges captured traces as `docs/CAPTURE.md` says.
+//! The yardstick: a plain Rust program, std alone and nothing proved, that judges captured traces as `docs/reference/captures.md` says.
 //! Its arguments are those of `tlcheck`. It takes SYSTEM for a script that `bench/serial` could have made, and the capture is
 //! streamed: rows of one time are kept, and of each link what is under way.
 use std::env;

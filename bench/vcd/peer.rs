@@ -1,4 +1,4 @@
-//! The yardstick: a plain Rust program, std alone and nothing proved, that makes captures of dumps as `docs/CAPTURE.md` says. Its
+//! The yardstick: a plain Rust program, std alone and nothing proved, that makes captures of dumps as `docs/reference/captures.md` says. Its
 //! arguments are those of `tlvcd`. It takes SYSTEM for one that `bench/vcd/run` made; the dump is streamed.
 use std::collections::HashMap;
 use std::env;

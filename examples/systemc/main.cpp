@@ -1,6 +1,6 @@
 // Random initiators before a tlx::target: `main SYSTEM SEED COUNT SCRIPT TRACE`. Each master of SYSTEM sends COUNT requests, one master
 // after the other as `tlx --serial` does; SCRIPT is then the system with what they sent, and TRACE what they were answered, in the words
-// of docs/FORMATS.md. Now and then an initiator sends what no request can say, which has to be refused and to leave no trace.
+// of docs/reference/formats.md. Now and then an initiator sends what no request can say, which has to be refused and to leave no trace.
 #include <cstdio>
 #include <fstream>
 #include <iostream>

@@ -11,7 +11,7 @@ The judge takes the beats of a crossbar, and raises Unlawful at the first that i
     judge.step(tlx.Beat.ask("m0", tlx.Ask.GET, size=2, source=1, address=0x1000, mask=0x0F))
 
 Monitor makes beats of a design's signals. All of it is the library of C behind `include/tlx.h`: this package has no rule of its own.
-`docs/EMBEDDING.md` has a first use. A value of a wrong type is a TypeError, one that is too large an OverflowError, and one without a
+`docs/guide/embedding.md` has a first use. A value of a wrong type is a TypeError, one that is too large an OverflowError, and one without a
 meaning a ValueError. Unlawful and Incomplete are verdicts.
 """
 

@@ -11,7 +11,7 @@ _FIELDS = {Channel.A: ("opcode", "param", "size", "source", "address", "mask", "
            Channel.D: ("opcode", "size", "source", "denied", "data", "corrupt")}
 _ACCESS_ACK_DATA = 1
 _HANDSHAKE = ("valid", "ready")
-# Within a clock cycle beats cross in this order, and of each by rising number (docs/CAPTURE.md, "The order of beats").
+# Within a clock cycle beats cross in this order, and of each by rising number (docs/reference/captures.md, "The order of beats").
 _CROSSING = ((Channel.A, Side.MASTER), (Channel.A, Side.PORT), (Channel.D, Side.PORT), (Channel.D, Side.MASTER))
 
 

@@ -12,7 +12,7 @@ Images = Mapping[int, bytes] | Callable[[str], bytes]
 
 
 class System:
-    """The text of a system file, or of a script of tlx, which is one (docs/FORMATS.md), and the images of its ports. It holds nothing that must
+    """The text of a system file, or of a script of tlx, which is one (docs/reference/formats.md), and the images of its ports. It holds nothing that must
     be given back.
 
     text: str, or bytes of UTF-8. images: the bytes of the ports' images, by the numbers of the ports that name one; or a function that

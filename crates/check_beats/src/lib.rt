@@ -11,7 +11,7 @@
 //! also say that lanes and bits past the bus mean nothing. On a bus of 8 bytes the beats of a message are those of `tl_beats`
 //! (`check_beats_eight`).
 //!
-//! Read on in `docs/MODEL.md`, "Links of any width".
+//! Read on in `docs/design/model.md`, "Links of any width".
 #![tactic(auto)]
 
 mod ask;

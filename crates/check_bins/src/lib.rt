@@ -5,7 +5,7 @@
 //! (`specs/Counting.antt`); a count stops at 2^64 - 1. [`Counts::append`] appends them as a text: a head line, and a line
 //! for each bin that occurred, in the order of [`Bin`] (`specs/Text.antt`).
 //!
-//! Read on in `docs/REGRESSION.md`, "What was covered", which has the table of bins.
+//! Read on in `docs/guide/regression.md`, "What was covered", which has the table of bins.
 #![tactic(auto)]
 
 mod bin;

@@ -9,7 +9,7 @@
 //!
 //! The link layer (`check_beats`) gathers replies as patterns, and memories (`check_memory`) answer them.
 //!
-//! Read on in `docs/MODEL.md`, "Bytes known and unknown".
+//! Read on in `docs/design/model.md`, "Bytes known and unknown".
 #![tactic(auto)]
 
 mod cells;

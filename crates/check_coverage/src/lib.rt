@@ -11,7 +11,7 @@
 //!
 //! Messages are counted at the masters' links if these are watched, else at the ports'. A count stops at 2^64 - 1.
 //!
-//! Read on in `docs/REGRESSION.md`, "What was covered", which has the table of bins.
+//! Read on in `docs/guide/regression.md`, "What was covered", which has the table of bins.
 #![tactic(auto)]
 
 mod coverage;

@@ -14,7 +14,7 @@
 //! What is a TOML document, and what its table is, is the crate `toml`'s own definition, `parse_document`. `laws` says that a
 //! port that is wholly known at reset is the sequential memory of `tl_ops`.
 //!
-//! Read on in `docs/MODEL.md`, "Ports of system files" and "Descriptions".
+//! Read on in `docs/design/model.md`, "Ports of system files" and "Descriptions".
 #![tactic(auto)]
 
 mod apart;

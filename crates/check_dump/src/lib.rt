@@ -6,7 +6,7 @@
 //! answered, unless the rows before it are unlawful ([`ReplayFault`], `specs/Replay.antt`).
 //!
 //! Nothing here keeps a row: memory is that of the judge, of the rows of one time, and of what is reported of one time. Read
-//! on in `docs/CAPTURE.md`, "Your own design".
+//! on in `docs/reference/formats.md`, "Dumps".
 #![tactic(auto)]
 
 mod fault;

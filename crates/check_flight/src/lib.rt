@@ -9,7 +9,7 @@
 //!
 //! Each step promises what is kept from then on, and that all else stays; one that needs a page of memory and does not
 //! get it changes nothing. Which beats are lawful is not said here: a step asks only that its beat is one of the message
-//! under way. Read on in `docs/MODEL.md`, "What is in flight on links of any width".
+//! under way. Read on in `docs/design/model.md`, "What is in flight on links of any width".
 #![tactic(auto)]
 
 mod answer;

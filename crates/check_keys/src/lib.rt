@@ -7,7 +7,7 @@
 //! (`specs/Known.antt`), with the nearest that there is ([`TableKind`], [`nearest`]). What the keys of a port mean is the
 //! crate `check_description`.
 //!
-//! No other crate reads a table of the crate `toml`. Read on in `docs/MODEL.md`, "Keys of system files".
+//! No other crate reads a table of the crate `toml`. Read on in `docs/design/model.md`, "Keys of system files".
 #![tactic(auto)]
 
 mod bus;

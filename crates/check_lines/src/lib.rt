@@ -8,7 +8,7 @@
 //!
 //! Each call appends exactly the text of its definition. If memory is refused, the text begins with what it was.
 //!
-//! Read on in `docs/FORMATS.md`, which has the lines with examples, and in `docs/MODEL.md`, "Traces of others".
+//! Read on in `docs/reference/formats.md`, which has the lines with examples, and in `docs/design/model.md`, "Traces of others".
 #![tactic(auto)]
 
 mod breach;

@@ -10,7 +10,7 @@
 //! `laws` says that a memory that is wholly known is the sequential memory of `tl_ops`, and that the true reply fits
 //! whatever the unknown bytes are. The bytes stand in pages (`pages`), which are made as they are written.
 //!
-//! Read on in `docs/MODEL.md`, "The judge's memory".
+//! Read on in `docs/design/model.md`, "The judge's memory".
 #![tactic(auto)]
 
 pub mod laws;

@@ -7,7 +7,7 @@
 //! read as is clap's.
 //!
 //! This crate stands on clap, and of the crates for captures on the two choices that the options name: `Links` of
-//! `check_sides` and `Order` of `check_flight`. Read on in `docs/CAPTURE.md`, "The command".
+//! `check_sides` and `Order` of `check_flight`. Read on in `docs/reference/captures.md`, "The command".
 #![tactic(auto)]
 
 pub mod laws;

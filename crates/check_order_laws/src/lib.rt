@@ -6,7 +6,7 @@
 //! are lawful by the third. [`laws::any_loses_nothing_uncontested`]: by the third no more beats are lawful than by the first,
 //! if no two requests that are accepted and not answered have a byte in common that one of them may write.
 //!
-//! Nothing runs here. Read `specs/Looser.antt` first, and then `specs/Open.antt`. `docs/MODEL.md`, "What the order `any`
+//! Nothing runs here. Read `specs/Looser.antt` first, and then `specs/Open.antt`. `docs/design/model.md`, "What the order `any`
 //! costs", reads them aloud.
 #![tactic(auto)]
 

@@ -9,7 +9,7 @@
 //! what was covered to a file, and [`end_check`] says with which status the program ends.
 //!
 //! A [`Shown`] is a reader that shows on standard error how far the capture is read (a [`Meter`] prints a [`Line`]), and an
-//! [`Erasing`] is a writer that erases that line first. Both hand on each byte. Read on in `docs/CAPTURE.md`.
+//! [`Erasing`] is a writer that erases that line first. Both hand on each byte. Read on in `docs/reference/captures.md`.
 //!
 //! It is a library, so that its tests stand in a crate above it (`check_program_tests`).
 #![tactic(auto)]

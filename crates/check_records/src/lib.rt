@@ -11,7 +11,7 @@
 //! [`Records::bare`] has that line (`specs/Bare.antt`). Of other records a field that begins with no quote and stands
 //! whole in what was read is taken at once; other bytes go one by one through the state machine of `csv`. The reader
 //! underneath is read in chunks of 64 KiB, and nothing is allocated after [`Records::new`]. A read that is interrupted
-//! is made again, a bounded number of times in a row. Read on in `docs/CAPTURE.md`, which has the format.
+//! is made again, a bounded number of times in a row. Read on in `docs/reference/captures.md`, which has the format.
 #![tactic(auto)]
 
 mod bare;

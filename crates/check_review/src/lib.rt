@@ -16,7 +16,7 @@
 //! limit of time no request may wait longer for its reply: those that wait are kept (`specs/Waiting.antt`), and rows are lawful only
 //! if none waits too long when one of them crosses (`specs/Times.antt`).
 //!
-//! Read on in `docs/MODEL.md`, "Traces of others".
+//! Read on in `docs/design/model.md`, "Traces of others".
 #![tactic(auto)]
 
 mod begin;

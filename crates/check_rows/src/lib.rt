@@ -11,7 +11,7 @@
 //! The columns and their names stand once (`specs/Column.antt`). At a port's link sources may have numbers of the link's own:
 //! [`number_row`] gives a row the system's (`specs/PortNumbers.antt`).
 //!
-//! Read on in `docs/CAPTURE.md`, which has the format with examples.
+//! Read on in `docs/reference/captures.md`, which has the format with examples.
 #![tactic(auto)]
 
 mod buses;

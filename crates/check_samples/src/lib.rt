@@ -12,7 +12,7 @@
 //!
 //! A value is kept in a slot of [`Values`], and a [`Tap`] says which of its digits are a signal. Parts of values are put
 //! together, whenever a time begins, in one more value behind those that are kept: there are the signals of several
-//! parts. Read on in `docs/CAPTURE.md`, "Your own design".
+//! parts. Read on in `docs/reference/formats.md`, "Dumps".
 #![tactic(auto)]
 
 mod channel;

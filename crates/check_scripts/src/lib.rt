@@ -7,7 +7,7 @@
 //!   the beats that spell a message. The message that `check_beats` gathers is the one that the beats spell in `tl_beats`
 //!   (`specs/Beats.antt`).
 //!
-//! Nothing runs here. Read on in `docs/MODEL.md`, "Scripts as system files" and "Links of any width".
+//! Nothing runs here. Read on in `docs/design/model.md`, "Scripts as system files" and "Links of any width".
 #![tactic(auto)]
 
 pub mod beats;

@@ -13,7 +13,7 @@
 //! which a port's slave serves a request; at a port's link that is judged by itself, also to the first request of a
 //! source, for which room is made there.
 //!
-//! Read on in `docs/MODEL.md`, "Groups of links of any width".
+//! Read on in `docs/design/model.md`, "Groups of links of any width".
 #![tactic(auto)]
 
 mod flights;

@@ -7,7 +7,7 @@
 //! declared bit by bit it is several parts (`specs/Nets.antt`), and of a wire that names several signals too
 //! (`specs/Parts.antt`). What is then looked at and kept, or the first fault, is in `specs/Found.antt`.
 //!
-//! Read on in `docs/CAPTURE.md`, "Your own design".
+//! Read on in `docs/reference/formats.md`, "Dumps".
 #![tactic(auto)]
 
 mod clocks;

@@ -7,7 +7,7 @@
 //!
 //! A [`Beginning`] has the names and buses of the links beside the judge, and whether there may be resets of the whole
 //! system. Of a port that lists masters it has the numbers of sources at its link (`specs/Numbers.antt`). Its [`Loads`] make
-//! what a reset loads into the slaves, anew for each reset (`specs/Loads.antt`). Read on in `docs/MODEL.md`, "How a judge
+//! what a reset loads into the slaves, anew for each reset (`specs/Loads.antt`). Read on in `docs/design/model.md`, "How a judge
 //! begins".
 #![tactic(auto)]
 

@@ -9,7 +9,7 @@
 //! cover, if it was to.
 //!
 //! Nothing here keeps a row: memory is that of the judge, of one record, and of what is reported of one time. Read on in
-//! `docs/CAPTURE.md`.
+//! `docs/reference/captures.md`.
 #![tactic(auto)]
 
 mod capture;

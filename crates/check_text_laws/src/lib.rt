@@ -13,7 +13,7 @@
 //!   to the replies. If no line says `contested` at a port, the order `any` let nothing pass there that the order `accept`
 //!   would have refused.
 //!
-//! Nothing runs here. Read `specs/`, and `docs/MODEL.md`, "Groups of links of any width" and "What the counts add up to".
+//! Nothing runs here. Read `specs/`, and `docs/design/model.md`, "Groups of links of any width" and "What the counts add up to".
 #![tactic(auto)]
 
 pub mod counts;

@@ -9,7 +9,7 @@
 //! beat more is lawful, if memory is not refused; an `Err` changes nothing, and is the first fault of the beat, or want of
 //! memory. All memory for the order of replies is asked for by [`OrderedWatch::new`].
 //!
-//! Read on in `docs/MODEL.md`, "Replies in order".
+//! Read on in `docs/design/model.md`, "Replies in order".
 #![tactic(auto)]
 
 pub mod laws;

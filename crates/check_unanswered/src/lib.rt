@@ -7,7 +7,7 @@
 //!
 //! After a reset of the whole system nothing is in flight: [`Pending::reset`] begins anew, and rows are counted from there.
 //!
-//! A message that is under way is one of a request in flight, so it is left too. Read on in `docs/MODEL.md`, "Requests that
+//! A message that is under way is one of a request in flight, so it is left too. Read on in `docs/design/model.md`, "Requests that
 //! are left".
 #![tactic(auto)]
 

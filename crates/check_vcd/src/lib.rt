@@ -6,8 +6,7 @@
 //! time, or a change of a value that is wanted (`specs/Body.antt`). Each answer, and each fault with its line, is that
 //! of the definitions over the words of the whole text (`specs/Dump.antt`).
 //!
-//! Nothing is allocated after the header, except room for the longest value. Read on in `docs/CAPTURE.md`, "Your own
-//! design".
+//! Nothing is allocated after the header, except room for the longest value. Read on in `docs/reference/formats.md`, "Dumps".
 #![tactic(auto)]
 
 mod body;

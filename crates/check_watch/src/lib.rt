@@ -15,7 +15,7 @@
 //! beat with which a request takes effect can need a page of memory: [`StepError::Memory`] says that a lawful beat
 //! was refused one.
 //!
-//! Read on in `docs/MODEL.md`, "The judge over links of any width".
+//! Read on in `docs/design/model.md`, "The judge over links of any width".
 #![tactic(auto)]
 
 mod asks;

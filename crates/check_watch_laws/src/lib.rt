@@ -10,7 +10,7 @@
 //!
 //! Nothing runs here. Read `specs/Crossed.antt` first (which messages a list of beats shows), and then the file of
 //! each law: `specs/Messages.antt`, `specs/Memories.antt`, `specs/Crossings.antt`, `specs/Moments.antt`,
-//! `specs/Whenever.antt`. `docs/MODEL.md`, "What `lawful` means", reads them aloud.
+//! `specs/Whenever.antt`. `docs/design/model.md`, "What `lawful` means", reads them aloud.
 #![tactic(auto)]
 
 pub mod laws;

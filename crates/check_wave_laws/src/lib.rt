@@ -15,7 +15,7 @@
 //! writes, and [`laws::sampled_rows_are_one`] that there are no other such rows.
 //!
 //! Nothing runs here. Read `specs/Sampled.antt`, what sampling means, `specs/Seen.antt`, what signals show,
-//! `specs/Rows.antt` and `specs/Text.antt`, and then `docs/MODEL.md`, "Dumps".
+//! `specs/Rows.antt` and `specs/Text.antt`, and then `docs/design/model.md`, "Dumps".
 #![tactic(auto)]
 
 pub mod laws;

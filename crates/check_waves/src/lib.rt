@@ -6,7 +6,7 @@
 //! rows before it are written. [`open_dump`] opens a dump by itself: then its rows are read one by one, and no capture is
 //! written. [`read_wave_options`] reads the command line: the words are taken or refused as clap's definitions
 //! say, and name these files (`specs/Options.antt`, `laws`). [`end_waves`] says with which status the program ends. Read on in
-//! `docs/CAPTURE.md`, "Your own design".
+//! `docs/reference/formats.md`, "Dumps".
 //!
 //! It is a library, so that its tests stand in a crate above it (`check_program_tests`): a crate with tests is proved
 //! twice.

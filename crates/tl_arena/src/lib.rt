@@ -10,7 +10,7 @@
 //! arena was made, after all that the master had collected there when it posted ([`Arena::collect`]). At the end
 //! [`Arena::close`] gives an account of every slot.
 //!
-//! Read on in `docs/MODEL.md`, "The running arena". The tests of its calls are the crate `tl_arena_tests`.
+//! Read on in `docs/design/model.md`, "The running arena". The tests of its calls are the crate `tl_arena_tests`.
 #![tactic(auto)]
 
 mod account;

@@ -8,7 +8,7 @@
 //! What follows for a reader of the traces is a law ([`laws`], `specs/Reader.antt`): they are those of one thread that
 //! serves each port's history from reset.
 //!
-//! Read on in `docs/MODEL.md`, "The audit".
+//! Read on in `docs/design/model.md`, "The audit".
 #![tactic(auto)]
 
 mod books;

@@ -1,6 +1,6 @@
 //! tlx as a library of C: systems, models and judges behind handles that the caller owns.
 //!
-//! `include/tlx.h` is the interface, call by call; `docs/EMBEDDING.md` has a first use. Each export takes what a handle
+//! `include/tlx.h` is the interface, call by call; `docs/guide/embedding.md` has a first use. Each export takes what a handle
 //! holds, has the public calls of the crates below do the work, and puts it back. Most take one call; a judge that is
 //! made, a request that is served and a beat that is judged take several. Its clauses are those of these calls, said of
 //! what the handle holds.

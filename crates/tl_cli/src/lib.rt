@@ -7,7 +7,7 @@
 //! [`fail`], [`no_memory`], [`unread`] and [`refused`] end a program that has a fault, with its line and its status.
 //!
 //! The programs `tlx`, `tlcheck` and `tlvcd` read their command lines and end through this. What their options are stands
-//! in `tl_options`, `check_options` and `check_waves`. Read on in `docs/MODEL.md`, "The command line".
+//! in `tl_options`, `check_options` and `check_waves`. Read on in `docs/design/model.md`, "The command line".
 #![tactic(auto)]
 
 mod ends;

@@ -7,7 +7,7 @@
 //! Each call's contract says which list it leaves; what was appended is read back as it was. If room for an entry
 //! was made before, appending it takes no memory.
 //!
-//! Read on in `docs/MODEL.md`, "Journals".
+//! Read on in `docs/design/model.md`, "Journals".
 #![tactic(auto)]
 
 mod journal;

@@ -8,7 +8,7 @@
 //! Nothing but [`Crossbar::new`] takes memory. `laws` says what calls in a row come to: the bytes of a port are its
 //! bytes at reset after the requests that it served, and each answer is that memory's.
 //!
-//! Read on in `docs/MODEL.md`, "The model, call by call".
+//! Read on in `docs/design/model.md`, "The model, call by call".
 #![tactic(auto)]
 
 mod crossbar;

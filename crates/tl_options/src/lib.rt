@@ -6,7 +6,7 @@
 //! refusals print.
 //!
 //! This crate stands on clap and nothing of the crossbar but its limits, so that it is proved beside the engines. Read
-//! on in `docs/MODEL.md`, "The command line".
+//! on in `docs/design/model.md`, "The command line".
 #![tactic(auto)]
 
 pub mod laws;

@@ -10,8 +10,8 @@
 //! `serial_engine` and `threads_engine` (`engine`) carry the theorems of the program: what is written is the text of the
 //! serial run (crate `tl_serial`), or of a run by threads, of the system that all of the input spells. The crate
 //! `tl_streams` reads that and writes, within bounds; `tl_options` reads the command line. `run` says which of the two
-//! texts is written, and `ended` with which status the program ends. Read on in `docs/ARCHITECTURE.md` and
-//! `docs/MODEL.md`, "Runs".
+//! texts is written, and `ended` with which status the program ends. Read on in `docs/design/architecture.md` and
+//! `docs/design/model.md`, "Runs".
 //!
 //! It is a library, so that its tests stand in a crate above it (`tl_run_tests`): a crate with tests is proved twice.
 #![tactic(auto)]

@@ -9,7 +9,7 @@
 //! There is no thread and no atomic here. There is no code, except types of views, of which no value is ever made: the
 //! calls are in `tl_arena`.
 //!
-//! Read on in `docs/MODEL.md`, "The running arena".
+//! Read on in `docs/design/model.md`, "The running arena".
 #![tactic(auto)]
 
 pub mod laws;

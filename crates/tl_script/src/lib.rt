@@ -10,7 +10,7 @@
 //!
 //! What is a TOML document, and what its table is, is the crate `toml`'s own definition, `parse_document`.
 //!
-//! Read on in `docs/FORMATS.md`, which has the formats with examples, and in `docs/MODEL.md`, "Texts".
+//! Read on in `docs/reference/formats.md`, which has the formats with examples, and in `docs/design/model.md`, "Texts".
 #![tactic(auto)]
 
 mod data;

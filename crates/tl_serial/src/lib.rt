@@ -4,7 +4,7 @@
 //! system has exactly one such run ([`laws`]). [`write_serial`] answers their text, and keeps nothing of what was served
 //! if no histories are asked for. No arena is used, and no thread is started. Only want of memory is answered.
 //!
-//! Read on in `docs/MODEL.md`, "Runs".
+//! Read on in `docs/design/model.md`, "Runs".
 #![tactic(auto)]
 
 pub mod laws;

@@ -7,7 +7,7 @@
 //! that are tried again since they were interrupted): so whatever a stream does, they end. [`NamedFile`] is a file that is
 //! opened when it is read.
 //!
-//! The programs `tlx`, `tlcheck` and `tlvcd` read and write through this. Read on in `docs/PROVED.md`.
+//! The programs `tlx`, `tlcheck` and `tlvcd` read and write through this. Read on in `docs/design/proved.md`.
 #![tactic(auto)]
 
 mod file;

@@ -6,8 +6,8 @@
 //! [`push_hex`] and [`push_field`] append a number to a text. `specs/Reading.antt` says how the checks of a text follow
 //! one another, for all readers of scripts, system files, rows and dumps.
 //!
-//! Each answer is pinned to its definition. Read on in `docs/FORMATS.md`, which has the formats with examples, and in
-//! `docs/MODEL.md`, "Texts".
+//! Each answer is pinned to its definition. Read on in `docs/reference/formats.md`, which has the formats with examples, and in
+//! `docs/design/model.md`, "Texts".
 #![tactic(auto)]
 
 mod digits;

@@ -5,7 +5,7 @@
 //! and lawful, the account is that of the arena at its end, and every master has left ([`ThreadedRun`]). What such a run
 //! needs is made by `run_threads` (`tl_program`). [`threaded_text`] makes the text of a run.
 //!
-//! Read on in `docs/MODEL.md`, "Runs by threads".
+//! Read on in `docs/design/model.md`, "Runs by threads".
 #![tactic(auto)]
 
 mod named;

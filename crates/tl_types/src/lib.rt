@@ -9,7 +9,7 @@
 //! that costs little if they are few ([`write_over`]), the pattern of "the first fault that applies"
 //! (`specs/Fault.antt`), and lemmas on lists (`proofs/Lists.antt`).
 //!
-//! Read on in `docs/MODEL.md`, "Messages".
+//! Read on in `docs/design/model.md`, "Messages".
 #![tactic(auto)]
 
 mod bytes;

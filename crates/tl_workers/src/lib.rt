@@ -9,7 +9,7 @@
 //! `master_thread` is what a master's thread does, `worker_thread` what one of a port's does, `context` what all of
 //! them share, `bell` how they wake each other, `start` and `run` how they are started, joined and stopped.
 //!
-//! Read on in `docs/MODEL.md`, "Runs by threads".
+//! Read on in `docs/design/model.md`, "Runs by threads".
 #![tactic(auto)]
 
 mod bell;
