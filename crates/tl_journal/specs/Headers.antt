@@ -28,6 +28,7 @@ reply_in pools header = record {
   bytes = plain_in pools header.answer_start (reply_byte_count header.answer header.answer_size);
 }
 
+-- the request and the reply that a header stands for.
 abbrev pub entry_in : PoolsView → Header → Request × Response
 entry_in pools header = (ask_in pools header, reply_in pools header)
 

@@ -23,6 +23,8 @@ script_kind_of word =
     else if bytes_eq word (codes "w1c") then Some ClearRegs
     else None
 
+-- the kind that a port's table names: the key has to be there, its value has to be a text, and the text one of the four
+-- words.
 unfoldable pub kind_at : Members → Result kind_of_slave.Kind ScriptFault
 kind_at members = do
   value ← script_value_at Kind members

@@ -56,10 +56,11 @@ script_parts bytes = script_document bytes >>= parts_in
 
 -- ---- the system of the parts
 
--- the addresses of the ports, and how many sources the masters have
+-- the range of addresses of each port, in order.
 abbrev pub script_ranges : ScriptParts → List Range
 script_ranges parts = map range_of parts.stores
 
+-- how many sources each master has, in order.
 abbrev pub counts_of : ScriptParts → List ℕ
 counts_of parts = map (λ (master : ScriptMaster). master.sources) parts.masters
 
