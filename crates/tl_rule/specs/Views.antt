@@ -16,7 +16,7 @@ use Rattle.tl_rule.specs.Serving.{ask_at}
 
 -- ---- what never changes
 
--- the wide source is one of the master's
+-- the wide source is one of the master's. The padding of a block is nobody's.
 abbrev pub Owns : About → ℕ → ℕ → Type 0
 Owns about master wide = IsOf about.owners master wide
 

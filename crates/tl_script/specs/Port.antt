@@ -38,7 +38,8 @@ pairs_of (high ∷ []) = None
 pairs_of (high ∷ low ∷ more) =
     option_and_then (λ byte. option_map (λ bytes. byte ∷ bytes) (pairs_of more)) (pair_of high low)
 
--- the bytes of a reset: those that its pairs spell, at most `count`, and zero bytes after them up to `count`
+-- the bytes of a reset: those that its pairs spell, at most `count`, and zero bytes after them up to `count`. Digits may
+-- be in either case.
 unfoldable pub filled : ℕ → List ℕ → Result (List ℕ) ScriptFault
 filled count text =
     if nat_lt (2 * count) (length text) then Err (OutOfRange Reset)
@@ -57,7 +58,8 @@ reset_at count members = reset_text (get_member (script_key_name Reset) members)
 abbrev pub last_base : ℕ
 last_base = 2 ^ 63 - 1
 
--- the slave of a port
+-- the slave of a port. Its kind is read first, then its base, from 0 to 2^63 - 1, its length, from 0 to 65,536, and its
+-- reset.
 unfoldable pub port_of : Members → Result Store ScriptFault
 port_of members = do
   kind ← kind_at members

@@ -58,7 +58,8 @@ pub record IsCodeOf (op : AskOp) (opcode param : ℕ) : Type 0 where
   pub opcode_is : opcode_of op ≡ opcode
   pub param_is : param_of op ≡ param
 
--- the fault is one of these numbers: opcodes 6 and 7 are the cached operations of TL-C, and there are none from 8 on
+-- the fault is one of these numbers: opcodes 6 and 7 are the cached operations of TL-C, and there are none from 8 on. A
+-- parameter is unknown if no operation has the two numbers.
 abbrev pub HasOpFault : ℕ → ℕ → OpFault → Type 0
 HasOpFault opcode param Cached = (opcode ≡ 6) ⊎ (opcode ≡ 7)
 HasOpFault opcode param UnknownOpcode = 8 ≤ opcode
