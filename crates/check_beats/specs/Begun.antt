@@ -14,6 +14,7 @@ pub record IsAskBegun (bus : ℕ) (begun : AskBegun) : Type 0 where
   pub counted : length begun.bytes ≡ begun.beats * bus
   pub whole : may_leave_unset (op_of begun.first.opcode begun.first.param) ≡ false → All (λ b. IsSome b) begun.bytes
 
+-- if a request is under way, what is kept of it is so.
 pub record IsAskKept (bus : ℕ) (begun : Option AskBegun) : Type 0 where
   pub of : (b : AskBegun) → begun ≡ Some b → IsAskBegun bus b
 
@@ -25,5 +26,6 @@ pub record IsReplyBegun (bus : ℕ) (begun : ReplyBegun) : Type 0 where
   pub counted : length begun.bytes ≡ begun.beats * bus
   pub clean : IsTrue begun.first.denied → All (λ b. b ≡ Some 0) begun.bytes
 
+-- if a reply is under way, what is kept of it is so.
 pub record IsReplyKept (bus : ℕ) (begun : Option ReplyBegun) : Type 0 where
   pub of : (b : ReplyBegun) → begun ≡ Some b → IsReplyBegun bus b

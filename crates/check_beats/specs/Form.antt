@@ -53,7 +53,8 @@ pub record FitsAsk (bus : ℕ) (begun : Option AskHead) (beat : AskHead) : Type 
 abbrev pub IsKnown : AskHead → ℕ → Type 0
 IsKnown beat known = beat.opcode < 4 → bit_and beat.mask known ≡ beat.mask
 
--- the beat has this fault as one of a request
+-- the beat has this fault as one of a request. Each fault is the failure of a line of `IsFormed` or `Continues`, but for
+-- `Unaligned`, which the rules of the links say, and `UnknownData`, the failure of `IsKnown`.
 abbrev pub HasAskFormFault : ℕ → LinkRules → Option AskHead → AskHead → ℕ → FormFault → Type 0
 HasAskFormFault bus rules begun beat known Changed = Continues SameFields begun beat → ⊥
 HasAskFormFault bus rules begun beat known Opcode = (op : AskOp) → IsCodeOf op beat.opcode beat.param → ⊥
@@ -87,6 +88,7 @@ pub record IsFormedReply (beat : ReplyHead) : Type 0 where
   pub in_limit : beat.size ≤ MAX_SIZE
   pub flag : IsRightMark op beat.denied beat.corrupt
 
+-- the beat is lawful alone, and is one of the reply that is under way, if one is.
 pub record FitsReply (begun : Option ReplyHead) (beat : ReplyHead) : Type 0 where
   pub formed : IsFormedReply beat
   pub same : Continues SameReplyFields begun beat
@@ -99,7 +101,7 @@ IsKnownReply bus address beat known =
     → bit_and (active_mask_on_bus bus address beat.size) known ≡ active_mask_on_bus bus address beat.size
 
 -- the beat has this fault as one of a reply; which of its lanes carry a byte is said by the request that it answers, and
--- so not here
+-- so not here. Each fault is the failure of a line of `IsFormedReply` or `Continues`.
 abbrev pub HasReplyFormFault : Option ReplyHead → ReplyHead → FormFault → Type 0
 HasReplyFormFault begun beat Changed = Continues SameReplyFields begun beat → ⊥
 HasReplyFormFault begun beat Opcode = (op : ReplyOp) → reply_opcode_of op ≡ beat.opcode → ⊥
@@ -129,5 +131,6 @@ form_rank UnknownData = 8
 abbrev pub IsFirstAskFormFault : ℕ → LinkRules → Option AskHead → AskHead → ℕ → FormFault → Type 0
 IsFirstAskFormFault bus rules begun beat known = IsFirstOf (HasAskFormFault bus rules begun beat known) form_rank
 
+-- the fault is the first one, in that order, that the beat has as one of a reply.
 abbrev pub IsFirstReplyFormFault : Option ReplyHead → ReplyHead → FormFault → Type 0
 IsFirstReplyFormFault begun beat = IsFirstOf (HasReplyFormFault begun beat) form_rank

@@ -79,6 +79,7 @@ abbrev pub replying : ℕ → List ReplyBeat → Option ReplyBegun
 replying bus [] = None
 replying bus (beat ∷ past) = reply_after bus (replying bus past) beat.head beat.known beat.lanes
 
+-- each beat of channel D fits after those before it, and has the lanes of the bus.
 abbrev pub AreFittingReplies : ℕ → List ReplyBeat → Type 0
 AreFittingReplies bus [] = Unit {0}
 AreFittingReplies bus (beat ∷ past) =
@@ -125,6 +126,7 @@ ReplyChannelIsCutUp =
     → reply_channel past
     ≡ flat_map (λ (entry : (ℕ → Pattern) × List ReplyBeat). entry.1) (ended_replies bus past) ++ begun_reply bus past
 
+-- there are beats that complete these to those of a lawful reply, whatever the address of its request.
 abbrev pub ReplyCanEndSo : ℕ → List ReplyBeat → Type 0
 ReplyCanEndSo bus beats = (reply : ℕ → Pattern) × (rest : List ReplyBeat) × IsReplySpelled bus (reply, beats ++ rest)
 
@@ -143,6 +145,7 @@ pub record AskIsOnBus (bus : ℕ) (begun : Option AskBegun) (beat : AskHead) (kn
   pub mask : IsFormed bus beat → beat.mask < 2 ^ bus
   pub known_bits : IsFormed bus beat → (IsKnown beat (known % 2 ^ bus) ↔ IsKnown beat known)
 
+-- so it is of each beat of a request, on each bus, after all that may be under way.
 abbrev pub AsksAreOnBus : Type 0
 AsksAreOnBus =
     (bus : Bus) (begun : Option AskBegun) (beat : AskHead) (known : ℕ) (lanes : List ℕ)
@@ -157,6 +160,7 @@ pub record ReplyIsOnBus
       ≡ reply_after bus begun beat known lanes
   pub known_bits : IsKnownReply bus address beat (known % 2 ^ bus) ↔ IsKnownReply bus address beat known
 
+-- so it is of each beat of a reply, on each bus, after all that may be under way.
 abbrev pub RepliesAreOnBus : Type 0
 RepliesAreOnBus =
     (bus : Bus) (begun : Option ReplyBegun) (address : ℕ) (beat : ReplyHead) (known : ℕ) (lanes : List ℕ)

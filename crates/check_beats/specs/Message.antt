@@ -26,10 +26,12 @@ ask_beats bus beat = beat_count_on_bus bus (nat_lt beat.opcode 4) beat.size
 abbrev pub reply_beats : ℕ → ReplyHead → ℕ
 reply_beats bus beat = beat_count_on_bus bus (beat.opcode == 1) beat.size
 
+-- the arithmetic operation that a parameter stands for; a parameter from 4 on gives Add.
 abbrev pub arith_of : ℕ → Arith
 arith_of param =
     if param == 0 then Min else if param == 1 then Max else if param == 2 then MinU else if param == 3 then MaxU else Add
 
+-- the logical operation that a parameter stands for; a parameter from 3 on gives Swap.
 abbrev pub logic_of : ℕ → Logic
 logic_of param = if param == 0 then Xor else if param == 1 then Or else if param == 2 then And else Swap
 

@@ -21,18 +21,23 @@ pub record AskChannel : Type 0 where
   pub bus : ℕ
   pub begun : Option AskBegun
 
+-- what is kept of a request with this first beat, of which so many beats have crossed and carried these bytes; nothing if
+-- there is no first beat.
 abbrev pub ask_begun : Option AskHead → ℕ → List (Option ℕ) → Option AskBegun
 ask_begun None beats bytes = None
 ask_begun (Some first) beats bytes = Some (record { first = first; beats = beats; bytes = bytes })
 
+-- the first beat of the request that is under way, if one is.
 abbrev pub first_ask : Option AskBegun → Option AskHead
 first_ask None = None
 first_ask (Some begun) = Some begun.first
 
+-- how many beats of the request under way have crossed; 0 if none is under way.
 abbrev pub asked_beats : Option AskBegun → ℕ
 asked_beats None = 0
 asked_beats (Some begun) = begun.beats
 
+-- the bytes that the beats of the request under way have carried; empty if none is under way.
 abbrev pub asked_bytes : Option AskBegun → List (Option ℕ)
 asked_bytes None = []
 asked_bytes (Some begun) = begun.bytes
@@ -85,10 +90,13 @@ pub record ReplyChannel : Type 0 where
   pub bus : ℕ
   pub begun : Option ReplyBegun
 
+-- what is kept of a reply with this first beat, of which so many beats have crossed and carried these bytes; nothing if
+-- there is no first beat.
 abbrev pub reply_begun : Option ReplyHead → ℕ → List (Option ℕ) → Option ReplyBegun
 reply_begun None beats bytes = None
 reply_begun (Some first) beats bytes = Some (record { first = first; beats = beats; bytes = bytes })
 
+-- the first beat of the reply that is under way, if one is.
 abbrev pub first_reply : Option ReplyBegun → Option ReplyHead
 first_reply None = None
 first_reply (Some begun) = Some begun.first
@@ -98,14 +106,17 @@ abbrev pub replying_source : Option ReplyBegun → Option ℕ
 replying_source None = None
 replying_source (Some begun) = Some begun.first.source
 
+-- how many beats of the reply under way have crossed; 0 if none is under way.
 abbrev pub replied_beats : Option ReplyBegun → ℕ
 replied_beats None = 0
 replied_beats (Some begun) = begun.beats
 
+-- what was seen of the bytes that the beats of the reply under way have carried; empty if none is under way.
 abbrev pub replied_bytes : Option ReplyBegun → List (Option ℕ)
 replied_bytes None = []
 replied_bytes (Some begun) = begun.bytes
 
+-- whether a beat of a reply is its last, after what has crossed of it.
 abbrev pub ends_reply : ℕ → Option ReplyBegun → ReplyHead → Bool
 ends_reply bus begun beat = replied_beats begun + 1 == reply_beats bus beat
 

@@ -69,6 +69,7 @@ pub record IsMemoryBelow (ours truth : Partial) (kept : List Accepted) (course :
 
 -- ---- slaves
 
+-- the slave that is kept says no more than the true one: both are memories of which that is so, or both are devices.
 abbrev pub IsSlaveBelow : Slave → Slave → List Accepted → (ℕ → Course) → Type 0
 IsSlaveBelow (Memory ours) (Memory truth) kept course = IsMemoryBelow ours truth kept course
 IsSlaveBelow (Memory ours) Device kept course = ⊥

@@ -13,6 +13,7 @@ use Rattle.check_contests.specs.Writes.{may_write, unknown_where}
 abbrev pub memory_cut : Partial → Request → Partial
 memory_cut memory ask = record memory { cells = unknown_where (may_write memory ask) memory.cells }
 
+-- the same of a slave; of a device nothing is kept.
 abbrev pub slave_cut : Slave → Request → Slave
 slave_cut (Memory memory) ask = Memory (memory_cut memory ask)
 slave_cut Device ask = Device

@@ -24,12 +24,14 @@ pub record IsMemoryAtReset (ours truth : Partial) : Type 0 where
   pub within : AreWithin truth.ranges (length truth.cells)
   pub bytes : truth.kind ≡ ClearRegs → AreBytes (visible truth)
 
+-- the same of slaves: both are memories, or both are devices.
 abbrev pub IsBelowAtReset : Slave → Slave → Type 0
 IsBelowAtReset (Memory ours) (Memory truth) = IsMemoryAtReset ours truth
 IsBelowAtReset (Memory ours) Device = ⊥
 IsBelowAtReset Device (Memory truth) = ⊥
 IsBelowAtReset Device Device = Unit {0}
 
+-- what is kept at reset, with no request, says no more than the truth.
 abbrev pub ResetIsBelow : Type 0
 ResetIsBelow = (ours truth : Slave) → IsBelowAtReset ours truth → IsBelowTruth ours [] (untouched truth)
 
@@ -41,12 +43,14 @@ AcceptingKeeps =
     → IsBelowTruth (slave_accepting ours kept ask) (kept_accepting ours kept wide index ask)
     (truth_accepting truth wide ask)
 
+-- the same as a request that is accepted takes effect: nothing of what is kept changes.
 abbrev pub TakingEffectKeeps : Type 0
 TakingEffectKeeps =
     (ours : Slave) (kept : List Accepted) (truth : Truth) (wide : ℕ) (ask : Request)
     → IsBelowTruth ours kept truth → truth.course wide ≡ Waiting ask
     → IsBelowTruth ours kept (truth_serving truth wide ask)
 
+-- the same as a request that has taken effect is answered, which is not kept any more.
 abbrev pub AnsweringKeeps : Type 0
 AnsweringKeeps =
     (ours : Slave) (kept : List Accepted) (truth : Truth) (wide : ℕ) (ask : Request) (reply : Pattern)
@@ -60,6 +64,7 @@ pub record IsDueBelow (kept : List Accepted) (wide : ℕ) (ask : Request) (reply
   pub ask_is : entry.ask ≡ ask
   pub fits : FitsPattern entry.due reply
 
+-- so it is of each request that has taken effect, if what is kept says no more than the truth.
 abbrev pub AnswerIsDue : Type 0
 AnswerIsDue =
     (ours : Slave) (kept : List Accepted) (truth : Truth) (wide : ℕ) (ask : Request) (reply : Pattern)
@@ -77,6 +82,7 @@ pub record Judged : Type 0 where
   pub kept : List Accepted
   pub served : ℕ
 
+-- what is kept of a port after one moment; nobody sees when a request takes effect.
 abbrev pub judged_after : Judged → SlaveMoment → Judged
 judged_after judged (Accepts wide ask) = record {
   slave = slave_accepting judged.slave judged.kept ask;
@@ -92,11 +98,13 @@ IsAnswerBelow judged wide Idle = ⊥
 IsAnswerBelow judged wide (Waiting ask) = ⊥
 IsAnswerBelow judged wide (Served ask reply) = IsDueBelow judged.kept wide ask reply
 
+-- the same of a moment: only one that answers says anything.
 abbrev pub IsMomentBelow : Judged → Truth → SlaveMoment → Type 0
 IsMomentBelow judged truth (Accepts wide ask) = Unit {0}
 IsMomentBelow judged truth (TakesEffect wide) = Unit {0}
 IsMomentBelow judged truth (Answers wide) = IsAnswerBelow judged wide (truth.course wide)
 
+-- so it is at each of these moments, one after the other.
 abbrev pub AreAllBelow : Judged → Truth → List SlaveMoment → Type 0
 AreAllBelow judged truth [] = Unit {0}
 AreAllBelow judged truth (moment ∷ moments) =
@@ -129,6 +137,7 @@ pub record IsBeside (memory : Partial) (ask : Request) (entry : Accepted) : Type
   pub uncontested : AreUncontested memory ask entry.ask
   pub counted : length entry.due.bytes ≤ 2 ^ entry.ask.size
 
+-- so it is of a request at a memory that is uncontested with each one that is kept.
 abbrev pub UncontestedIsAsServed : Type 0
 UncontestedIsAsServed =
     (memory : Partial) (kept : List Accepted) (wide index : ℕ) (ask : Request)
@@ -140,5 +149,6 @@ DeniedIsAsServed =
     (memory : Partial) (kept : List Accepted) (wide index : ℕ) (ask : Request) → permits memory ask ≡ false
     → IsAsServed (Memory memory) kept wide index ask
 
+-- so it is of each request at a device.
 abbrev pub DeviceIsAsServed : Type 0
 DeviceIsAsServed = (kept : List Accepted) (wide index : ℕ) (ask : Request) → IsAsServed Device kept wide index ask

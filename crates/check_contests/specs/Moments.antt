@@ -45,15 +45,19 @@ untouched slave = record { slave = slave; course = λ _. Idle }
 abbrev pub course_with : (ℕ → Course) → ℕ → Course → ℕ → Course
 course_with course wide next other = if other == wide then next else course other
 
+-- a request of a wide source is accepted: it has not taken effect yet.
 abbrev pub truth_accepting : Truth → ℕ → Request → Truth
 truth_accepting truth wide ask = record truth { course = course_with truth.course wide (Waiting ask) }
 
+-- the request of a wide source takes effect: the slave does it, and what is expected of the slave at that moment is kept
+-- as its reply.
 abbrev pub truth_serving : Truth → ℕ → Request → Truth
 truth_serving truth wide ask = record {
   slave = slave_after truth.slave ask;
   course = course_with truth.course wide (Served ask (expected_of truth.slave ask));
 }
 
+-- the reply to a wide source begins: the source has no request any more.
 abbrev pub truth_answering : Truth → ℕ → Truth
 truth_answering truth wide = record truth { course = course_with truth.course wide Idle }
 
@@ -63,6 +67,7 @@ truth_taking truth wide Idle = truth
 truth_taking truth wide (Waiting ask) = truth_serving truth wide ask
 truth_taking truth wide (Served ask reply) = truth
 
+-- what one moment leaves of the slave and of the requests of all wide sources.
 abbrev pub truth_after : Truth → SlaveMoment → Truth
 truth_after truth (Accepts wide ask) = truth_accepting truth wide ask
 truth_after truth (TakesEffect wide) = truth_taking truth wide (truth.course wide)
@@ -84,11 +89,13 @@ pub record IsCarried (slave : Slave) (ask : Request) : Type 0 where
   pub lawful : IsLawfulAsk ask
   pub bytes : AreBytesAt slave ask.bytes
 
+-- there is a request that has not taken effect yet.
 abbrev pub IsWaiting : Course → Type 0
 IsWaiting Idle = ⊥
 IsWaiting (Waiting ask) = Unit {0}
 IsWaiting (Served ask reply) = ⊥
 
+-- there is a request that has taken effect.
 abbrev pub IsServedCourse : Course → Type 0
 IsServedCourse Idle = ⊥
 IsServedCourse (Waiting ask) = ⊥

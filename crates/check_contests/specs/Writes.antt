@@ -70,7 +70,8 @@ Share memory ask other =
     × (in_window (placed memory other) address ≡ true)
 
 -- in so many bytes from an address on lie the window of a request, and that of each other one that messages may carry and
--- that has a byte in common with it
+-- that has a byte in common with it. In a memory that is seen in one place that is so of the block of 256 bytes that has
+-- the window, and else of 768 bytes near the window.
 pub record Reaches (memory : Partial) (ask : Request) (first count : ℕ) : Type 0 where
   pub own : LiesIn (placed memory ask) first count
   pub others : (other : Request) → permits memory other ≡ true → 2 ^ other.size ≤ MAX_BYTES

@@ -20,6 +20,7 @@ owner_at counts placed = record {
   stride = placed.stride;
 }
 
+-- the sources of all masters of a list at the port's link, in the order of the list.
 abbrev pub owners_at : List ℕ → List PlacedMaster → List Owner
 owners_at counts placed = map (owner_at counts) placed
 

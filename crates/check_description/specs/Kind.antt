@@ -21,6 +21,8 @@ port_kind_of word =
     else if bytes_eq word (codes "device") then Some Device
     else None
 
+-- what stands at a port by its table: the key has to be there, its value has to be a text, and the text one of the five
+-- words.
 unfoldable pub kind_at : Members → Result PortKind SystemFault
 kind_at members = do
   value ← value_at Kind members

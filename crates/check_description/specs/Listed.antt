@@ -48,7 +48,8 @@ hosts_from stride number [] = []
 hosts_from stride number (host ∷ hosts) =
     record { master = host; first = number; stride = stride } ∷ hosts_from stride (number + 1) hosts
 
--- the hosts that a value lists: all elements are integers or texts, and there are some and not too many
+-- the hosts that a value lists: all elements are integers or texts, and there are some and not too many. There are 1 to
+-- 64 hosts, and the first source of each is its place in the list.
 unfoldable pub hosts_in : Data → Result ListedMasters SystemFault
 hosts_in value = do
   values ← array_of Hosts value
@@ -68,6 +69,7 @@ pub record SaidMaster : Type 0 where
 unfoldable pub member_of_list : Key → Members → Result Data SystemFault
 member_of_list key members = ok_or (get_member (key_name key) members) (WrongType Sources)
 
+-- what a table of the list says of a master: the types of its members are looked at, and no ranges yet.
 unfoldable pub said_in_table : Members → Result SaidMaster SystemFault
 said_in_table members = do
   master ← member_of_list Master members >>= integer_or_text_of Sources
@@ -75,16 +77,19 @@ said_in_table members = do
   stride ← if_any (integer_of Sources) (get_member (key_name Stride) members)
   Ok (record { master = master; first = first; stride = stride })
 
+-- how far apart the sources are: the number that a table says, from 1 to 65,535, or 1 if it says none.
 unfoldable pub stride_of_said : Option ℤ → Result ℕ SystemFault
 stride_of_said said = if_any (in_range Sources 1 MAX_WIDE) said >>= (λ stride. Ok (unwrap_or stride 1))
 
+-- the master that a table says, once its numbers are looked at: the first source, from 0 to 65,535, and then the stride.
 unfoldable pub listed_of_said : SaidMaster → Result ListedMaster SystemFault
 listed_of_said said = do
   first ← in_range Sources 0 MAX_WIDE said.first
   stride ← stride_of_said said.stride
   Ok (record { master = said.master; first = first; stride = stride })
 
--- the masters that a value lists: the types of all tables are looked at first. There may be none beside hosts
+-- the masters that a value lists: the types of all tables are looked at first. There may be none beside hosts. A value
+-- lists 1 to 64 masters.
 unfoldable pub sources_in : Bool → Data → Result ListedMasters SystemFault
 sources_in has_hosts value = do
   tables ← tables_of Sources value
@@ -110,16 +115,20 @@ listed_at members = do
 
 -- ---- what contracts see
 
+-- what contracts see of the number or the name of a master.
 abbrev pub word_view : code_word.MasterWord → IntegerOrText
 word_view (code_words.Number n) = Number n
 word_view (code_words.Name name) = Text (string_bytes name)
 
+-- what contracts see of a master that a port lists.
 abbrev pub listed_view : code_listed.ListedMaster → ListedMaster
 listed_view listed = record { master = word_view listed.master; first = listed.first; stride = listed.stride }
 
+-- what contracts see of the masters that a port lists.
 abbrev pub list_view : code_list.ListedMasters → ListedMasters
 list_view list = record { key = list.key; masters = map listed_view list.masters.items }
 
+-- what contracts see of what a table says of a master.
 abbrev pub said_view : code_said.SaidMaster → SaidMaster
 said_view said = record {
   master = integer_or_text_view said.master;

@@ -40,6 +40,7 @@ unfoldable pub first_at : Bool → Members → Result (Option ℕ) SystemFault
 first_at true members = number_at First 0 MAX_WIDE members >>= (λ first. Ok (Some first))
 first_at false _ = Ok None
 
+-- how far apart the wide sources of a master are, from 1 to 65,535; 1 if the table says nothing.
 unfoldable pub stride_at : Members → Result ℕ SystemFault
 stride_at members = number_if_any Stride 1 MAX_WIDE members >>= (λ stride. Ok (unwrap_or stride 1))
 
@@ -64,13 +65,14 @@ master_of bus ports placed members = do
     fifo = fifo;
   })
 
--- the tables of the masters, of which there is at least one
+-- the tables of the masters, of which there is at least one. There are at most 64.
 unfoldable pub master_tables : Members → Result (List Members) SystemFault
 master_tables members = do
   value ← value_at MasterKey members
   tables ← tables_of MasterKey value
   one_up_to MasterKey MAX_JUDGED_MASTERS tables
 
+-- the masters of a file: its tables, and then what each describes. If some table says a first wide source, each has to.
 unfoldable pub masters_of : Bus → List (Option (List ℕ)) → Members → Result (List Master) SystemFault
 masters_of bus ports members =
     master_tables members >>= (λ tables. each (master_of bus ports (list_any has_first tables)) tables)

@@ -28,6 +28,7 @@ pub record OrderWords : Type 0 where
   pub masters : Option (List ℕ)
   pub ports : Option (List ℕ)
 
+-- the same word on both sides.
 abbrev pub on_both_sides : List ℕ → OrderWords
 on_both_sides word = record { masters = Some word; ports = Some word }
 
@@ -35,6 +36,7 @@ on_both_sides word = record { masters = Some word; ports = Some word }
 unfoldable pub word_at : List ℕ → Members → Result (Option (List ℕ)) SystemFault
 word_at side members = if_any (text_of OrderKey) (get_member side members)
 
+-- the words that a table gives, one for each side or none.
 unfoldable pub words_in_table : Members → Result OrderWords SystemFault
 words_in_table members = do
   masters ← word_at (codes "masters") members
@@ -46,6 +48,7 @@ abbrev pub words_by : Option (List ℕ) → Data → Result OrderWords SystemFau
 words_by (Some word) value = Ok (on_both_sides word)
 words_by None value = table_of OrderKey value >>= words_in_table
 
+-- the words that a value gives, which is a text or a table.
 unfoldable pub words_in : Data → Result OrderWords SystemFault
 words_in value = words_by (as_str value) value
 
@@ -62,9 +65,11 @@ words_view words = record {
 abbrev pub no_orders : PortOrders
 no_orders = record { masters = None; ports = None }
 
+-- the order that a word names; none if there is no word.
 abbrev pub order_by_word : Option (List ℕ) → Result (Option Order) SystemFault
 order_by_word word = if_any (λ text. ok_or (order_of text) (OutOfRange OrderKey)) word
 
+-- the orders that the words of both sides name, that of the masters' side first.
 unfoldable pub orders_of : OrderWords → Result PortOrders SystemFault
 orders_of words = do
   masters ← order_by_word words.masters
@@ -76,5 +81,6 @@ abbrev pub orders_by : Option Data → Result PortOrders SystemFault
 orders_by None = Ok no_orders
 orders_by (Some value) = words_in value >>= orders_of
 
+-- the orders of a port, by its table.
 unfoldable pub orders_at : Members → Result PortOrders SystemFault
 orders_at members = orders_by (get_member (key_name OrderKey) members)

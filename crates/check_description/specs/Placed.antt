@@ -33,6 +33,7 @@ placed_in names list = do
   placed ← each (placed_by names list.key) list.masters
   unless (not (are_distinct (length names) (master_numbers placed))) (OutOfRange list.key) placed
 
+-- the masters that a port lists, by their numbers; none if it lists none.
 abbrev pub placed_at : List (Option (List ℕ)) → Port → Result (Option (List PlacedMaster)) SystemFault
 placed_at names port = if_any (placed_in names) port.listed
 
@@ -69,6 +70,7 @@ abbrev pub flags_from : ℕ → ℕ → Option (List Bool) → List (Option (Lis
 flags_from port master said [] = []
 flags_from port master said (list ∷ lists) = path_at master said port list ∷ flags_from (port + 1) master said lists
 
+-- one of two flags is set, and the other one is not.
 abbrev pub differ : Bool → Bool → Bool
 differ one other = (one && not other) || (not one && other)
 
@@ -83,6 +85,7 @@ abbrev pub paths_by : List (Option (List PlacedMaster)) → ℕ → Option (List
 paths_by lists master None = if list_any is_some lists then Some (flags_from 0 master None lists) else None
 paths_by lists master (Some flags) = Some flags
 
+-- the paths of a master with this number; its own words have to be what the ports list.
 unfoldable pub paths_at : List (Option (List PlacedMaster)) → ℕ → Option (List Bool) → Result (Option (List Bool)) SystemFault
 paths_at lists master said = unless (is_some said && contradicts_from 0 master said lists) (OutOfRange Reach) (paths_by lists master said)
 
@@ -95,8 +98,10 @@ paths_from lists number (master ∷ masters) =
 
 -- ---- what contracts see
 
+-- what contracts see of the masters that each port lists.
 abbrev pub lists_view : Vec (Option (Vec PlacedMaster Global)) Global → List (Option (List PlacedMaster))
 lists_view lists = map (option_map (λ placed. placed.items)) lists.items
 
+-- what contracts see of the paths of each master.
 abbrev pub paths_view : Vec (Option (Vec Bool Global)) Global → List (Option (List Bool))
 paths_view paths = map (option_map (λ flags. flags.items)) paths.items

@@ -97,7 +97,7 @@ abbrev pub tables_by : Option Data → Result (List Members) SystemFault
 tables_by None = Ok []
 tables_by (Some value) = tables_of PortKey value >>= up_to PortKey MAX_JUDGED_PORTS
 
--- the tables of the ports, of which there may be none
+-- the tables of the ports, of which there may be none. There are at most 255.
 unfoldable pub port_tables : Members → Result (List Members) SystemFault
 port_tables members = tables_by (get_member (key_name PortKey) members)
 
@@ -119,6 +119,7 @@ port_fifos ports = map (λ (port : Port). port.fifo) ports
 
 -- ---- what contracts see
 
+-- what contracts see of what a port holds before any request.
 abbrev pub contents_view : code_contents.Contents → Contents
 contents_view contents = record {
   reset = contents.reset.items;
@@ -126,6 +127,7 @@ contents_view contents = record {
   unknown = contents.unknown;
 }
 
+-- what contracts see of a port.
 abbrev pub port_view : code_port.Port → Port
 port_view port = record {
   name = option_map string_bytes port.name;

@@ -19,11 +19,12 @@ pub record AreRangesOfPort (ranges : List Range) : Type 0 where
   pub few : length ranges ≤ MAX_RANGES_OF_PORT
   pub each : All IsLawfulRange ranges
 
--- the address of the first byte of the first range, and how many bytes that has
+-- the address of the first byte of the first range; 0 if there is none.
 abbrev pub first_base : List Range → ℕ
 first_base [] = 0
 first_base (range ∷ ranges) = range.base
 
+-- how many bytes the first range has; 0 if there is none.
 abbrev pub first_length : List Range → ℕ
 first_length [] = 0
 first_length (range ∷ ranges) = range.length
@@ -65,5 +66,6 @@ abbrev pub ranges_by : Members → Option Data → Result (List Range) SystemFau
 ranges_by members None = plain_ranges members
 ranges_by members (Some value) = listed_ranges members value
 
+-- the ranges of a port, by its table.
 unfoldable pub ranges_at : Members → Result (List Range) SystemFault
 ranges_at members = ranges_by members (get_member (key_name Ranges) members)

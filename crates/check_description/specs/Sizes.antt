@@ -17,6 +17,8 @@ use Rattle.check_description.specs.declared.sizes.Pairs.{Pairs}
 unfoldable pub pair_at : List ℕ → Members → Result (Option (ℤ × ℤ)) SystemFault
 pair_at name members = if_any (pair_in_value Sizes) (get_member name members)
 
+-- the two integers of each operation, in the order in which they are looked at: gets, full puts, partial puts, arithmetic
+-- and logical atomics, and Intent.
 unfoldable pub pairs_in : Members → Result Pairs SystemFault
 pairs_in members = do
   get ← pair_at (codes "get") members
@@ -61,6 +63,7 @@ size_table_of pairs = do
     intent = intent;
   })
 
+-- the sizes of a port, by the value at its key, which has to be a table.
 unfoldable pub sizes_in : Data → Result SizeTable SystemFault
 sizes_in value = do
   members ← members_of Sizes value

@@ -36,6 +36,7 @@ ungiven_memory kind sizes ranges mirrors volatile known = record {
   cells = tabulate (λ _. fill_of known) (2 ^ 64);
 }
 
+-- the memory of a port of which no byte was given, with the ranges, the sizes and the volatile bytes of the port.
 abbrev pub blank_memory : Kind → Port → Partial
 blank_memory kind port =
     ungiven_memory kind (sizes_of_port kind port) (ranges_kept port.mirror port.ranges)
@@ -52,6 +53,7 @@ abbrev pub kept_by : PortKind → Port → List ℕ → Slave
 kept_by (Memory kind) port image = kept.Memory (memory_at_reset kind port image)
 kept_by Device port image = kept.Device
 
+-- what a port keeps before any request, with these bytes of its image: a memory, or a device.
 abbrev pub kept_at_reset : Port → List ℕ → Slave
 kept_at_reset port image = kept_by port.kind port image
 

@@ -13,6 +13,7 @@ pub record Stray : Type 0 where
   pub kind : TableKind
   pub key : List ℕ
 
+-- this key, which a table of this kind may not have.
 abbrev pub stray_of : TableKind → List ℕ → Stray
 stray_of kind key = record { kind = kind; key = key }
 
@@ -29,6 +30,7 @@ stray_in kind members = option_map (stray_of kind) (first_unknown kind members)
 abbrev pub stray_in_value : TableKind → Option Data → Option Stray
 stray_in_value kind value = option_and_then (stray_in kind) (option_and_then as_table value)
 
+-- the first unknown key of the table at the key of this name; none if no table is there.
 abbrev pub stray_at : List ℕ → TableKind → Members → Option Stray
 stray_at name kind members = stray_in_value kind (get_member name members)
 

@@ -19,11 +19,13 @@ pub record Flight : Type 0 where
 
 -- ---- how it is kept, with a request and an answer that say something only where the stage says so
 
+-- what is in flight of a source, as its stage and a request are kept; the request counts only if it has ended.
 abbrev pub turn_kept : Stage → Request → Turn
 turn_kept Nothing ask = Idle
 turn_kept (Begun number) ask = Asking number
 turn_kept (Ended number) ask = Asked number ask
 
+-- what a reply has to fit, as a flag and an answer are kept; the answer counts only if the flag is true.
 abbrev pub due_kept : Bool → Answer → Option Answer
 due_kept false answer = None
 due_kept true answer = Some answer
@@ -57,5 +59,6 @@ abbrev pub due_by : Option Answer → Option Answer → Option Answer
 due_by before None = before
 due_by before (Some answer) = Some answer
 
+-- what is in flight, with what its reply has to fit; if that is not told now, it stays as it was.
 abbrev pub flight_due : Flight → Option Answer → Flight
 flight_due flight answer = record flight { due = due_by flight.due answer }

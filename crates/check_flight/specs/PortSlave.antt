@@ -82,9 +82,11 @@ may_need_to_answer_by Accept kept ask = false
 may_need_to_answer_by Reply kept ask = slave_takes_bytes kept ask
 may_need_to_answer_by Any kept ask = false
 
+-- the slave may need memory to accept this request, by its own order.
 abbrev pub may_need_to_accept : PortSlave → Request → Bool
 may_need_to_accept slave ask = may_need_to_accept_by slave.order slave.kept ask
 
+-- the slave may need memory to answer this request, by its own order.
 abbrev pub may_need_to_answer : PortSlave → Request → Bool
 may_need_to_answer slave ask = may_need_to_answer_by slave.order slave.kept ask
 
@@ -107,26 +109,31 @@ abbrev pub accepting : PortSlave → ℕ → Option Request → PortSlave
 accepting slave wide None = slave
 accepting slave wide (Some ask) = accepted_by slave.order slave wide ask
 
+-- what the reply has to fit, if a request is accepted and this is known then.
 abbrev pub due_accepting : ℕ → PortSlave → Option Request → Option Answer
 due_accepting port slave None = None
 due_accepting port slave (Some ask) = due_accepted_by slave.order port slave ask
 
 -- ---- it is answered, with the first beat of its reply
 
+-- the slave after a request of a wide source is answered, by when requests take effect there.
 abbrev pub answered_by : Order → PortSlave → ℕ → Request → PortSlave
 answered_by Accept slave wide ask = slave
 answered_by Reply slave wide ask = served_by slave ask
 answered_by Any slave wide ask = record slave { contests = kept_answering slave.contests wide }
 
+-- what the reply has to fit, if that is known as the request is answered and not before.
 abbrev pub due_answered_by : Order → ℕ → PortSlave → ℕ → Request → Option Answer
 due_answered_by Accept port slave wide ask = None
 due_answered_by Reply port slave wide ask = Some (answer_of port slave ask)
 due_answered_by Any port slave wide ask = answer_of_kept port ask (kept_of slave.contests wide)
 
+-- the slave after a request of a wide source is answered, if there is one.
 abbrev pub answering : PortSlave → ℕ → Option Request → PortSlave
 answering slave wide None = slave
 answering slave wide (Some ask) = answered_by slave.order slave wide ask
 
+-- what the reply has to fit, if a request is answered and this is known then.
 abbrev pub due_answering : ℕ → PortSlave → ℕ → Option Request → Option Answer
 due_answering port slave wide None = None
 due_answering port slave wide (Some ask) = due_answered_by slave.order port slave wide ask

@@ -19,9 +19,11 @@ pub record SideView : Type 0 where
 abbrev pub bus_at : List Bus → ℕ → ℕ
 bus_at buses number = unwrap_or (option_map bus_bytes (slice_get buses number)) 1
 
+-- the messages under way at the link of this number; nothing on a bus of 1 byte if there is no such link.
 abbrev pub under_at : List Under → ℕ → Under
 under_at links number = unwrap_or (slice_get links number) (nothing_under 1)
 
+-- what is in flight of a wide source; nothing if the list does not reach as far as the source.
 abbrev pub flight_at : List Flight → ℕ → Flight
 flight_at flights wide = unwrap_or (slice_get flights wide) idle
 
@@ -62,6 +64,7 @@ abbrev pub flights_due : List Flight → ℕ → Option Answer → List Flight
 flights_due flights wide None = flights
 flights_due flights wide (Some answer) = slice_set flights wide (flight_due (flight_at flights wide) (Some answer))
 
+-- this is what the reply to a wide source has to fit, from then on, if it is known; nothing else changes.
 abbrev pub side_due : SideView → ℕ → Option Answer → SideView
 side_due side wide answer = record side { flights = flights_due side.flights wide answer }
 

@@ -21,7 +21,7 @@ is_number_of_link (first ∷ []) = false
 is_number_of_link (first ∷ digit ∷ digits) =
     ((first == 109) || (first == 112)) && list_all is_ascii_digit (digit ∷ digits)
 
--- the text may be a name
+-- the text may be a name. A name has 1 to 32 letters, digits, `_`, `.` or `-`, and is not `m` or `p` with digits alone.
 abbrev pub is_name : List ℕ → Bool
 is_name text =
     nat_le 1 (length text) && nat_le (length text) MAX_NAME && list_all is_name_byte text

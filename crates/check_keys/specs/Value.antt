@@ -34,10 +34,11 @@ in_range key low high (negsuc n) = Err (OutOfRange key)
 unfoldable pub number_in_value : Key → ℕ → ℕ → Data → Result ℕ SystemFault
 number_in_value key low high value = integer_of key value >>= in_range key low high
 
--- the number at a key that has to be there, and at a key that may be absent
+-- the number at a key that has to be there, from low to high.
 unfoldable pub number_at : Key → ℕ → ℕ → Members → Result ℕ SystemFault
 number_at key low high members = value_at key members >>= number_in_value key low high
 
+-- the number at a key, from low to high; none if the key is absent.
 unfoldable pub number_if_any : Key → ℕ → ℕ → Members → Result (Option ℕ) SystemFault
 number_if_any key low high members = if_any (number_in_value key low high) (get_member (key_name key) members)
 
@@ -76,6 +77,7 @@ integer_or_text_by (Some n) text = Some (Number n)
 integer_or_text_by None (Some text) = Some (Text text)
 integer_or_text_by None None = None
 
+-- the integer or the text that a value is; a value of another type has the wrong type of the key.
 abbrev pub integer_or_text_of : Key → Data → Result IntegerOrText SystemFault
 integer_or_text_of key value = ok_or (integer_or_text_by (as_integer value) (as_str value)) (WrongType key)
 

@@ -11,6 +11,7 @@ abbrev pub cell_text : Option ℕ → List ℕ
 cell_text None = codes "xx"
 cell_text (Some byte) = byte_text (Some byte)
 
+-- bytes in two characters each, one after the other.
 abbrev pub cells_text : List (Option ℕ) → List ℕ
 cells_text cells = flat_map cell_text cells
 
@@ -24,5 +25,7 @@ abbrev pub flag_text : Option Bool → List ℕ
 flag_text None = []
 flag_text (Some denied) = denied_text denied
 
+-- the text of a reply as it is expected, or as it was captured: its name, `denied` if it is known to be so, and its
+-- bytes.
 abbrev pub pattern_text : Pattern → List ℕ
 pattern_text reply = reply_word_of reply.op ++ flag_text reply.denied ++ cells_part reply.bytes

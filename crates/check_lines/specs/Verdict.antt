@@ -33,10 +33,12 @@ number_text (Port number) = codes "p" ++ decimal number
 abbrev pub link_text : NamesView → Link → List ℕ
 link_text names link = unwrap_or (name_of_link names link) (number_text link)
 
+-- the channel of a beat, with a space before it and a colon and a space behind.
 unfoldable pub channel_text : Beat → List ℕ
 channel_text (A beat) = codes " A: "
 channel_text (D beat) = codes " D: "
 
+-- the words for a beat that is no beat of a lawful message.
 unfoldable pub form_text : FormFault → List ℕ
 form_text form.Changed = codes "field changed"
 form_text form.Opcode = codes "unknown opcode"
@@ -52,6 +54,7 @@ unfoldable pub wrong_text : Pattern → Pattern → List ℕ
 wrong_text expected captured =
     codes "wrong reply: expected " ++ pattern_text expected ++ codes ", captured " ++ pattern_text captured
 
+-- the words for the fault of a beat, which end the line of an unlawful capture.
 unfoldable pub fault_text : Fault → List ℕ
 fault_text (Form fault) = form_text fault
 fault_text NoSuchSource = codes "no such source"
@@ -67,6 +70,7 @@ fault_text NotSent = codes "no master sent this request"
 fault_text NotGiven = codes "the port gave no such reply"
 fault_text (WrongReply expected captured) = wrong_text expected captured
 
+-- the line of a lawful capture: how many rows were judged, how many requests have ended, and how many replies.
 unfoldable pub lawful_line : VerdictCounts → List ℕ
 lawful_line counts =
     codes "lawful: " ++ decimal counts.rows ++ codes " rows, " ++ decimal counts.requests ++ codes " requests, "

@@ -22,6 +22,7 @@ pub record IsWhole (memory : Partial) (bytes : List ℕ) (ask : Request) : Type 
   pub leaves : after_partial (whole memory bytes) ask ≡ whole memory (true_after memory bytes ask)
   pub counted : length (true_after memory bytes ask) ≡ length bytes
 
+-- so it is of each memory of which no byte changes by itself, with any bytes, and of each lawful request.
 abbrev pub WholeStaysWhole : Type 0
 WholeStaysWhole =
     (memory : Partial) (bytes : List ℕ) (ask : Request) → memory.volatile ≡ []
@@ -33,6 +34,7 @@ pub record IsSound (memory : Partial) (bytes : List ℕ) (ask : Request) : Type 
   pub reply_fits : FitsPattern (pattern memory ask) (seen_as (true_reply memory bytes ask))
   pub stays_below : IsBelow (visible (after_partial memory ask)) (known (true_after memory bytes ask))
 
+-- so it is of each memory and each lawful request, if the true bytes are those that are seen as known.
 abbrev pub PartialIsSound : Type 0
 PartialIsSound =
     (memory : Partial) (bytes : List ℕ) (ask : Request) → AreWithin memory.ranges (length bytes) → IsLawfulAsk ask
@@ -77,6 +79,8 @@ pub record IsStore (store : Store) (before beyond : List ℕ) (memory : Partial)
   pub after_is : true_after memory (before ++ (store.bytes ++ beyond)) ask
       ≡ before ++ ((after store ask).bytes ++ beyond)
 
+-- the memory in one range that has the range, the kind and the sizes of a store, with these cells from address 0 on; no
+-- byte changes by itself.
 abbrev pub one_range : Store → List (Option ℕ) → Partial
 one_range store cells = record {
   kind = store.kind;
@@ -87,6 +91,7 @@ one_range store cells = record {
   cells = cells;
 }
 
+-- so it is of each store and each lawful request, whatever the bytes before the store and beyond.
 abbrev pub StoreIsInstance : Type 0
 StoreIsInstance =
     (store : Store) (before beyond : List ℕ) (cells : List (Option ℕ)) (ask : Request) → length before ≡ store.base

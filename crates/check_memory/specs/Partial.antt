@@ -52,7 +52,8 @@ placed memory ask = record ask { address = start_of memory ask }
 
 -- ---- requests
 
--- whether a request is legal: supported, aligned as the standard has it, and in one range
+-- whether a request is legal: supported, aligned as the standard has it, and in one range. It is the address that was
+-- sent which has to be aligned, and not the place where the window stands.
 abbrev pub permits : Partial → Request → Bool
 permits memory ask =
     allows memory.sizes ask.op ask.size
@@ -84,7 +85,7 @@ after_partial memory ask = record memory {
       else memory.cells;
 }
 
--- the first address of the block that holds an address: blocks are as long as the largest message
+-- the first address of the block that holds an address: blocks are as long as the largest message. That is 256 bytes.
 abbrev pub block_of : ℕ → ℕ
 block_of address = address - address % MAX_BYTES
 

@@ -13,7 +13,7 @@ pub record IsLawfulSpan (span : SizeSpan) : Type 0 where
 abbrev pub IsMessageSpan : Option SizeSpan → Type 0
 IsMessageSpan span = IfSome span IsLawfulSpan
 
--- a table within the rules
+-- a table within the rules. Each operation, an atomic too, may have each size from 1 to 256 bytes.
 pub record IsLawfulTable (table : SizeTable) : Type 0 where
   pub get : IsMessageSpan table.get
   pub put_full : IsMessageSpan table.put_full

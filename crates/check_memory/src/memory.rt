@@ -359,7 +359,8 @@ impl PartialMemory {
         Ok(())
     }
 
-    /// How many pages it has.
+    /// How many pages it has. No clause says how many: a page is made by the first request that carries bytes there, or by an
+    /// image.
     pub fn pages(&self) -> usize {
         self.pages.len()
     }

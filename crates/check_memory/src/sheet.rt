@@ -22,7 +22,8 @@ use tl_types::{Ask, AskOp, Bytes, Logic, MAX_BYTES, WORD_BYTES};
 /// that words far from one another take little memory.
 pub const PAGE_BYTES: usize = 256;
 
-/// The pages of a sheet. There are several, so that few pieces of memory are asked for.
+/// The pages of a sheet. There are several, so that few pieces of memory are asked for. A memory has room for at most
+/// seven pages more than were made.
 pub const SHEET_PAGES: usize = 8;
 
 /// The bytes of a sheet.

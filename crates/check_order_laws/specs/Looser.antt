@@ -18,7 +18,9 @@ use Rattle.check_watch_laws.specs.Memories.{reset_of}
 abbrev pub IsSameOrAny : PortSlave → PortSlave → Type 0
 IsSameOrAny loose strict = (loose ≡ strict) ⊎ (loose ≡ record strict { order = Any })
 
--- a plan is another one, but for the orders of some slaves that nobody knows
+-- a plan is another one, but for the orders of some slaves that nobody knows. With `accept` a request takes effect right
+-- after its last beat, and with `reply` right before the first beat of its reply. Both are moments between the two, so
+-- `any` allows them.
 pub record IsLooser (loose strict : Plan) : Type 0 where
   pub same : loose ≡ record strict { resets = loose.resets }
   pub slaves : (port : ℕ) → IsSameOrAny (reset_of loose port) (reset_of strict port)
@@ -31,6 +33,7 @@ pub record IsSoundMemory (memory : Partial) : Type 0 where
   pub within : AreWithin memory.ranges (length memory.cells)
   pub bytes : memory.kind ≡ ClearRegs → AreBytes memory.cells
 
+-- the same of a slave: a device is always sound.
 abbrev pub IsSoundSlave : Slave → Type 0
 IsSoundSlave (Memory memory) = IsSoundMemory memory
 IsSoundSlave Device = Unit {0}

@@ -56,6 +56,7 @@ with_commas (text ∷ next ∷ more) = text ++ 44 ∷ with_commas (next ∷ more
 abbrev pub header_line : List ℕ
 header_line = with_commas header ++ 10 ∷ []
 
+-- the text, which is empty if there is none.
 abbrev pub or_empty : Option (List ℕ) → List ℕ
 or_empty None = []
 or_empty (Some word) = word

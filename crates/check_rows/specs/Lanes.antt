@@ -37,18 +37,22 @@ pub record SeenLanes : Type 0 where
   pub known : ℕ
   pub bytes : List ℕ
 
+-- the byte of a lane, 0 if it is unknown.
 abbrev pub byte_or_zero : Option ℕ → ℕ
 byte_or_zero None = 0
 byte_or_zero (Some byte) = byte
 
+-- 1 if a lane is known, 0 if not.
 abbrev pub known_bit : Option ℕ → ℕ
 known_bit None = 0
 known_bit (Some byte) = 1
 
+-- the number whose bit k is 1 if lane k is known; lane 0 stands first.
 abbrev pub known_of : List (Option ℕ) → ℕ
 known_of [] = 0
 known_of (lane ∷ more) = known_bit lane + 2 * known_of more
 
+-- what is seen of these lanes, of which lane 0 stands first.
 abbrev pub seen_of : List (Option ℕ) → SeenLanes
 seen_of lanes = record { known = known_of lanes; bytes = map byte_or_zero lanes }
 

@@ -31,6 +31,7 @@ abbrev pub place_by : Bool → Link → Beat → ℕ
 place_by true link beat = 0
 place_by false link beat = place_at link beat + 1
 
+-- where a row stands among those of one time: 0 for a reset, and from 1 on for beats.
 abbrev pub place_of_row : SeenRow → ℕ
 place_of_row row = place_by row.is_reset row.sighting.link row.sighting.beat
 
@@ -82,6 +83,7 @@ Puts moment row next false = (moment.time < row.time) × (next ≡ moment)
 abbrev pub kept_row : List ℕ → Kept → SeenRow
 kept_row lanes kept = seen_row kept.row (drop kept.first lanes)
 
+-- the rows that are kept of a time, each with its lanes, as a moment.
 abbrev pub moment_of : ℕ → List Kept → List ℕ → Moment
 moment_of time rows lanes = record { time = time; rows = map (kept_row lanes) rows }
 
@@ -97,10 +99,11 @@ pub record IsGap (rows : List SeenRow) (place i : ℕ) : Type 0 where
   pub before : (k : ℕ) (row : SeenRow) → k + 1 ≡ i → place_of_row (get_or rows k row) < place
   pub behind : (row : SeenRow) → i < length rows → place < place_of_row (get_or rows i row)
 
--- the same of rows that are kept
+-- where a row that is kept stands among those of one time.
 abbrev pub kept_place : Kept → ℕ
 kept_place kept = place_by kept.row.is_reset kept.row.link kept.row.beat
 
+-- so many rows that are kept cross before a place, the others after it, and none there.
 pub record IsKeptGap (rows : List Kept) (place i : ℕ) : Type 0 where
   pub inside : i ≤ length rows
   pub before : (k : ℕ) (kept : Kept) → k + 1 ≡ i → kept_place (get_or rows k kept) < place

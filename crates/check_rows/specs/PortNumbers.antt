@@ -62,6 +62,7 @@ numbered_beat None beat = beat
 numbered_beat (Some numbers) (A ask) = A (record ask { source = system_source numbers ask.source })
 numbered_beat (Some numbers) (D reply) = D (record reply { source = system_source numbers reply.source })
 
+-- what was seen, with the system's source in place of the link's own.
 abbrev pub numbered : List (Option PortNumbers) → Sighting → Sighting
 numbered ports x = record x { beat = numbered_beat (numbers_at ports x.link) x.beat }
 
@@ -71,8 +72,10 @@ numbered_row ports row = record row { sighting = numbered ports row.sighting }
 
 -- ---- what contracts see
 
+-- what contracts see of the numbers of a port's link.
 abbrev pub numbers_view : code_numbers.PortNumbers → PortNumbers
 numbers_view numbers = record { places = numbers.places.items; nobody = numbers.nobody }
 
+-- the same of all ports, in order; some have none.
 abbrev pub numbers_in : List (Option (code_numbers.PortNumbers)) → List (Option PortNumbers)
 numbers_in numbers = map (option_map numbers_view) numbers

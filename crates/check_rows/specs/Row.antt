@@ -165,6 +165,7 @@ seen_row row buffer = record {
   sighting = seen_at row.link row.beat row.known (take (bus_bytes row.bus) buffer);
 }
 
+-- the row with its lanes that was read, or its fault.
 abbrev pub row_in : List ℕ → Result Row RowFault → Result SeenRow RowFault
 row_in buffer (Ok row) = Ok (seen_row row buffer)
 row_in buffer (Err fault) = Err fault

@@ -86,7 +86,7 @@ fn find_gap(rows: &[Kept], place: usize) -> Option<usize>
 }
 
 /// The rows of one time, so far, with their lanes. Its room is that of the most rows that a time can have, and is made
-/// ahead.
+/// ahead: 639 rows, which are a reset and 638 beats, of 64 lanes each. So nothing takes memory later.
 #[derive(Debug, Drop)]
 pub struct Moment {
     time: u64,

@@ -12,11 +12,14 @@ use Rattle.check_beats.specs.Bus.{active_mask_on_bus, beat_count_on_bus, lane_on
 use Rattle.check_beats.specs.Form.{IsRightMark, IsLawfulMaskOnBus}
 use Rattle.check_beats.specs.Spelling.{AskBeat, ReplyBeat, SpellsAskOnBus, SpellsReplyOnBus}
 
+-- on a bus of 8 bytes each byte stands at the lane, each message has the beats, and the same lanes are active as
+-- `tl_beats` says.
 pub record BusIsThatOfEight : Type 0 where
   pub lane : (address size j : ℕ) → lane_on_bus 8 address size j ≡ narrow.lane_of address size j
   pub beats : (carries : Bool) (size : ℕ) → beat_count_on_bus 8 carries size ≡ narrow.beat_count carries size
   pub active : (address size : ℕ) → active_mask_on_bus 8 address size ≡ narrow.active_mask address size
 
+-- on a bus of 8 bytes a mask is lawful exactly if it is so in `tl_beats`.
 abbrev pub MaskIsThatOfEight : Type 0
 MaskIsThatOfEight = (op : AskOp) (size address mask : ℕ) → IsLawfulMaskOnBus 8 op size address mask ↔ narrow.IsLawfulMask op size address mask
 

@@ -23,6 +23,7 @@ use Rattle.check_description.specs.Name.{names_of}
 
 -- ---- files that say nothing that a script does not
 
+-- a table does not have this key.
 abbrev pub IsAbsent : Key → Members → Type 0
 IsAbsent key members = get_member (key_name key) members ≡ None
 
@@ -99,7 +100,7 @@ plain_master count = record {
   fifo = false;
 }
 
--- requests are aligned, and decoders look at all their bytes
+-- requests are aligned, and decoders look at all their bytes. A clock is a unit of time.
 abbrev pub strict_rules : LinkRules
 strict_rules = record { unaligned = false; by_address = false; period = 1 }
 
@@ -123,6 +124,7 @@ pub record NamesSame (script : System) (bytes : List ℕ) : Type 0 where
   pub names : names_of parts ≡ []
   pub some : 0 < length script.owners
 
+-- if a file is a script of tlx and says nothing that a script does not, it names these parts.
 abbrev pub NamesTheSame : Type 0
 NamesTheSame = (bytes : List ℕ) (script : System) → Spells bytes script → SaysNothingNew bytes → NamesSame script bytes
 
@@ -136,6 +138,7 @@ pub record IsSameSystem (script : System) (system : Description) : Type 0 where
   pub lists : system.lists ≡ nothing_said system.ports
   pub paths : system.paths ≡ nothing_said system.masters
 
+-- and the system that such a file describes is the script's.
 abbrev pub DescribesTheSame : Type 0
 DescribesTheSame =
     (bytes : List ℕ) (script : System) (parts : Parts) (system : Description) → Spells bytes script

@@ -31,6 +31,7 @@ is_any_set (flag ∷ flags) = flag || is_any_set flags
 abbrev pub is_some_alone : Links → List Bool → Bool
 is_some_alone links apart = is_port_alone links (is_any_set apart)
 
+-- some port's link is judged by itself.
 abbrev pub are_apart : Layout → Bool
 are_apart layout = is_some_alone layout.links layout.apart
 
@@ -73,8 +74,10 @@ port_past port past = filter (λ (x : Sighting). is_link x.link AtPorts port) pa
 
 -- ---- the group of a link
 
+-- the plan by which a link is judged: the system's, or that of a port's link that is judged by itself.
 abbrev pub plan_at : Plan → Link → Plan
 plan_at plan link = if is_alone plan.layout link then port_plan plan else plan
 
+-- of these beats those of the links that are judged together with this one, which may be the link alone.
 abbrev pub past_at : Layout → Link → List Sighting → List Sighting
 past_at layout link past = if is_alone layout link then port_past (link_number link) past else shared_past layout past

@@ -26,6 +26,7 @@ under_way plan past link =
 abbrev pub scene : Plan → List Sighting → Sighting → Scene
 scene plan past x = group.scene_in_group (plan_at plan x.link) (past_at plan.layout x.link past) x
 
+-- each beat is lawful by the plan of its link, after those before it of the links that are judged with its own.
 abbrev pub IsLawful : Plan → List Sighting → Type 0
 IsLawful plan [] = Unit {0}
 IsLawful plan (x ∷ past) = IsLawful plan past × IsAllowed (plan_at plan x.link) (scene plan past x) x

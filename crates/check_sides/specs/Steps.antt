@@ -26,11 +26,13 @@ IsTakeAfter plan past x new result =
 abbrev pub MayNeedAlone : Plan → List Sighting → Sighting → Type 0
 MayNeedAlone plan past x = group_lawful.GroupMayNeedMemory plan past x ⊎ IsFirstRequest past x.beat
 
+-- a step by this beat after this past of the port's link, after which this is kept; the plan is that of the link.
 abbrev pub IsAloneStep : Plan → ℕ → List Sighting → Sighting → PortView → Result Seen StepError → Type 0
 IsAloneStep plan port past x new result =
     IsStepBy (group_lawful.IsLawfulGroup plan (x ∷ past)) (KeepsPort plan port (x ∷ past) new)
     (group_lawful.seen_in_group plan past x) (group_lawful.IsFirstGroupFault plan past x) (MayNeedAlone plan past x) result
 
+-- the beat is taken after this past of the port's link; the plan is that of the link.
 abbrev pub IsAloneTake : {E : Type 0} → Plan → ℕ → List Sighting → Sighting → PortView → Result (Option Ended) E → Type 0
 IsAloneTake plan port past x new result =
     IsTakeBy (group_lawful.IsLawfulGroup plan (x ∷ past)) (KeepsPort plan port (x ∷ past) new)

@@ -31,7 +31,9 @@ order_of Ports orders port = order_at_ports orders port
 order_of Compared orders port =
     if is_apart_by port.crossing then order_at_masters orders port else order_at_ports orders port
 
--- the side on which the slaves of links that are judged together see requests: the ports', if their links are among these
+-- the side on which the slaves of links that are judged together see requests: the ports', if their links are among
+-- these. If both sides are watched, a port that the system takes out is seen at the masters' links; so are all ports, if
+-- each port's link is judged by itself.
 abbrev pub shared_side : Links → SlaveSide
 shared_side links.Both = Compared
 shared_side links.Masters = Masters

@@ -20,6 +20,7 @@ abbrev pub turn_at : Plan → List SeenRow → LinkSide → ℕ → Turn
 turn_at plan rows side wide =
     ((state plan (shared_past plan.layout (beats_of rows))).flights side wide).turn
 
+-- nothing is in flight.
 abbrev pub is_idle : Turn → Bool
 is_idle Idle = true
 is_idle (Asking number) = false

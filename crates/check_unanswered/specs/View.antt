@@ -15,6 +15,7 @@ pub record PendingView : Type 0 where
   pub ports : List (Option Open)
   pub taken : ℕ
 
+-- the request in flight of each wide source on a side, by the number of the source.
 abbrev pub open_table : PendingView → LinkSide → List (Option Open)
 open_table pending AtMasters = pending.masters
 open_table pending AtPorts = pending.ports

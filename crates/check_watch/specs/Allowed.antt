@@ -81,7 +81,8 @@ OfAsked number Idle P = ⊥
 OfAsked number (Asking at) P = ⊥
 OfAsked number (Asked at ask) P = (at ≡ number) × P ask
 
--- each lane that carries a byte of the reply is known, if the slave may leave none unknown
+-- each lane that carries a byte of the reply is known, if the slave may leave none unknown. Of a denied reply no lane is
+-- looked at.
 abbrev pub HasKnownLanes : ℕ → Bool → Request → ReplyHead → ℕ → Type 0
 HasKnownLanes bus unknown ask beat known = unknown ≡ false → IsKnownReply bus ask.address beat known
 

@@ -59,7 +59,8 @@ HasAnswerReason number turn bus unknown beat known NotGiven = ⊥
 HasAnswerReason number turn bus unknown beat known WrongReply = ⊥
 
 -- a whole reply is not the one that must come, for this reason. `NotGiven` is for what crosses both watched sides,
--- `WrongReply` for what a slave expects; if nothing is expected at all, nothing was given.
+-- `WrongReply` for what a slave expects; if nothing is expected at all, nothing was given. After a lawful past that is
+-- never so: a request that has ended has a reply due, or crosses.
 abbrev pub HasEndReason : Bool → Crossing → Option Answer → Pattern → Reason → Type 0
 HasEndReason given crossing due reply (Form fault) = ⊥
 HasEndReason given crossing due reply NoSuchSource = ⊥
@@ -123,9 +124,11 @@ reason_rank NotSent = 18
 reason_rank NotGiven = 19
 reason_rank WrongReply = 20
 
+-- the reason is the first one, in that order, why a beat of a request is not lawful.
 abbrev pub IsFirstAskReason : Layout → Link → Scene → AskHead → ℕ → List ℕ → Reason → Type 0
 IsFirstAskReason layout link scene beat known lanes = IsFirstOf (HasAskReason layout link scene beat known lanes) reason_rank
 
+-- the reason is the first one, in that order, why a beat of a reply is not lawful.
 abbrev pub IsFirstReplyReason : Layout → Link → Scene → ReplyHead → ℕ → List ℕ → Reason → Type 0
 IsFirstReplyReason layout link scene beat known lanes =
     IsFirstOf (HasReplyReason layout link scene beat known lanes) reason_rank

@@ -15,6 +15,7 @@ use Rattle.check_watch.specs.Past.{scene_found, scene_in_group, state}
 use Rattle.check_watch.specs.Allowed.{IsAllowedAsk, IsAllowedReply}
 use Rattle.check_watch.specs.Faults.{IsFirstAskReason, IsFirstReplyReason, reason_of, IsWrongReply}
 
+-- a beat of either channel is lawful at the link of a sighting if it finds this.
 abbrev pub IsAllowedBeat : Plan → Scene → Sighting → Beat → Type 0
 IsAllowedBeat plan here x (A beat) = IsAllowedAsk plan.layout x.link here beat x.known x.lanes
 IsAllowedBeat plan here x (D beat) = IsAllowedReply plan.layout x.link here beat x.known x.lanes
@@ -23,12 +24,15 @@ IsAllowedBeat plan here x (D beat) = IsAllowedReply plan.layout x.link here beat
 abbrev pub IsAllowed : Plan → Scene → Sighting → Type 0
 IsAllowed plan here x = IsAllowedBeat plan here x x.beat
 
+-- each beat is lawful by what it finds after those before it; no beats at all are lawful.
 abbrev pub IsLawfulGroup : Plan → List Sighting → Type 0
 IsLawfulGroup plan [] = Unit {0}
 IsLawfulGroup plan (x ∷ past) = IsLawfulGroup plan past × IsAllowed plan (scene_in_group plan past x) x
 
 -- ---- faults
 
+-- the reason is the first one, in the order in which they are tried, why a beat of either channel is not lawful if it
+-- finds this.
 abbrev pub IsFirstReasonOf : Plan → Scene → Sighting → Beat → Reason → Type 0
 IsFirstReasonOf plan here x (A beat) = IsFirstAskReason plan.layout x.link here beat x.known x.lanes
 IsFirstReasonOf plan here x (D beat) = IsFirstReplyReason plan.layout x.link here beat x.known x.lanes

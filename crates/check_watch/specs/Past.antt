@@ -29,6 +29,7 @@ pub record State : Type 0 where
 abbrev pub no_slave : PortSlave
 no_slave = fresh_slave Device Accept false
 
+-- the slave of a port; that of a port that is not there if the list does not reach to it.
 abbrev pub slave_at : List PortSlave → ℕ → PortSlave
 slave_at slaves port = unwrap_or (slice_get slaves port) no_slave
 
@@ -89,9 +90,11 @@ state_after plan state x =
           else state.slaves port;
     }
 
+-- what these sightings leave, from reset on.
 abbrev pub state : Plan → List Sighting → State
 state plan [] = reset_state plan
 state plan (x ∷ past) = state_after plan (state plan past) x
 
+-- what the beat of a sighting finds after this past.
 abbrev pub scene_in_group : Plan → List Sighting → Sighting → Scene
 scene_in_group plan past x = scene_of plan (state plan past) x.link x.beat

@@ -29,6 +29,7 @@ abbrev pub is_last_of_reply : Under → Beat → Bool
 is_last_of_reply under (A ask) = false
 is_last_of_reply under (D reply) = ends_reply under.bus under.replying reply
 
+-- after this past, the beat of the sighting is the last one of a reply.
 abbrev pub EndsReply : Plan → List Sighting → Sighting → Type 0
 EndsReply plan past x = IsTrue (is_last_of_reply ((state plan past).links (side_of x.link) (link_number x.link)) x.beat)
 
@@ -61,6 +62,7 @@ IsChangeBy Before After owners EndsOne x Nothing = (side : LinkSide) (wide : ℕ
 IsChangeBy Before After owners EndsOne x (Begins origin) = IsBegin Before After owners x origin
 IsChangeBy Before After owners EndsOne x (Ends wide) = IsEnd Before After EndsOne x wide
 
+-- what the beat of a sighting does to the requests in flight after this past.
 abbrev pub IsGroupChange : Plan → List Sighting → Sighting → Change → Type 0
 IsGroupChange plan past x change =
     IsChangeBy (IsInFlightInGroup plan past) (IsInFlightInGroup plan (x ∷ past)) plan.layout.owners (EndsReply plan past x) x

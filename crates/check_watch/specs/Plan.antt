@@ -84,23 +84,28 @@ pub record Sighting : Type 0 where
   pub known : ℕ
   pub lanes : List ℕ
 
+-- the sighting of a beat at a link, with the bits of its lanes that were known, and its lanes.
 abbrev pub seen_at : Link → Beat → ℕ → List ℕ → Sighting
 seen_at link beat known lanes = record { link = link; beat = beat; known = known; lanes = lanes }
 
 -- ---- sides and links
 
+-- the two sides of a crossbar: the masters' links, and the ports' links.
 pub data LinkSide : Type 0 where
   AtMasters : LinkSide
   AtPorts : LinkSide
 
+-- the side of a link.
 abbrev pub side_of : Link → LinkSide
 side_of (Master m) = AtMasters
 side_of (Port p) = AtPorts
 
+-- the number of a link among those of its side: that of its master or of its port.
 abbrev pub link_number : Link → ℕ
 link_number (Master m) = m
 link_number (Port p) = p
 
+-- whether two sides are the same one.
 abbrev pub same_side : LinkSide → LinkSide → Bool
 same_side AtMasters AtMasters = true
 same_side AtMasters AtPorts = false
@@ -116,6 +121,7 @@ abbrev pub HasLink : Layout → Link → Type 0
 HasLink layout (Master m) = m < length layout.owners
 HasLink layout (Port p) = p < length layout.ports
 
+-- the buses of all links of a side, by the numbers of the links.
 abbrev pub buses_of : Layout → LinkSide → List Bus
 buses_of layout AtMasters = layout.master_buses
 buses_of layout AtPorts = layout.port_buses
@@ -130,6 +136,7 @@ is_fifo layout link = is_fifo_by layout.fifos link
 
 -- ---- sources
 
+-- the source of a beat, as its link has it.
 abbrev pub source_of : Beat → ℕ
 source_of (A beat) = beat.source
 source_of (D beat) = beat.source
@@ -144,6 +151,7 @@ abbrev pub IsWideAt : Layout → Link → ℕ → ℕ → Type 0
 IsWideAt layout (Master m) source wide = IsWideSource layout.owners m source wide
 IsWideAt layout (Port p) source wide = (wide ≡ source) × IsOwned layout.owners source
 
+-- the link has the source: some wide source is that of it.
 abbrev pub HasSource : Layout → Link → ℕ → Type 0
 HasSource layout link source = (wide : ℕ) × IsWideAt layout link source wide
 

@@ -108,6 +108,8 @@ SlaveMayNeed layout link scene (D beat) lanes =
 
 -- ---- what a beat finds, once the slave has answered the request whose reply begins with it
 
+-- what a beat finds then: the slave after its answer, and what the reply has to fit if that is known then. A beat of a
+-- request finds what it found.
 abbrev pub once_answered : Layout → Link → Scene → Beat → Scene
 once_answered layout link scene (A beat) = scene
 once_answered layout link scene (D beat) =
@@ -124,6 +126,7 @@ abbrev pub turn_by : ℕ → Option Request → Turn
 turn_by number None = Asking number
 turn_by number (Some ask) = Asked number ask
 
+-- what is in flight of the beat's source on its side after the beat; the last beat of a reply leaves nothing.
 abbrev pub flight_after : Layout → Link → Scene → Beat → List ℕ → Flight
 flight_after layout link scene (A beat) lanes = record {
   turn = turn_by (link_number link) (ask_by scene.under beat lanes);
@@ -164,6 +167,8 @@ must_by false crossing due = due
 
 -- ---- what a beat ends
 
+-- the entry of a reply that was captured: its request, the reply, and the port with the request's place there, which
+-- stand in what was due.
 abbrev pub seen_entry : Request → Pattern → Answer → SeenEntry
 seen_entry ask reply answer = record { ask = ask; reply = reply; port = answer.port; index = answer.index }
 
@@ -174,6 +179,7 @@ seen_reply (Asked number ask) reply None = Part
 seen_reply (Asking number) reply answer = Part
 seen_reply Idle reply answer = Part
 
+-- a request that has ended is a whole one; if there is none, the beat was a part of one.
 abbrev pub seen_ask : Option Request → Seen
 seen_ask None = Part
 seen_ask (Some ask) = WholeAsk

@@ -25,6 +25,8 @@ use Rattle.check_watch.specs.Scene.{Scene, ask_if, takes_effect, begins_reply, a
 use Rattle.check_watch.specs.Past.{State, slave_at, port_of, scene_of, state}
 use Rattle.check_watch.specs.Lawful.{IsLawfulGroup}
 
+-- what is kept: the layout, both sides with what is under way and in flight there, how far the request of each wide
+-- source has come across, and the slave of each port, the error port's last.
 pub record GroupView : Type 0 where
   pub layout : Layout
   pub masters : SideView
@@ -54,9 +56,11 @@ pub record IsSized (view : GroupView) : Type 0 where
 
 -- ---- what stands at a place, and something for places that are not there
 
+-- how far the request of a wide source has come across; Waiting if the list does not reach to the source.
 abbrev pub crossing_at : List Crossing → ℕ → Crossing
 crossing_at crossings wide = unwrap_or (slice_get crossings wide) Waiting
 
+-- what is kept of a side.
 abbrev pub side_in : GroupView → LinkSide → SideView
 side_in view AtMasters = view.masters
 side_in view AtPorts = view.ports
@@ -65,9 +69,11 @@ side_in view AtPorts = view.ports
 abbrev pub own_side : GroupView → Link → SideView
 own_side view link = side_in view (side_of link)
 
+-- the messages under way at a link.
 abbrev pub under_in : GroupView → Link → Under
 under_in view link = under_at (own_side view link).links (link_number link)
 
+-- what is in flight of a wide source on the side of a link.
 abbrev pub flight_in : GroupView → Link → ℕ → Flight
 flight_in view link wide = flight_at (own_side view link).flights wide
 
@@ -195,6 +201,8 @@ abbrev pub MayNeedToAccept : GroupView → Link → ℕ → Option Request → T
 MayNeedToAccept view link port ask =
     IsSomeAnd (accepted_in view link port ask) (λ ask. IsTrue (may_need_to_accept (slave_at view.slaves port) ask))
 
+-- what is in flight of a source after a beat of its request at a link: the request, if it ends with the beat, and what
+-- its reply has to fit, if that is known then.
 abbrev pub asked_flight : GroupView → Link → ℕ → Option Request → Flight
 asked_flight view link port ask = record {
   turn = turn_by (link_number link) ask;

@@ -50,7 +50,8 @@ pub enum Fault {
 pub enum StepError {
     /// The beat is not lawful after those before it.
     Unlawful(Fault),
-    /// It is lawful: what would be kept of it has no room.
+    /// It is lawful: what would be kept of it has no room. No clause says that room is refused only if the system has
+    /// none: the allocator answers that.
     Memory,
 }
 

@@ -21,6 +21,7 @@ pub record IsWatchedAt (layout : Layout) (x : Sighting) : Type 0 where
   pub watched : IsGroupLink layout x.link
   pub lanes : bus_of layout x.link ≤ length x.lanes
 
+-- so is each of these sightings.
 abbrev pub AreWatched : Layout → List Sighting → Type 0
 AreWatched layout past = AllByRecursion (IsWatchedAt layout) past
 
@@ -30,6 +31,7 @@ AreWatched layout past = AllByRecursion (IsWatchedAt layout) past
 abbrev pub ask_beat : ℕ → AskHead → List ℕ → AskBeat
 ask_beat bus beat lanes = record { head = beat; lanes = take bus lanes }
 
+-- the same of a beat of channel D.
 abbrev pub reply_beat : ℕ → ReplyHead → ℕ → List ℕ → ReplyBeat
 reply_beat bus beat known lanes = record { head = beat; known = known % 2 ^ bus; lanes = take bus lanes }
 
@@ -38,7 +40,7 @@ abbrev pub more_asks : ℕ → Sighting → Beat → List AskBeat → List AskBe
 more_asks bus x (A beat) before = ask_beat bus beat x.lanes ∷ before
 more_asks bus x (D beat) before = before
 
--- the beats of channel A that crossed a link
+-- the beats of channel A that crossed a link. Lanes past the bus are left out.
 abbrev pub asks_over : Layout → Link → List Sighting → List AskBeat
 asks_over layout link [] = []
 asks_over layout link (x ∷ past) =
@@ -50,6 +52,7 @@ abbrev pub more_replies : ℕ → Sighting → Beat → List ReplyBeat → List 
 more_replies bus x (A beat) before = before
 more_replies bus x (D beat) before = reply_beat bus beat x.known x.lanes ∷ before
 
+-- the beats of channel D that crossed a link.
 abbrev pub replies_over : Layout → Link → List Sighting → List ReplyBeat
 replies_over layout link [] = []
 replies_over layout link (x ∷ past) =
@@ -57,23 +60,28 @@ replies_over layout link (x ∷ past) =
     then more_replies (bus_of layout link) x x.beat (replies_over layout link past)
     else replies_over layout link past
 
--- what they leave of the request that is under way, its beats, and the requests that have ended, each with its beats
+-- what these beats leave of the request that is under way at a link; none if none is under way.
 abbrev pub asking_at : Layout → Link → List Sighting → Option AskBegun
 asking_at layout link past = asking (bus_of layout link) (asks_over layout link past)
 
+-- the beats of the request that is under way at a link, the earliest first; empty if none is under way.
 abbrev pub begun_at : Layout → Link → List Sighting → List AskBeat
 begun_at layout link past = begun (bus_of layout link) (asks_over layout link past)
 
+-- the requests that have ended at a link, each with its beats, in the order of their last beats.
 abbrev pub ended_at : Layout → Link → List Sighting → List (Request × List AskBeat)
 ended_at layout link past = ended_asks (bus_of layout link) (asks_over layout link past)
 
--- the same of replies, each by the address of its request
+-- what is left of the reply that is under way at a link; none if none is under way.
 abbrev pub replying_at : Layout → Link → List Sighting → Option ReplyBegun
 replying_at layout link past = replying (bus_of layout link) (replies_over layout link past)
 
+-- the beats of the reply that is under way at a link, the earliest first; empty if none is under way.
 abbrev pub begun_replies_at : Layout → Link → List Sighting → List ReplyBeat
 begun_replies_at layout link past = begun_reply (bus_of layout link) (replies_over layout link past)
 
+-- the replies that have ended at a link, each by the address of its request and with its beats, in the order of their
+-- last beats.
 abbrev pub ended_replies_at : Layout → Link → List Sighting → List ((ℕ → Pattern) × List ReplyBeat)
 ended_replies_at layout link past = ended_replies (bus_of layout link) (replies_over layout link past)
 

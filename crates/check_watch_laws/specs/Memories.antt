@@ -33,6 +33,7 @@ side_by Masters crosses = AtMasters
 side_by Ports crosses = AtPorts
 side_by Each crosses = AtMasters
 
+-- the side at whose links the slave of a port is seen.
 abbrev pub side_for : Layout → ℕ → LinkSide
 side_for layout port = side_by layout.links (may_cross layout port)
 
@@ -52,6 +53,7 @@ is_for plan port seen =
 abbrev pub reset_of : Plan → ℕ → PortSlave
 reset_of plan port = slave_at plan.resets port
 
+-- when requests take effect at a port: its slave says so at reset.
 abbrev pub order_at : Plan → ℕ → Order
 order_at plan port = (reset_of plan port).order
 
@@ -119,6 +121,7 @@ exchanges_at plan port wide past =
     filter (λ (seen : AskSeen × ReplySeen). is_for plan port seen.0)
     (exchanges plan (side_for plan.layout port) wide past)
 
+-- the entries of a history that are of this wide source.
 abbrev pub entries_of : ℕ → List (Request × Pattern) → List (Request × Pattern)
 entries_of wide history = filter (λ (entry : Request × Pattern). entry.0.source == wide) history
 

@@ -24,6 +24,7 @@ pub record RequestMoment : Type 0 where
   pub wide : ℕ
   pub ask : Request
 
+-- that a whole request of a wide source is accepted, or answered.
 abbrev pub moment_of : Act → ℕ → AskSeen → RequestMoment
 moment_of act wide seen = record { act = act; wide = wide; ask = seen.ask }
 
@@ -43,14 +44,17 @@ moments plan port (x ∷ past) = moments plan port past ++ moments_with plan por
 
 -- ---- what a slave makes of them
 
+-- the slave after a request of a wide source is accepted, or after it is answered; unchanged if there is no request.
 abbrev pub acting : Act → PortSlave → ℕ → Option Request → PortSlave
 acting Accepts slave wide ask = accepting slave wide ask
 acting Answers slave wide ask = answering slave wide ask
 
+-- what the reply to a request of a wide source has to fit, if that becomes known as it is accepted, or as it is answered.
 abbrev pub due_acting : Act → ℕ → PortSlave → ℕ → Option Request → Option Answer
 due_acting Accepts port slave wide ask = due_accepting port slave ask
 due_acting Answers port slave wide ask = due_answering port slave wide ask
 
+-- the slave after one moment.
 abbrev pub slave_then : PortSlave → RequestMoment → PortSlave
 slave_then slave moment = acting moment.act slave moment.wide (Some moment.ask)
 

@@ -19,12 +19,13 @@ use Rattle.check_watch_laws.specs.Moments.Act.{Accepts, Answers}
 
 -- ---- what is seen of such a slave
 
--- that a request is accepted, and that one is answered
+-- that the request of a wide source is answered, if it has taken effect.
 abbrev pub seen_answer : ℕ → Course → List RequestMoment
 seen_answer wide Idle = []
 seen_answer wide (Waiting ask) = []
 seen_answer wide (Served ask reply) = record { act = Answers; wide = wide; ask = ask } ∷ []
 
+-- what is seen of a moment of such a slave: that a request is accepted, or answered. That it takes effect nobody sees.
 abbrev pub seen_then : Truth → SlaveMoment → List RequestMoment
 seen_then truth (SlaveAccepts wide ask) = record { act = Accepts; wide = wide; ask = ask } ∷ []
 seen_then truth (TakesEffect wide) = []
@@ -43,6 +44,8 @@ answer_given wide Idle = []
 answer_given wide (Waiting ask) = []
 answer_given wide (Served ask reply) = (record ask { source = wide }, record reply { source = wide }) ∷ []
 
+-- the request that a moment answers, with what was expected of the slave as it took effect; none if the moment is
+-- another.
 abbrev pub given_then : Truth → SlaveMoment → List (Request × Pattern)
 given_then truth (SlaveAccepts wide ask) = []
 given_then truth (TakesEffect wide) = []

@@ -21,15 +21,17 @@ pub record IsHeldWord (found master : ℕ) : Type 0 where
   pub codes : IsWordOf phase found
   pub names : Names phase master
 
--- by these words of slots, the slot is free; it is held by the master; by these leave words the master has left
+-- by these words of slots, the slot is free.
 abbrev pub IsFree : List ℕ → ℕ → Type 0
 IsFree slots i = slice_get slots i ≡ Some (word Free)
 
+-- by these words of slots, the slot is held by this master: its word is that of a phase which names the master.
 pub record IsHeld (slots : List ℕ) (held : HeldSlot) : Type 0 where
   pub found : ℕ
   pub at : slice_get slots held.slot ≡ Some found
   pub of : IsHeldWord found held.master
 
+-- by these leave words, master m has left: its word is 1.
 abbrev pub HasLeft : List ℕ → ℕ → Type 0
 HasLeft leaves m = slice_get leaves m ≡ Some 1
 

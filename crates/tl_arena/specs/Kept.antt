@@ -56,6 +56,7 @@ pub record IsMasterKept (me : Seat) (order : List ℕ) (capacity number owned co
 
 -- ---- a port's seat
 
+-- what callers see of a port's seat of a table with this view; the seat is blank if the view is not a port's.
 abbrev pub port_view : TableId → View → PortView
 port_view table w = record {
   arena = arena_id table (as_port w).about;

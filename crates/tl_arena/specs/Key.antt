@@ -3,6 +3,7 @@ use Rattle.std.specs.Prelude.{map}
 use Rattle.tl_rule.specs.declared.view.About.{About}
 use Rattle.tl_arena.specs.declared.key.Key.{Key}
 
+-- what never changes of an arena, as the key of its table keeps it.
 abbrev pub about_in : Key → About
 about_in key = record {
   slots = key.slots;

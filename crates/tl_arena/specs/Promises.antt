@@ -37,13 +37,18 @@ pub record IsCollected (v : MasterView) (t : TicketView) (s : ServedView) (w : M
   pub ask : s.ask ≡ t.ask
   pub port : s.port ≡ t.port
   pub seat : w ≡ with_collected v s.slot (entry_of s)
+  -- its place in the port's list is above all that the master had collected there when the request was posted
   pub above : Above v.got t.known s.port s.index
+  -- nothing was collected at that place before
   pub fresh : IsPlaceOf (at_port s.port v.got) s.index → ⊥
   pub history : List (Request × Response)
   pub lawful : IsLawfulHistory (reset_of v.arena.about s.port) history
   -- no request from elsewhere can have changed what was read
   pub masters : IsOfMasters v.arena.about history
+  -- in the history the request and the reply stand at that place, after all that the master had collected there when
+  -- it posted
   pub seen : SeenFit history s.index s.ask s.reply (at_port s.port (take t.known v.got))
+  -- and of the master's own requests it has just those that it made
   pub own : JustOwn history (Owns v.arena.about v.number) (at_port s.port w.got) (sent_at s.port w.hand)
 
 -- for each port one lawful history of its reset, of requests of masters alone, has all that the master collected there,

@@ -81,9 +81,11 @@ abbrev pub with_collected : MasterView → ℕ → Entry → MasterView
 with_collected v i e =
     record { arena = v.arena; number = v.number; hand = slice_set v.hand i (Taken e.port); got = v.got ++ e ∷ [] }
 
+-- the entry of a collected reply in the list of what the master has collected.
 abbrev pub entry_of : ServedView → Entry
 entry_of s = record { ask = s.ask; reply = s.reply; port = s.port; index = s.index }
 
+-- the view of a new seat of master m: it owns no slot, and has collected nothing.
 abbrev pub new_master : ArenaId → ℕ → MasterView
 new_master a m = record { arena = a; number = m; hand = replicate a.about.slots Nothing; got = [] }
 
@@ -107,6 +109,7 @@ abbrev pub with_answered : PortView → ℕ × Request → Response → PortView
 with_answered u f reply =
     record { arena = u.arena; number = u.number; list = u.list ++ (f.1, reply) ∷ []; serving = drop_slot f.0 u.serving }
 
+-- the view of a new seat of port p: it has served nothing, and has accepted nothing.
 abbrev pub new_port : ArenaId → ℕ → PortView
 new_port a p = record { arena = a; number = p; list = []; serving = [] }
 

@@ -7,7 +7,7 @@ ghost use Rattle.tl_arena.specs.Kept.{IsBrought};
 use crate::seats::TableSeat;
 use std::collections::VecDeque;
 
-/// Turns the seat and its order until the slot is first.
+/// Turns the seat and its order until the slot is first. That takes at most one turn for each slot that is out.
 pub(crate) fn bring(seat: &mut TableSeat, order: &mut VecDeque<usize>, slot: usize)
     requires mirror { firsts seat.old.me.1 ≡ order.old.items }
     requires there { has order.old.items slot ≡ true }

@@ -44,10 +44,11 @@ AreRecorded owners traces histories = (m k : ℕ) (e : Entry) → HasEntry trace
 abbrev pub names : ℕ → ℕ → Entry → Bool
 names p i e = (e.port == p) && (e.index == i)
 
--- how many entries of a trace name it, and how many of all traces
+-- how many entries of a trace name place i of the history of port p.
 abbrev pub times_in : ℕ → ℕ → List Entry → ℕ
 times_in p i trace = length (filter (names p i) trace)
 
+-- how many entries of all traces name place i of the history of port p.
 abbrev pub times_named : List (List Entry) → ℕ → ℕ → ℕ
 times_named [] p i = 0
 times_named (trace ∷ traces) p i = times_in p i trace + times_named traces p i

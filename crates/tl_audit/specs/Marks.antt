@@ -16,12 +16,13 @@ rows_in vectors = map (λ vector. vector.items) vectors
 abbrev pub cell : {A : Type 0} → List (List A) → ℕ → ℕ → Option A
 cell rows p i = option_and_then (λ row. slice_get row i) (slice_get rows p)
 
--- the mark of a place that one entry more names, and that so many more name
+-- the mark of a place that one entry more names.
 abbrev pub next_of : Mark → Mark
 next_of Unnamed = Named
 next_of Named = NamedAgain
 next_of NamedAgain = NamedAgain
 
+-- the mark of a place that so many entries more name.
 abbrev pub next_times : ℕ → Mark → Mark
 next_times zero mark = mark
 next_times (suc n) mark = next_of (next_times n mark)

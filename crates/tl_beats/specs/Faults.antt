@@ -65,7 +65,8 @@ HasReplyBeatFault beats (Mask b) = ⊥
 HasReplyBeatFault beats (CorruptFlag b) =
     OfFirstReplyOp beats (λ first op. FailsFirstAt (λ beat. IsLawfulFlag op first.denied beat.corrupt) beats b)
 
--- the place of a fault in the order in which faults are tried
+-- the place of a fault in the order in which faults are tried. If there is a beat, a fault is of the first beat, of the
+-- first beat and the operation that it names, or of the lowest beat that breaks a rule.
 abbrev pub beat_fault_rank : BeatFault → ℕ
 beat_fault_rank NoBeat = 1
 beat_fault_rank (Op _) = 2

@@ -18,6 +18,7 @@ reply_op_at zero = AccessAck
 reply_op_at (suc zero) = AccessAckData
 reply_op_at (suc (suc n)) = HintAck
 
+-- a beat of channel D for places behind the last beat: it has no lanes.
 abbrev pub no_beat : DBeat
 no_beat = record { opcode = 0; size = 0; source = 0; denied = false; corrupt = false; lanes = [] }
 
@@ -27,6 +28,8 @@ told_byte beats address first j =
     if first.denied then 0 else slice_index (slice_index_or beats (j / BUS_BYTES) no_beat).lanes
     (lane_of address first.size j)
 
+-- the reply that these beats of channel D tell, the first beat in front, to a request at this address. If they spell a
+-- lawful reply, it is that one.
 abbrev pub told_reply : List DBeat → ℕ → Response
 told_reply beats address =
     let first = slice_index_or beats 0 no_beat in record {

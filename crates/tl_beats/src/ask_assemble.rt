@@ -12,6 +12,7 @@ use crate::bus::{active_mask, beat_count, first_lane};
 use tl_types::{Ask, AskOp, BUS_BYTES, Bytes, MAX_BYTES, MAX_SIZE, read_op};
 
 /// Whether two beats have the same shared fields.
+/// They do not lie side by side as those of a reply do, so they are compared one by one.
 pub fn same_fields(first: &ABeat, beat: &ABeat) -> bool
     ensures { IsTrue result ↔ SameFields first.now beat.now }
 {

@@ -79,6 +79,7 @@ fn check_reply_beats(beats: &[DBeat], first: &DBeat, op: ReplyOp) -> Result<(), 
 }
 
 /// Puts the lanes of all beats, one beat after the other, over others.
+// A list that grows is slower: each beat would wait for the length that the one before it leaves.
 fn put_lanes(beats: &[DBeat], lanes: &mut [u8; MAX_BYTES])
     requires { length beats.now ≤ MAX_BEATS }
     ensures { AreLanesOf beats.now lanes.new }

@@ -28,6 +28,7 @@ reply_in pools header = record {
   bytes = plain_in pools header.answer_start (reply_byte_count header.answer header.answer_size);
 }
 
+-- the request and the reply that a header stands for.
 abbrev pub entry_in : PoolsView → Header → Request × Response
 entry_in pools header = (ask_in pools header, reply_in pools header)
 
@@ -38,7 +39,8 @@ pub record IsEntryIn (pools : PoolsView) (header : Header) : Type 0 where
   pub lawful : IsLawfulResponse header.answer header.answer_size header.denied
       (plain_in pools header.answer_start (reply_byte_count header.answer header.answer_size))
 
--- the pools have room for the longest messages of so many more entries
+-- the pools have room for the longest messages of so many more entries. An entry's request and reply have at most
+-- `MAX_WHOLE` bytes together, which is 512.
 pub record HasRoom (pools : PoolsView) (left : ℕ) : Type 0 where
   pub whole : length pools.whole + left * MAX_WHOLE ≤ pools.whole_room
   pub partial : length pools.partial + left * MAX_BYTES ≤ pools.partial_room

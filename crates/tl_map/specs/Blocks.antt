@@ -4,7 +4,7 @@ use Rattle.tl_map.specs.Block.{IsBlock}
 use Rattle.tl_map.specs.declared.limits.TheConstants.{MAX_BLOCK, MAX_JUDGED_MASTERS}
 use Rattle.tl_map.specs.declared.owners.Owner.{Owner}
 
--- a master has a source, and not more than a block may have
+-- a master has a source, and not more than a block may have. There are 1 to 256 sources.
 pub record IsFew (count : ℕ) : Type 0 where
   pub some : 0 < count
   pub few : count ≤ MAX_BLOCK

@@ -7,7 +7,8 @@ use Rattle.tl_map.specs.declared.owners.SourceOwnerFault.{SourceOwnerFault}
 use Rattle.tl_map.specs.declared.owners.SourceOwnerFault.TheVariants.{TooMany, Shared, Memory}
 use Rattle.tl_map.specs.declared.limits.TheConstants.{MAX_JUDGED_MASTERS, MAX_JUDGED_SOURCES, MAX_WIDE}
 
--- an owner has a source, not too many, and the last of them is none too large
+-- an owner has a source, not too many, and the last of them is none too large. There are 1 to 65,536 sources, the stride
+-- is at least 1, and no wide source is above 65,535.
 pub record IsLawfulOwner (owner : Owner) : Type 0 where
   pub some : 0 < owner.count
   pub few : owner.count ≤ MAX_JUDGED_SOURCES
@@ -19,7 +20,7 @@ pub record IsShared (owners : List Owner) (one other wide : ℕ) : Type 0 where
   pub of_one : IsOf owners one wide
   pub of_other : IsOf owners other wide
 
--- few enough masters, each lawful, and no two of them with a wide source in common
+-- few enough masters, each lawful, and no two of them with a wide source in common. There are at most 64 masters.
 pub record AreLawfulOwners (owners : List Owner) : Type 0 where
   pub masters : length owners ≤ MAX_JUDGED_MASTERS
   pub each : All IsLawfulOwner owners
@@ -60,6 +61,7 @@ source_fault_rank TooMany = 1
 source_fault_rank (Shared earlier later wide) = 2
 source_fault_rank Memory = 3
 
--- the fault is the first one, in that order, of these owners
+-- the fault is the first one, in that order, of these owners. A call may also be refused memory before it has looked for
+-- a shared source, but never if there are too many masters or sources.
 abbrev pub IsFirstSourceOwnerFault : List Owner → SourceOwnerFault → Type 0
 IsFirstSourceOwnerFault owners = IsFirstOf (HasSourceFault owners) source_fault_rank

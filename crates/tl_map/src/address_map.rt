@@ -132,7 +132,8 @@ fn port_of(ports: &[Vec<Range>], placed: &[Placed], address: u64, size: u8) -> u
     }
 }
 
-/// The last range, by rising bases, that begins at an address or below.
+/// The last range, by rising bases, that begins at an address or below. It is found by halving; no clause says how many
+/// ranges are looked at.
 fn last_from(placed: &[Placed], address: u64) -> Option<Placed>
     requires { DoRise placed.now }
     ensures found { IfSome result (IsLastFrom placed.now address) }

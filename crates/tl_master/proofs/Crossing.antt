@@ -1,4 +1,5 @@
--- What may go to a thread of its own: a master may, since its seat, the tickets that are out and its trace may.
+-- What may go to a thread of its own: a master may, since its seat, the tickets that are out and its trace may. It is
+-- proved here, since the toolchain writes no such lemma of a struct with tickets.
 use mathlib.Core.List.{List}
 use Prim.Native.Nat.{ℕ}
 use denote.RattleType.{RattleType}

@@ -20,6 +20,8 @@ pub record MasterState : Type 0 where
 abbrev pub count_of : List Owner → ℕ → ℕ
 count_of owners master = slice_index_or (counts_in owners) master 0
 
+-- a master with this seat, of which nothing is out and whose trace is empty; entries and requests out are at most
+-- `limit`.
 abbrev pub new_state : MasterView → ℕ → MasterState
 new_state v limit = record {
   seat = v;
@@ -44,9 +46,11 @@ pub record IsNextOut (out : List (Option TicketView)) (from source : ℕ) : Type
 
 -- ---- sources
 
+-- the same request with this source.
 abbrev pub ask_from : ℕ → Request → Request
 ask_from source q = record { op = q.op; size = q.size; source = source; address = q.address; bytes = q.bytes }
 
+-- the same reply with this source.
 abbrev pub reply_to : ℕ → Response → Response
 reply_to source r = record { op = r.op; size = r.size; source = source; denied = r.denied; bytes = r.bytes }
 
@@ -77,6 +81,7 @@ IsInOrder es = (j k : ℕ) (d e : Entry) → j < k → slice_get es j ≡ Some d
 abbrev pub of_source : ℕ → List Request → List Request
 of_source source qs = filter (λ (q : Request). eqb q.source source) qs
 
+-- the requests of entries, in order.
 abbrev pub requests_of : List Entry → List Request
 requests_of es = map (λ (e : Entry). e.ask) es
 

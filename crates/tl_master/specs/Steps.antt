@@ -62,6 +62,8 @@ IsRefused m q TraceFull =
 IsRefused m q NoSlot =
     (q.source < length m.out) × (ticket_at m.out q.source ≡ None) × (length m.trace + out_of m.out < m.limit)
 
+-- what an issue of the request q does to the master m, by its answer: one request is posted, which leaves the master n;
+-- or it is refused, and nothing changes.
 abbrev pub Issues : List (List Range) → MasterState → Request → Result Issued IssueFault → MasterState → Type 0
 Issues ranges m q (Ok issued) n = IssuesOne ranges m q issued n
 Issues ranges m q (Err fault) n = (n ≡ m) × IsRefused m q fault
@@ -108,6 +110,8 @@ pub record CollectsOne (m : MasterState) (source place : ℕ) (n : MasterState) 
   pub above : Above m.trace ticket.known entry.port entry.index
   pub master : n ≡ with_entry m source n.seat entry
 
+-- what a poll of a source does to the master m, by its answer: nothing is out, what is out has no reply yet, or one reply
+-- is collected. Only the last changes anything.
 abbrev pub Polls : MasterState → ℕ → Polled → MasterState → Type 0
 Polls m source Idle n = (n ≡ m) × (ticket_at m.out source ≡ None)
 Polls m source NotYet n = (n ≡ m) × IsSome (ticket_at m.out source)

@@ -39,7 +39,9 @@ any_size = Some (record { least = 0; greatest = MAX_SIZE })
 abbrev pub word_size : Option SizeSpan
 word_size = Some (record { least = 2; greatest = 3 })
 
--- the row of a kind: what a port of this kind supports if no table is given
+-- the row of a kind: what a port of this kind supports if no table is given. A RAM serves everything, the atomics at 4
+-- and 8 bytes. A ROM serves gets and prefetches. Registers, of either kind, serve gets and full puts of 4 or 8 bytes.
+-- `NoDevice` serves nothing.
 abbrev pub row_of_kind : Kind → SizeTable
 row_of_kind Ram = record {
   get = any_size;

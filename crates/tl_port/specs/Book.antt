@@ -17,6 +17,7 @@ pub record BookView : Type 0 where
   pub flights : List (ℕ × Request)
   pub journal : ℕ
 
+-- the book of a port with this memory: nothing was served, nothing is in flight, and there is room for `journal` entries.
 abbrev pub new_book : PortView → Store → ℕ → BookView
 new_book u store journal = record { seat = u; store = store; history = []; flights = []; journal = journal }
 
@@ -29,6 +30,7 @@ abbrev pub AreDistinctBy : {A : Type 0} → (A → ℕ) → List A → Type 0
 AreDistinctBy {A} key xs =
     (j k : ℕ) (x y : A) → slice_get xs j ≡ Some x → slice_get xs k ≡ Some y → key x ≡ key y → j ≡ k
 
+-- the book is lawful: its memory, its history and its seat agree, and all that it has taken has room in it.
 pub record IsLawfulBook (b : BookView) : Type 0 where
   -- wide sources in flight are distinct
   pub sources : AreDistinctBy (λ (f : ℕ × Request). f.1.source) b.flights

@@ -3,6 +3,8 @@
 use Rattle.std.specs.Prelude.{ℕ, ◌≤◌}
 use Rattle.tl_port.specs.Book.{BookView, IsLawfulBook}
 
+-- the book is lawful; there is room for as many entries as its journal may have, and for a request in flight of each
+-- slot.
 pub record IsKeptBook (b : BookView) (entries flights : ℕ) : Type 0 where
   pub lawful : IsLawfulBook b
   pub entries_fit : b.journal ≤ entries

@@ -38,6 +38,7 @@ pub record TakesOne (b : BookView) (source : ℕ) (c : BookView) : Type 0 where
   pub event : IsAcceptStep b.seat flight c.seat
   pub book : c ≡ with_flight b flight
 
+-- what an intake does to the book b, by its answer: it takes one request and leaves the book c, or nothing changes.
 abbrev pub Takes : BookView → Intake → BookView → Type 0
 Takes b (Taken source) c = TakesOne b source c
 Takes b Nothing c = c ≡ b
@@ -63,6 +64,8 @@ pub record ServesOne (b : BookView) (place : ℕ) (c : BookView) : Type 0 where
   pub place_is : place ≡ length b.history
   pub book : c ≡ with_served b flight c.flights
 
+-- what a service does to the book b, by its answer: it serves the oldest request, at this place of the history; or
+-- nothing is in flight, and nothing changes.
 abbrev pub Serves : BookView → Option ℕ → BookView → Type 0
 Serves b None c = (b.flights ≡ []) × (c ≡ b)
 Serves b (Some place) c = ServesOne b place c

@@ -20,6 +20,7 @@ abbrev pub of_audit : AuditFault → RunFault
 of_audit audit.Memory = Memory
 of_audit fault = Audit fault
 
+-- a fault of the threads is told as it is.
 abbrev pub of_thread : ThreadFault → RunFault
 of_thread thread.Memory = Memory
 of_thread thread.NoThread = NoThread

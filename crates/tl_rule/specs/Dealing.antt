@@ -15,22 +15,25 @@ use Rattle.tl_rule.specs.Rule.{Fits}
 abbrev pub opening_view : About → View
 opening_view a = Dealer a 0 0
 
--- what the dealer's view becomes, and the new seat's, where the next master or the next port gets its seat
+-- the dealer's view after it has dealt a seat to one master more; any other view stays as it is.
 abbrev pub after_master : View → View
 after_master (Dealer a m p) = Dealer a (m + 1) p
 after_master (Master v) = Master v
 after_master (Port u) = Port u
 
+-- the view of the new seat, if the dealer deals one to the next master; any other view is handed on as it is.
 abbrev pub next_master : View → View
 next_master (Dealer a m p) = Master (new_hands a m)
 next_master (Master v) = Master v
 next_master (Port u) = Port u
 
+-- the dealer's view after it has dealt a seat to one port more; any other view stays as it is.
 abbrev pub after_port : View → View
 after_port (Dealer a m p) = Dealer a m (p + 1)
 after_port (Master v) = Master v
 after_port (Port u) = Port u
 
+-- the view of the new seat, if the dealer deals one to the next port; any other view is handed on as it is.
 abbrev pub next_port : View → View
 next_port (Dealer a m p) = Port (new_desk a p)
 next_port (Master v) = Master v

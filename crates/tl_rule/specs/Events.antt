@@ -15,7 +15,7 @@ abbrev pub state_of : About → Parts → machine.State
 state_of a c = record { phases = c.phases; left = c.left; ports = a.ports }
 
 -- a table that fits becomes one that fits, by one event: the core accepts it in the state that the words show, and the
--- words then show the state that it leaves
+-- words then show the state that it leaves. No two phases have the same word, so words show one state alone.
 pub record IsOneEvent (a : About) (event : Event) (s t : State Berth View) : Type 0 where
   pub before : Parts
   pub after : Parts

@@ -28,6 +28,7 @@ use Rattle.tl_rule.specs.Events.{IsOneEvent}
 use Rattle.tl_rule.specs.Seen.{IsOfMasters, SeenFit, JustOwn, at_port, sent_at}
 use Rattle.tl_rule.specs.Moves.{IsLawfulDesk, entry}
 
+-- a table: its words, the records at home, and the views of its seats.
 abbrev pub Table : Type 0
 Table = State Berth View
 
@@ -70,6 +71,7 @@ pub record CanPost (a : About) (s : Table) (id i : ℕ) (v : Hands) (letter : Sl
   pub own : Owns v.about v.number ask.source
   pub unsent : (j q known : ℕ) (other : Request) → in_hand v j ≡ Sent other q known → ask.source ≢ other.source
 
+-- such a post is one event: the record goes home, the word says Posted, and the hand has the request as sent to port p.
 abbrev pub PostIsOneEvent : Type 0
 PostIsOneEvent =
     (a : About) (s : Table) (id i : ℕ) (v : Hands) (carried : Carried) (letter : SlotRecord) (ask : Request) (p : ℕ)
@@ -115,6 +117,7 @@ pub record CanAnswer (a : About) (s : Table) (id i : ℕ) (u : Desk) (letter : S
   pub last : letter.index ≡ length u.list
   pub right : reply ≡ store.reply (replay (reset_of u.about u.number) (asks_of u.list)) ask
 
+-- such an answer is one event: the record goes home, the word says Answered, and the port serves the slot no more.
 abbrev pub AnswerIsOneEvent : Type 0
 AnswerIsOneEvent =
     (a : About) (s : Table) (id i : ℕ) (u : Desk) (carried : Carried) (letter : SlotRecord) (ask : Request)
@@ -177,6 +180,7 @@ pub record IsTrueListFor (v : Hands) (u : Desk) : Type 0 where
   pub masters : IsOfMasters v.about u.list
   pub own : JustOwn u.list (Owns v.about v.number) (at_port u.number v.got) (sent_at u.number v.hand)
 
+-- so it is of each master's view and each port's list between any two steps.
 abbrev pub ListsAreJustOwn : Type 0
 ListsAreJustOwn =
     (a : About) (s : Table) (id at : ℕ) (v : Hands) (u : Desk) → AreSeatsOf a s id at v u → IsTrueListFor v u
@@ -198,6 +202,7 @@ pub record IsAnsweredSlot (a : About) (s : Table) (i : ℕ) (v : Hands) (u : Des
   pub answered : slice_index s.words i ≡ word (Answered v.number u.number)
   pub home : IsHome s.homes i letter
 
+-- so it is of each slot that the port has answered for the master, between any two steps.
 abbrev pub AnswersAreSeenFit : Type 0
 AnswersAreSeenFit =
     (a : About) (s : Table) (id at i : ℕ) (v : Hands) (u : Desk) (letter : SlotRecord)
@@ -229,6 +234,7 @@ pub record AreArenaWords (a : About) (words : List ℕ) : Type 0 where
   pub owners_stay : (i m : ℕ) (f : Phase) → i < a.slots → IsWordOf f (slice_index words i) → Names f m
       → (m < a.masters) × (slice_index words (a.slots + m) ≡ 0)
 
+-- the words of each table that fits are these.
 abbrev pub WordsFit : Type 0
 WordsFit = (a : About) (s : Table) → Fits a s → AreArenaWords a s.words
 

@@ -27,21 +27,25 @@ use Rattle.tl_rule.specs.Seen.{IsOfMasters, SeenFit, JustOwn, IsPlaceOf, at_port
 abbrev pub Seat : Type 0
 Seat = Me Berth View
 
+-- the view is a master's.
 abbrev pub is_master : View → Bool
 is_master (Dealer a m p) = false
 is_master (Master v) = true
 is_master (Port u) = false
 
+-- the view is a port's.
 abbrev pub is_port : View → Bool
 is_port (Dealer a m p) = false
 is_port (Master v) = false
 is_port (Port u) = true
 
+-- the view of a master's seat; blank if the seat is not a master's.
 abbrev pub as_master : View → Hands
 as_master (Dealer a m p) = no_hands
 as_master (Master v) = v
 as_master (Port u) = no_hands
 
+-- the view of a port's seat; blank if the seat is not a port's.
 abbrev pub as_port : View → Desk
 as_port (Dealer a m p) = no_desk
 as_port (Master v) = no_desk
@@ -55,14 +59,16 @@ handed m i x = Master (with_hand (as_master m.0) i x (as_master m.0).got)
 abbrev pub service_of : Seat → ℕ → Option Request
 service_of m i = ask_at (as_port m.0).serving i
 
--- the record of the slot that was taken last
+-- a record that is not there: it has no beats and no replies.
 abbrev pub no_record : SlotRecord
 no_record = record { beats = []; port = 0; index = 0; replies = [] }
 
+-- the record in a berth; blank if the berth is empty.
 abbrev pub record_in : Berth → SlotRecord
 record_in None = no_record
 record_in (Some r) = r
 
+-- the record of the slot that was taken last, which stands first; blank if no slot is out.
 abbrev pub top : List (ℕ × Berth) → SlotRecord
 top [] = no_record
 top (x ∷ xs) = record_in x.1
@@ -78,12 +84,15 @@ IsUnsent m source = (i p known : ℕ) (ask : Request) → in_hand (as_master m.0
 abbrev pub owner_in : ℕ → ℕ
 owner_in word = word / 8 % 256
 
+-- the port that a slot's word names: its bits from bit 11 on, counted from 0.
 abbrev pub port_in : ℕ → ℕ
 port_in word = word / 2048
 
+-- what a step tells: of the step, the seat before it, the word found (at a store, the word stored) and the seat after it.
 abbrev pub Play : Type 1
 Play = Step Berth → Seat → ℕ → Seat → Type 0
 
+-- what a compare-exchange that found its word tells: of the step, the seat before it and the seat after it.
 abbrev pub Won : Type 1
 Won = Step Berth → Seat → Seat → Type 0
 
@@ -153,6 +162,7 @@ pub record Answers (st : Step Berth) (m : Seat) (r : ℕ) (n : Seat) : Type 0 wh
   pub law : IsLawfulDesk (as_port n.0)
   pub event : IsEventOf (as_port m.0).about (Answer st.word (owner_in r) (as_port m.0).number) m.0 n.0
 
+-- the entry of a reply that was collected at port p, with the place of the request in the port's list as its index.
 abbrev pub entry : ℕ → ℕ → Request → Response → Entry
 entry p index ask reply = record { ask = ask; reply = reply; port = p; index = index }
 

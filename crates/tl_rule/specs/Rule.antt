@@ -45,6 +45,8 @@ leave_word left = cond left 1 0
 abbrev pub views_of : About → List Hands → List Desk → List View
 views_of a ms ps = Dealer a (length ms) (length ps) ∷ (map Master ms ++ map Port ps)
 
+-- the table that these lists stand for: first the words of the slots, then the leave words of the masters; the records at
+-- home; and the views of all seats, the dealer's first.
 abbrev pub table_of : About → Parts → State Berth View
 table_of a c = record {
   words = map word c.phases ++ map leave_word c.left;
@@ -52,6 +54,7 @@ table_of a c = record {
   views = views_of a c.masters c.ports;
 }
 
+-- the phase of slot i; Free if there is no such slot.
 abbrev pub phase : Parts → ℕ → Phase
 phase c i = slice_index_or c.phases i Free
 
@@ -80,15 +83,20 @@ pub record HomeAsk (homes : List (maybe.Option Berth)) (i : ℕ) (ask : Request)
   pub spells : Spells letter ask
 
 module _ (a : About) (c : Parts) where
+  -- the slot i in phase Posted: master m has sent a request from it to port p, and the record at home spells that
+  -- request.
   pub record IsPosted (i m p : ℕ) : Type 0 where
     pub asked : Asked c.masters m i p
     pub home : HomeAsk c.homes i asked.ask
     pub port : p < a.ports
 
+  -- the slot i in phase Serving: master m has sent a request from it to port p, and the port serves that request.
   pub record IsServing (i m p : ℕ) : Type 0 where
     pub asked : Asked c.masters m i p
     pub serves : served c.ports p i ≡ Some asked.ask
 
+  -- the slot i in phase Answered: master m has sent a request from it to port p, and the record at home spells that
+  -- request and a reply, which stand in the port's list.
   pub record IsAnswered (i m p : ℕ) : Type 0 where
     pub asked : Asked c.masters m i p
     pub home : HomeAsk c.homes i asked.ask
@@ -99,6 +107,8 @@ module _ (a : About) (c : Parts) where
     -- that index is above all that the owner had collected there when it posted
     pub above : Above (hands c.masters m).got asked.known p home.letter.index
 
+  -- the slot i in phase Taking: master m has it in its hand, has collected the reply of port p, and has not released the
+  -- slot.
   pub record IsTaken (i m p : ℕ) : Type 0 where
     pub taken : held c.masters m i ≡ Taken p
     pub port : p < a.ports
@@ -137,6 +147,7 @@ module _ (a : About) (c : Parts) where
     pub owns : Owns a master ask.source
     pub place : InSlot master p k ⊎ InGot master p k
 
+  -- whose the places of all lists are, so that no reply is invented, lost or given twice.
   pub record Places : Type 0 where
     -- each place of a list is that of an answered slot or of a collected reply
     pub placed : (p k : ℕ) (x : Request × Response) → slice_get (desk c.ports p).list k ≡ Some x → Placed p k x.0
@@ -171,6 +182,7 @@ module _ (a : About) (c : Parts) where
         × (length (hands c.masters m).hand ≡ a.slots)
     pub port_views : (p : ℕ) → p < length c.ports → ((desk c.ports p).number ≡ p) × ((desk c.ports p).about ≡ a)
 
+  -- the lists are lawful: what is so of them between any two steps, one fact a line.
   pub record Lawful : Type 0 where
     pub shape : HasShape
     -- a leave word is set just where that master's view has left: else no one could tell from the words who has gone

@@ -16,10 +16,11 @@ use Rattle.tl_rule.specs.Serving.{ask_at}
 
 -- ---- what never changes
 
--- the wide source is one of the master's
+-- the wide source is one of the master's. The padding of a block is nobody's.
 abbrev pub Owns : About → ℕ → ℕ → Type 0
 Owns about master wide = IsOf about.owners master wide
 
+-- what a look-up gives if there is no such port: a memory without bytes, which serves nothing.
 abbrev pub no_store : Store
 no_store = record { kind = NoDevice; base = 0; bytes = [] }
 
@@ -27,29 +28,35 @@ no_store = record { kind = NoDevice; base = 0; bytes = [] }
 abbrev pub reset_of : About → ℕ → Store
 reset_of about port = slice_index_or about.resets port no_store
 
+-- what never changes, in a view that is not there: all counts are 0.
 abbrev pub no_about : About
 no_about = record { slots = 0; masters = 0; ports = 0; owners = []; resets = [] }
 
 -- ---- new views, and views that are not there
 
+-- the view of master m before its first step: nothing is in its hand, it has collected nothing, and it has not left.
 abbrev pub new_hands : About → ℕ → Hands
 new_hands a m = record { number = m; about = a; hand = replicate a.slots Nothing; got = []; left = false }
 
+-- the view of port p before its first step: it has answered nothing, and serves nothing.
 abbrev pub new_desk : About → ℕ → Desk
 new_desk a p = record { number = p; about = a; list = []; serving = [] }
 
+-- what a look-up gives if there is no view of such a master.
 abbrev pub no_hands : Hands
 no_hands = record { number = 0; about = no_about; hand = []; got = []; left = false }
 
+-- what a look-up gives if there is no view of such a port.
 abbrev pub no_desk : Desk
 no_desk = record { number = 0; about = no_about; list = []; serving = [] }
 
 -- ---- look-ups: what is not there is blank
 
--- the view of a master, and that of a port
+-- the view of master m; blank if there is none.
 abbrev pub hands : List Hands → ℕ → Hands
 hands ms m = slice_index_or ms m no_hands
 
+-- the view of port p; blank if there is none.
 abbrev pub desk : List Desk → ℕ → Desk
 desk ps p = slice_index_or ps p no_desk
 

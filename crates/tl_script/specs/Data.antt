@@ -3,6 +3,7 @@ use Rattle.std.specs.Prelude.{ℕ, ◌/◌, ◌%◌, false, ◌&&◌, List, [], 
 use Rattle.std.specs.Fmt.{digit_glyph}
 use Rattle.tl_text.specs.Number.{pair_of}
 
+-- the byte `-`, of which two spell an unset byte.
 abbrev pub dash : ℕ
 dash = 45
 
@@ -17,10 +18,11 @@ data_of (high ∷ []) = None
 data_of (high ∷ low ∷ more) =
     option_and_then (λ byte. option_map (λ bytes. byte ∷ bytes) (data_of more)) (byte_of high low)
 
--- how a byte is printed, and some bytes
+-- how a byte is printed: two hexadecimal digits, or `--` if it is unset.
 abbrev pub byte_text : Option ℕ → List ℕ
 byte_text None = dash ∷ dash ∷ []
 byte_text (Some byte) = digit_glyph false (byte / 16) ∷ digit_glyph false (byte % 16) ∷ []
 
+-- how bytes are printed: two characters for each, one after the other.
 abbrev pub data_text : List (Option ℕ) → List ℕ
 data_text bytes = flat_map byte_text bytes

@@ -14,7 +14,8 @@ use Rattle.tl_script.specs.declared.map.TheConstants.{MAX_RANGES}
 abbrev pub RangesOverlap : List Range → ℕ → ℕ → Type 0
 RangesOverlap ranges j i = IsSomeAnd (slice_get ranges j) (λ a. IsSomeAnd (slice_get ranges i) (λ b. Overlaps a b))
 
--- few enough ranges, none of them empty, none past the end of the addresses, and no two with a byte in common
+-- few enough ranges, none of them empty, none past the end of the addresses, and no two with a byte in common. There are
+-- at most 15 ranges.
 pub record AreLawfulRanges (ranges : List Range) : Type 0 where
   pub in_limit : length ranges ≤ MAX_RANGES
   pub some : All (λ range. IsEmpty range → ⊥) ranges

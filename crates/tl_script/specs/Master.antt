@@ -25,6 +25,8 @@ lines_at members = do
   lines ← each (script_text_of Ops) items
   up_to_in_script Ops MAX_JOBS lines
 
+-- the master that a table describes: first the sources, from 0 to 65,535, then the lines of its operations, of which
+-- there may be 4,096.
 unfoldable pub master_of : Members → Result ScriptMaster ScriptFault
 master_of members = do
   sources ← script_number_at Sources 0 65535 members

@@ -23,6 +23,8 @@ script_kind_of word =
     else if bytes_eq word (codes "w1c") then Some ClearRegs
     else None
 
+-- the kind that a port's table names: the key has to be there, its value has to be a text, and the text one of the four
+-- words.
 unfoldable pub kind_at : Members → Result kind_of_slave.Kind ScriptFault
 kind_at members = do
   value ← script_value_at Kind members
@@ -36,7 +38,8 @@ pairs_of (high ∷ []) = None
 pairs_of (high ∷ low ∷ more) =
     option_and_then (λ byte. option_map (λ bytes. byte ∷ bytes) (pairs_of more)) (pair_of high low)
 
--- the bytes of a reset: those that its pairs spell, at most `count`, and zero bytes after them up to `count`
+-- the bytes of a reset: those that its pairs spell, at most `count`, and zero bytes after them up to `count`. Digits may
+-- be in either case.
 unfoldable pub filled : ℕ → List ℕ → Result (List ℕ) ScriptFault
 filled count text =
     if nat_lt (2 * count) (length text) then Err (OutOfRange Reset)
@@ -55,7 +58,8 @@ reset_at count members = reset_text (get_member (script_key_name Reset) members)
 abbrev pub last_base : ℕ
 last_base = 2 ^ 63 - 1
 
--- the slave of a port
+-- the slave of a port. Its kind is read first, then its base, from 0 to 2^63 - 1, its length, from 0 to 65,536, and its
+-- reset.
 unfoldable pub port_of : Members → Result Store ScriptFault
 port_of members = do
   kind ← kind_at members

@@ -35,14 +35,16 @@ pub record ScriptParts : Type 0 where
   pub stores : List Store
   pub masters : List ScriptMaster
 
--- the table of a script, which is a TOML document of at most so many bytes of UTF-8
+-- the table of a script, which is a TOML document of at most so many bytes of UTF-8. It has at most 1,048,576 bytes,
+-- which is tried before all else.
 unfoldable pub script_document : List ℕ → Result Members ScriptFault
 script_document bytes =
     if nat_lt MAX_SCRIPT (length bytes) then Err TooLong
     else if is_utf8 bytes then ok_or (parse_document bytes) NotToml
     else Err NotToml
 
--- the parts that a document's table names; members with other keys are nothing to it
+-- the parts that a document's table names; members with other keys are nothing to it. The slots, from 1 to 256, are read
+-- first, then the ports and then the masters.
 unfoldable pub parts_in : Members → Result ScriptParts ScriptFault
 parts_in members = do
   slots ← script_number_at Slots 1 MAX_SLOTS members
@@ -56,10 +58,11 @@ script_parts bytes = script_document bytes >>= parts_in
 
 -- ---- the system of the parts
 
--- the addresses of the ports, and how many sources the masters have
+-- the range of addresses of each port, in order.
 abbrev pub script_ranges : ScriptParts → List Range
 script_ranges parts = map range_of parts.stores
 
+-- how many sources each master has, in order.
 abbrev pub counts_of : ScriptParts → List ℕ
 counts_of parts = map (λ (master : ScriptMaster). master.sources) parts.masters
 

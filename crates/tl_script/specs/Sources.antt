@@ -7,7 +7,8 @@ use Rattle.tl_script.specs.declared.sources.SourceFault.{SourceFault}
 use Rattle.tl_script.specs.declared.sources.SourceFault.TheVariants.{TooMany, NoSource, Memory}
 use Rattle.tl_map.specs.declared.limits.TheConstants.{MAX_BLOCK}
 
--- the source counts of masters: few enough masters, few enough sources of each, and each has a source
+-- the source counts of masters: few enough masters, few enough sources of each, and each has a source. There are at most
+-- 16 masters, with 1 to 256 sources each.
 pub record AreLawfulCounts (counts : List ℕ) : Type 0 where
   pub masters : length counts ≤ MAX_MASTERS
   pub sources : All (λ count. count ≤ MAX_BLOCK) counts

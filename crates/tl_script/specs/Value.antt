@@ -32,6 +32,7 @@ abbrev pub list_of : Items → List Data
 list_of no_items = []
 list_of (item value items) = value ∷ list_of items
 
+-- the values of the array that stands at a key; a value that is no array has the wrong type.
 unfoldable pub list_at : ScriptKey → Data → Result (List Data) ScriptFault
 list_at key value = ok_or (as_array value) (WrongType key) >>= (λ items. Ok (list_of items))
 

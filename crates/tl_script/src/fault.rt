@@ -52,7 +52,7 @@ impl fmt::Display for ScriptKey {
 }
 
 /// Why a script describes no system. Masters and their operations are counted from 0. Want of memory is always
-/// `Memory`, in whichever layer it was met.
+/// `Memory`, in whichever layer it was met: `Map(MapFault::Memory)` can be written, but is never answered.
 #[derive(Debug, Clone, Copy, PartialEq, Eq, Error)]
 pub enum ScriptFault {
     #[error("script: not TOML")]

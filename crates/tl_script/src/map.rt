@@ -12,7 +12,7 @@ use tl_types::MAX_PORTS;
 pub const MAX_RANGES: usize = MAX_PORTS - 1;
 
 /// Why ranges make no map. A range is named by its number, which is its port's; of two that overlap the earlier is
-/// first.
+/// first. The texts are those of a script's fault lines behind `script: `, so they name ports in place of ranges.
 #[derive(Debug, Clone, Copy, PartialEq, Eq, Error)]
 pub enum MapFault {
     #[error("too many ports")]

@@ -47,7 +47,9 @@ abbrev pub HaveWide : List Owner → List (ℕ × Entry) → Type 0
 HaveWide owners [] = Unit {0}
 HaveWide owners (e ∷ log) = ((wide : ℕ) × IsWideSource owners e.0 e.1.ask.source wide) × HaveWide owners log
 
--- the slaves of a system after these entries, which were served in turn
+-- the slaves of a system after these entries, which were served in turn. Each entry's source has a wide source. The bank
+-- of each port has replayed what its port served, each port has counted its entries, and a history that is kept has the
+-- port's entries with wide sources.
 pub record Stand (s : System) (keeps : Bool) (log : List (ℕ × Entry)) (slaves : List Slave) : Type 0 where
   pub ports : length slaves ≡ length s.ranges + 1
   pub served : AreServedInTurn s log

@@ -28,6 +28,7 @@ abbrev pub of_script : ScriptFault → InputFault
 of_script script.Memory = Memory
 of_script fault = Script fault
 
+-- a failed read is told as it is, and want of memory too.
 abbrev pub of_read : ReadFault → InputFault
 of_read read.Memory = Memory
 of_read read.Read = Read

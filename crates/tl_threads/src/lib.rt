@@ -5,6 +5,9 @@
 //! and lawful, the account is that of the arena at its end, and every master has left ([`ThreadedRun`]). What such a run
 //! needs is made by `run_threads` (`tl_program`). [`threaded_text`] makes the text of a run.
 //!
+//! The wrong bodies of a run by threads that the gate tries (`must-fail`) stand in this crate, since it is small: a check
+//! of one from nothing costs as much as that of its crate.
+//!
 //! Read on in `docs/design/model.md`, "Runs by threads".
 #![tactic(auto)]
 

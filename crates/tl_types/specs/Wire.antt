@@ -24,6 +24,7 @@ opcode_of (Logical _) = 3
 opcode_of Get = 4
 opcode_of (Intent _) = 5
 
+-- the parameter on channel A of an arithmetic operation.
 abbrev pub arith_param : Arith → ℕ
 arith_param Min = 0
 arith_param Max = 1
@@ -31,12 +32,14 @@ arith_param MinU = 2
 arith_param MaxU = 3
 arith_param Add = 4
 
+-- the parameter on channel A of a logical operation.
 abbrev pub logic_param : Logic → ℕ
 logic_param Xor = 0
 logic_param Or = 1
 logic_param And = 2
 logic_param Swap = 3
 
+-- the parameter on channel A of an Intent: this project's own numbers.
 abbrev pub hint_param : Hint → ℕ
 hint_param PrefetchRead = 0
 hint_param PrefetchWrite = 1
@@ -55,7 +58,8 @@ pub record IsCodeOf (op : AskOp) (opcode param : ℕ) : Type 0 where
   pub opcode_is : opcode_of op ≡ opcode
   pub param_is : param_of op ≡ param
 
--- the fault is one of these numbers: opcodes 6 and 7 are the cached operations of TL-C, and there are none from 8 on
+-- the fault is one of these numbers: opcodes 6 and 7 are the cached operations of TL-C, and there are none from 8 on. A
+-- parameter is unknown if no operation has the two numbers.
 abbrev pub HasOpFault : ℕ → ℕ → OpFault → Type 0
 HasOpFault opcode param Cached = (opcode ≡ 6) ⊎ (opcode ≡ 7)
 HasOpFault opcode param UnknownOpcode = 8 ≤ opcode

@@ -88,6 +88,7 @@ pub record AreJournals (s : System) (journals : List ℕ) : Type 0 where
   pub many : length journals ≡ length s.ranges + 1
   pub each : (p n : ℕ) → slice_get journals p ≡ Some n → GoTo s.ranges (all_sends s.jobs) p n
 
+-- the handle of a master's thread, which ends with a trace that keeps the thread's promise.
 abbrev pub Handle : Type 0
 Handle = PromisedHandle TraceView TraceOf
 
@@ -120,12 +121,14 @@ pub record IsNewBook (arena : ArenaId) (s : System) (number : ℕ) (b : BookView
   pub is : b ≡ new_book (new_port arena number) (reset_of arena.about number) b.journal
   pub room : GoTo s.ranges (all_sends s.jobs) number b.journal
 
--- the seat is that of a new port; the bank holds what the port's did when the arena was made
+-- the seat is that of a new port of this number.
 abbrev pub IsNewPort : ArenaId → ℕ → PortView → Type 0
 IsNewPort arena number u = u ≡ new_port arena number
 
+-- the bank holds what that of this port did when the arena was made.
 abbrev pub IsResetBank : ArenaId → ℕ → Store → Type 0
 IsResetBank arena number bank = slice_get arena.about.resets number ≡ Some bank
 
+-- the seat is that of a new master of this number.
 abbrev pub IsNewMaster : ArenaId → ℕ → MasterView → Type 0
 IsNewMaster arena number v = v ≡ new_master arena number

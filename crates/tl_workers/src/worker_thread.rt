@@ -13,7 +13,8 @@ use tl_map::SourceOwners;
 /// The most rings that a port's thread owes masters at a time.
 const MAX_OWED: usize = 16;
 
-/// The masters whose requests a port's thread has answered and whom it has not rung since.
+/// The masters whose requests a port's thread has answered and whom it has not rung since. It rings them before it waits,
+/// before it asks the gate again, and when it owes as many rings as there is room for.
 type Owed = ArrayVec<usize, MAX_OWED>;
 
 /// Rings each master that is owed a ring.

@@ -16,7 +16,8 @@
 //! second, unless `--quiet` is given.
 //!
 //! The crate `check_program` carries the theorem: what is written, and the status. Here the program's words, files and
-//! memory are handed to it. It is a crate of its own, so that its proof is not done again for the tests.
+//! memory are handed to it. It is a crate of its own, so that its proof is not done again for the tests. No clause says
+//! that the files read are those that were named, and that what was read is judged: that is read off `run` and `judge`.
 #![tactic(auto)]
 
 use check_options::{CheckOptions, read_check_options};

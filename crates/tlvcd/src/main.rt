@@ -5,7 +5,8 @@
 //! before it were written. A command line that is refused is reported by clap's text.
 //!
 //! The crate `check_waves` carries the theorem: what is written, and the status. Here the program's words, files and memory
-//! are handed to it. Read on in `docs/reference/formats.md`, "Dumps".
+//! are handed to it. No clause says that the files read are those that were named, and that what was read is written as
+//! rows: that is read off `run`. Read on in `docs/reference/formats.md`, "Dumps".
 #![tactic(auto)]
 
 use check_waves::{WaveFault, WaveOptions, end_waves, read_wave_options, write_capture};

@@ -7,7 +7,8 @@
 //! is told by clap's text.
 //!
 //! The crate `tl_program` carries the theorems: what is written, and the status. Here the program's words, streams and
-//! memory are handed to it. It is a crate of its own, so that its proof is not done again for the tests.
+//! memory are handed to it. It is a crate of its own, so that its proof is not done again for the tests. No clause says
+//! that the script read is that on standard input: that is read off `main`.
 #![tactic(auto)]
 
 use std::process::ExitCode;

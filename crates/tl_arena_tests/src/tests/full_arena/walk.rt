@@ -387,6 +387,10 @@ static SCENE: Scene = Scene {
     },
 };
 
+// No clause refuses a `claim`, `accept_at` or `accept` that gives none now and then, or a `collect` that hands the ticket
+// back. Of such bodies, which were tried by hand, the walk says: an issue answered `NoSlot`, and slot 3 is free; nothing
+// was accepted from a slot in which a request is posted for the port; a pass found nothing, and slot 0 has a request for
+// the port; a poll answered `NotYet`, and the slot is answered.
 #[test]
 fn a_lone_walk_goes_as_the_core_says(rt: HostRuntime) {
     play(&rt, rt.alloc(), &SCENE);
