@@ -28,7 +28,8 @@ use check_unanswered::Pending;
 use std::alloc::{AllocError, Global};
 use std::marker::Model;
 
-/// The judge of the rows of a file, which it takes in the order in which they stand there.
+/// The judge of the rows of a file, which it takes in the order in which they stand there. If memory was refused, nothing
+/// is promised of the text of traced replies.
 #[derive(Drop)]
 pub struct Judge {
     tally: Tally,
