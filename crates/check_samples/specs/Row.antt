@@ -87,7 +87,7 @@ mark_text (Some number) = decimal number
 abbrev pub ask_numbers : AskCells → List ℕ
 ask_numbers cells = cell cells.opcode ++ cell cells.param ++ cell cells.size ++ cell cells.source
 
--- its address, and the bits of its mask and of its data.
+-- the columns of a beat of channel A from the address to the data.
 abbrev pub ask_lanes : ℕ → List ℕ → List ℕ → List ℕ
 ask_lanes address mask lanes = (44 ∷ digits 16 false address) ++ (44 ∷ hex_text mask) ++ (44 ∷ hex_text lanes)
 
@@ -108,7 +108,7 @@ ask_text time link cells mask lanes = ask_line time link cells mask lanes ++ (10
 abbrev pub reply_numbers : ReplyCells → List ℕ
 reply_numbers cells = cell cells.opcode ++ (44 ∷ mark_text cells.param) ++ cell cells.size ++ cell cells.source
 
--- its address and its mask, which are empty, the bits of its data, and its flags.
+-- the columns of a beat of channel D from the address to the last one; those of the address and the mask are empty.
 abbrev pub reply_lanes : List ℕ → ReplyCells → List ℕ
 reply_lanes lanes cells = (44 ∷ 44 ∷ 44 ∷ hex_text lanes) ++ cell cells.denied ++ (44 ∷ mark_text cells.corrupt)
 

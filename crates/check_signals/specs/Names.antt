@@ -111,7 +111,8 @@ wired_by which value (Some items) = joined_names (list_of items)
 abbrev pub wired : Signal → Data → Result SignalName KeyFault
 wired which value = wired_by which value (as_array value)
 
--- the name of a signal without a wire: that behind the prefixes, of what `names` says or of the specification's.
+-- the name of a signal without a wire: behind the prefixes what `names` says, or the specification's name; a text of
+-- `names` that is no name stands alone.
 abbrev pub called : Manner → Signal → Option (List ℕ) → SignalName
 called manner which None = Prefixed (behind_each (name_behind manner.naming.bits which) manner.prefixes)
 called manner which (Some text) =

@@ -233,7 +233,7 @@ pub record IsJudgedAt (buses : LinkBuses) (first : JudgeView) (tally : Tally) (o
   pub covered : (plan : SystemPlan) → Judges plan [] first → IsCountedBy plan answer rows tally
   pub told : (plan : SystemPlan) → Judges plan [] first → WroteBy (is_traced first) plan answer rows old new text
 
--- so it is from this place of a text on; nothing is said if the text is not known.
+-- a judge of no rows took some from this place of a text on and answers this; nothing is said if the text is not known.
 abbrev pub IsJudged : LinkBuses → JudgeView → Tally → Option (List ℕ) → Option (List ℕ) → List ℕ → TextLeft → Result Verdict CaptureFault
     → Type 0
 IsJudged buses first tally old new text at answer =

@@ -91,7 +91,7 @@ pub record LiesWithin (widths : List ℕ) (part : Tap) : Type 0 where
   pub from : part.from ≤ part.to
   pub inside : part.to ≤ get_or widths part.slot 0
 
--- so does each of these parts.
+-- each of these parts lies within its value.
 abbrev pub AllLieWithin : List ℕ → List Tap → Type 0
 AllLieWithin widths [] = ⊤
 AllLieWithin widths (part ∷ parts) = LiesWithin widths part × AllLieWithin widths parts
