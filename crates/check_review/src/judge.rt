@@ -209,7 +209,8 @@ impl Judge {
     }
 
     /// Takes the next row of the file, if that tells nothing, refuses nothing and judges one row at most; answers
-    /// whether it did. Nothing changes if it did not. It costs less than [`Judge::take`], which has room for a fault.
+    /// whether it did. Nothing changes if it did not. It costs less than [`Judge::take`], which has room for a fault. Of
+    /// several rows of one time only the last is left to that.
     pub fn take_quietly(
         &mut self,
         alloc: Global,
