@@ -4,6 +4,9 @@ The roots are the items that the edit changes, the function whose goal stayed op
 new text. From each item the cone goes on to all items of the crate that have a word of its text as a name. Of a function that is no root
 only the contract counts. If an item uses a name that its file takes from elsewhere, the path of that name counts too. Of a name of
 another crate of the repository the crate and the module do not count: such a name has one definition before its reader (tools/names_test).
+
+A function of an impl block is reached if it is called by name, and the rest of the block with its type. A definition of proofs/ is reached
+only from what says the invariants of a function (Invariants.antt, Proof.antt), or from another that is reached so.
 """
 
 import collections

@@ -145,7 +145,7 @@ pub record AskIsOnBus (bus : ℕ) (begun : Option AskBegun) (beat : AskHead) (kn
   pub mask : IsFormed bus beat → beat.mask < 2 ^ bus
   pub known_bits : IsFormed bus beat → (IsKnown beat (known % 2 ^ bus) ↔ IsKnown beat known)
 
--- so it is of each beat of a request, on each bus, after all that may be under way.
+-- of each beat of a request, on each bus, lanes and known bits past the bus mean nothing.
 abbrev pub AsksAreOnBus : Type 0
 AsksAreOnBus =
     (bus : Bus) (begun : Option AskBegun) (beat : AskHead) (known : ℕ) (lanes : List ℕ)
@@ -160,7 +160,7 @@ pub record ReplyIsOnBus
       ≡ reply_after bus begun beat known lanes
   pub known_bits : IsKnownReply bus address beat (known % 2 ^ bus) ↔ IsKnownReply bus address beat known
 
--- so it is of each beat of a reply, on each bus, after all that may be under way.
+-- of each beat of a reply, on each bus, lanes and known bits past the bus mean nothing.
 abbrev pub RepliesAreOnBus : Type 0
 RepliesAreOnBus =
     (bus : Bus) (begun : Option ReplyBegun) (address : ℕ) (beat : ReplyHead) (known : ℕ) (lanes : List ℕ)

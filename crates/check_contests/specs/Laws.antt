@@ -43,14 +43,14 @@ AcceptingKeeps =
     → IsBelowTruth (slave_accepting ours kept ask) (kept_accepting ours kept wide index ask)
     (truth_accepting truth wide ask)
 
--- the same as a request that is accepted takes effect: nothing of what is kept changes.
+-- it stays so as a request that is accepted takes effect: nothing of what is kept changes then.
 abbrev pub TakingEffectKeeps : Type 0
 TakingEffectKeeps =
     (ours : Slave) (kept : List Accepted) (truth : Truth) (wide : ℕ) (ask : Request)
     → IsBelowTruth ours kept truth → truth.course wide ≡ Waiting ask
     → IsBelowTruth ours kept (truth_serving truth wide ask)
 
--- the same as a request that has taken effect is answered, which is not kept any more.
+-- it stays so as a request that has taken effect is answered: it is not kept any more then.
 abbrev pub AnsweringKeeps : Type 0
 AnsweringKeeps =
     (ours : Slave) (kept : List Accepted) (truth : Truth) (wide : ℕ) (ask : Request) (reply : Pattern)
@@ -64,7 +64,8 @@ pub record IsDueBelow (kept : List Accepted) (wide : ℕ) (ask : Request) (reply
   pub ask_is : entry.ask ≡ ask
   pub fits : FitsPattern entry.due reply
 
--- so it is of each request that has taken effect, if what is kept says no more than the truth.
+-- if what is kept says no more than the truth, a request that has taken effect is kept, and what is due to it says no
+-- more than what was expected of the true slave then.
 abbrev pub AnswerIsDue : Type 0
 AnswerIsDue =
     (ours : Slave) (kept : List Accepted) (truth : Truth) (wide : ℕ) (ask : Request) (reply : Pattern)
@@ -98,7 +99,8 @@ IsAnswerBelow judged wide Idle = ⊥
 IsAnswerBelow judged wide (Waiting ask) = ⊥
 IsAnswerBelow judged wide (Served ask reply) = IsDueBelow judged.kept wide ask reply
 
--- the same of a moment: only one that answers says anything.
+-- what is due to a request that this moment answers says no more than what was expected of the true slave; other moments
+-- say nothing.
 abbrev pub IsMomentBelow : Judged → Truth → SlaveMoment → Type 0
 IsMomentBelow judged truth (Accepts wide ask) = Unit {0}
 IsMomentBelow judged truth (TakesEffect wide) = Unit {0}
@@ -137,7 +139,7 @@ pub record IsBeside (memory : Partial) (ask : Request) (entry : Accepted) : Type
   pub uncontested : AreUncontested memory ask entry.ask
   pub counted : length entry.due.bytes ≤ 2 ^ entry.ask.size
 
--- so it is of a request at a memory that is uncontested with each one that is kept.
+-- a request that is uncontested with each one that is kept makes nothing unknown.
 abbrev pub UncontestedIsAsServed : Type 0
 UncontestedIsAsServed =
     (memory : Partial) (kept : List Accepted) (wide index : ℕ) (ask : Request)
@@ -149,6 +151,6 @@ DeniedIsAsServed =
     (memory : Partial) (kept : List Accepted) (wide index : ℕ) (ask : Request) → permits memory ask ≡ false
     → IsAsServed (Memory memory) kept wide index ask
 
--- so it is of each request at a device.
+-- a request at a device makes nothing unknown.
 abbrev pub DeviceIsAsServed : Type 0
 DeviceIsAsServed = (kept : List Accepted) (wide index : ℕ) (ask : Request) → IsAsServed Device kept wide index ask

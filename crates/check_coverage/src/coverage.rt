@@ -607,7 +607,8 @@ impl Coverage {
         Ok(())
     }
 
-    /// Counts what a row covers that the judge has taken after those before it, and that ended this.
+    /// Counts what a row covers that the judge has taken after those before it, and that ended this. If memory is refused,
+    /// nothing is promised of what is kept.
     pub fn note(&mut self, watch: &Watch, row: &Row, end: Ended) -> Result<(), AllocError>
         requires { HasLink watch.now.layout row.now.link }
         ensures { (plan : Plan) (earlier : List IsBin) (rows : List SeenRow) (lanes : List ℕ)

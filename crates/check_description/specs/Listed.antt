@@ -69,7 +69,8 @@ pub record SaidMaster : Type 0 where
 unfoldable pub member_of_list : Key → Members → Result Data SystemFault
 member_of_list key members = ok_or (get_member (key_name key) members) (WrongType Sources)
 
--- what a table of the list says of a master: the types of its members are looked at, and no ranges yet.
+-- what a table of the list says of a master: the types of its members are looked at, and not yet whether its numbers are
+-- in range.
 unfoldable pub said_in_table : Members → Result SaidMaster SystemFault
 said_in_table members = do
   master ← member_of_list Master members >>= integer_or_text_of Sources

@@ -12,17 +12,19 @@ use Rattle.check_samples.specs.declared.due.DueRow.{DueRow}
 use Rattle.check_samples.specs.declared.row.AskCells.{AskCells}
 use Rattle.check_samples.specs.declared.row.ReplyCells.{ReplyCells}
 
--- what stands between the commas of a row, after its time
+-- what stands between the commas of a row of channel A, after its time.
 abbrev pub ask_words : Link → AskCells → List ℕ → List ℕ → List (List ℕ)
 ask_words link cells mask lanes =
     link_text link ∷ (65 ∷ []) ∷ decimal cells.opcode ∷ decimal cells.param ∷ decimal cells.size ∷ decimal cells.source
     ∷ digits 16 false cells.address ∷ hex_text mask ∷ hex_text lanes ∷ [] ∷ mark_text cells.corrupt ∷ []
 
+-- what stands between the commas of a row of channel D, after its time.
 abbrev pub reply_words : Link → ReplyCells → List ℕ → List (List ℕ)
 reply_words link cells lanes =
     link_text link ∷ (68 ∷ []) ∷ decimal cells.opcode ∷ mark_text cells.param ∷ decimal cells.size ∷ decimal cells.source
     ∷ [] ∷ [] ∷ hex_text lanes ∷ decimal cells.denied ∷ mark_text cells.corrupt ∷ []
 
+-- what stands between the commas of a row of a reset, after its time.
 abbrev pub reset_words : List (List ℕ)
 reset_words = codes "reset" ∷ [] ∷ [] ∷ [] ∷ [] ∷ [] ∷ [] ∷ [] ∷ [] ∷ [] ∷ [] ∷ []
 

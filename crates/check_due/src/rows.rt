@@ -165,7 +165,7 @@ fn row_of_reset(buses: &Buses<'_>, line: u64, time: u64, lanes: &mut [u8; MAX_LA
 
 /// The row of a capture that a row of a dump is on this line, in a system whose links have these buses. The lanes of the row
 /// stand in the first places of the buffer then, as many as its bus has bytes. `None` says nothing of the row: its line has to
-/// be read.
+/// be read. `None` is always allowed: it changes what a row costs, and not what it is.
 pub fn row_of_due(
     buses: &Buses<'_>,
     line: u64,

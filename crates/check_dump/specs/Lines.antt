@@ -56,10 +56,11 @@ ended_by (Err (rows_fault.Dump line mistake)) = Ok (Some (ends.BeforeLine line m
 ended_by (Err rows_fault.Read) = Err line_fault.Read
 ended_by (Err rows_fault.Memory) = Err line_fault.Memory
 
--- the line of the row that was read last, and the text of those at hand after it
+-- the line of the row that was read last; empty if there is none.
 abbrev pub line_at_hand : {D : Type 0} → DumpLines D → List ℕ
 line_at_hand lines = get_or lines.due lines.at []
 
+-- the text of the rows at hand after the one that was read last.
 abbrev pub rest_at_hand : {D : Type 0} → DumpLines D → List ℕ
 rest_at_hand lines = due_text (drop lines.next lines.due)
 
@@ -73,6 +74,7 @@ abbrev pub coming_by : List ℕ → Option RowsEnd → Option RowsLeft → Optio
 coming_by text None rows = option_map (λ (left : RowsLeft). record left { text = text ++ left.text }) rows
 coming_by text (Some end) rows = Some (record { text = text; end = end_of end })
 
+-- the text of the rows that are left to come, and how they end; none if the dump does not tell its bytes.
 abbrev pub coming : {D : Type 0} → DumpLines D → Option RowsLeft
 coming lines = coming_by (rest_at_hand lines) lines.ended lines.rows
 

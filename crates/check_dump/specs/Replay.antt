@@ -205,15 +205,17 @@ abbrev pub later_of : Option ℕ → ℕ → ℕ
 later_of None time = time
 later_of (Some before) time = if nat_lt time before then before else time
 
+-- what becomes of the fault of a line: it is told as it is.
 abbrev pub replay_fault_of : LineFault → ReplayFault
 replay_fault_of line_fault.Read = fault.Read
 replay_fault_of line_fault.Memory = fault.Memory
 
--- what is answered where no more rows are taken, and of rows that are lawful by how they end
+-- what is answered if no more rows are taken.
 abbrev pub answer_of : Halt → Result Verdict ReplayFault
 answer_of (halt.Unlawful found) = Ok (Unlawful found)
 answer_of (halt.Fault why) = Err why
 
+-- what is answered of rows that are lawful, by how they end.
 abbrev pub answer_at : RowsEnd → Ending → Result Verdict ReplayFault
 answer_at ends.Whole ending = Ok (verdict_at_end ending)
 answer_at (ends.WithoutEdges why) ending = Err (fault.Edges why)

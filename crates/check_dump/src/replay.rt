@@ -369,7 +369,9 @@ fn finish<W: Write>(
 
 /// Judges the rows of a dump, of a system whose links have these buses, by a judge that has taken no row. It reads to the
 /// end, or to the first row of a later time than one that is unlawful, or to the first fault of the dump; what the judge
-/// tells of the rows by then is written. After a verdict the judge has counted what is covered, if that is asked for.
+/// tells of the rows by then is written. After a verdict the judge has counted what is covered, if that is asked for. No
+/// text is made of a row, unless it is none that the format has: then its line is read for the fault, which is
+/// [`ReplayFault::Row`]. A law of `check_wave_laws` says that no row of a dump is such a one.
 pub fn judge_dump<D: Read + Drop, W: Write>(
     alloc: Global,
     rows: Rows<D>,

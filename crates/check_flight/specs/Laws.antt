@@ -23,7 +23,7 @@ LastBeatEndsAsk =
     (under : Under) (beat : AskHead) (lanes : List ℕ) → IsTrue (ends_ask under.bus under.asking beat)
     → ask_crossed under beat lanes ≡ ask_ended under
 
--- the same of channel D.
+-- after the last beat of a reply nothing is under way on channel D.
 abbrev pub LastBeatEndsReply : Type 0
 LastBeatEndsReply =
     (under : Under) (beat : ReplyHead) (known : ℕ) (lanes : List ℕ)
@@ -36,12 +36,12 @@ pub record StaysAsItIs (slave later : PortSlave) : Type 0 where
   pub order : later.order ≡ slave.order
   pub lanes : may_be_unknown later ≡ may_be_unknown slave
 
--- as a request of a wide source is accepted.
+-- a slave stays so as a request of a wide source is accepted.
 abbrev pub AcceptingSlaveStays : Type 0
 AcceptingSlaveStays =
     (slave : PortSlave) (wide : ℕ) (ask : Option Request) → StaysAsItIs slave (accepting slave wide ask)
 
--- and as it is answered.
+-- a slave stays so as a request of a wide source is answered.
 abbrev pub AnsweringSlaveStays : Type 0
 AnsweringSlaveStays =
     (slave : PortSlave) (wide : ℕ) (ask : Option Request) → StaysAsItIs slave (answering slave wide ask)

@@ -22,7 +22,8 @@ pub record IsWhole (memory : Partial) (bytes : List ℕ) (ask : Request) : Type 
   pub leaves : after_partial (whole memory bytes) ask ≡ whole memory (true_after memory bytes ask)
   pub counted : length (true_after memory bytes ask) ≡ length bytes
 
--- so it is of each memory of which no byte changes by itself, with any bytes, and of each lawful request.
+-- a memory that is wholly known, and of which no byte changes by itself, does each lawful request as tl_ops says, and
+-- stays wholly known.
 abbrev pub WholeStaysWhole : Type 0
 WholeStaysWhole =
     (memory : Partial) (bytes : List ℕ) (ask : Request) → memory.volatile ≡ []
@@ -34,7 +35,8 @@ pub record IsSound (memory : Partial) (bytes : List ℕ) (ask : Request) : Type 
   pub reply_fits : FitsPattern (pattern memory ask) (seen_as (true_reply memory bytes ask))
   pub stays_below : IsBelow (visible (after_partial memory ask)) (known (true_after memory bytes ask))
 
--- so it is of each memory and each lawful request, if the true bytes are those that are seen as known.
+-- if the true bytes are those that are seen as known, the true reply to each lawful request fits the pattern, and so it
+-- is of the true bytes afterwards.
 abbrev pub PartialIsSound : Type 0
 PartialIsSound =
     (memory : Partial) (bytes : List ℕ) (ask : Request) → AreWithin memory.ranges (length bytes) → IsLawfulAsk ask
@@ -91,7 +93,8 @@ one_range store cells = record {
   cells = cells;
 }
 
--- so it is of each store and each lawful request, whatever the bytes before the store and beyond.
+-- a memory in one range with its kind's sizes is a store of tl_ops there, at each lawful request and whatever the bytes
+-- before the store and beyond.
 abbrev pub StoreIsInstance : Type 0
 StoreIsInstance =
     (store : Store) (before beyond : List ℕ) (cells : List (Option ℕ)) (ask : Request) → length before ≡ store.base

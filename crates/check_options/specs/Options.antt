@@ -24,6 +24,7 @@ use Rattle.check_options.specs.declared.options.TheConstants.{MAX_LIMIT}
 abbrev pub WordSlice : Type 0
 WordSlice = Bor (List (Bor Text))
 
+-- the texts of such a list.
 abbrev pub texts_of : WordSlice → List Text
 texts_of names = map (λ name. name.now) names.now
 
@@ -46,6 +47,7 @@ order_table =
     ∷ (codes "any/reply", record { masters = Any; ports = Reply })
     ∷ (codes "any/any", on_both Any) ∷ []
 
+-- the words of `--order`, which stand in the first column of that table.
 abbrev pub order_words : List Text
 order_words = map (λ (row : Text × SideOrders). row.0) order_table
 
@@ -94,14 +96,15 @@ capture_rule = valued_rule (codes "capture")
 abbrev pub with_flag : App → Text → App
 with_flag app name = with_rule app (flag_rule name)
 
--- the two options that have one of a list of words, and the one that has a number; the flags; and the option and the words that name
--- a file
+-- the two options that have one of a list of words, and the one that has a number, added to a command line.
 abbrev pub with_choices : App → WordSlice → WordSlice → App
 with_choices app links orders = with_rule (with_rule (with_rule app (links_rule links)) (order_rule orders)) within_rule
 
+-- the three flags, added to a command line.
 abbrev pub with_flags : App → App
 with_flags app = with_flag (with_flag (with_flag app (codes "trace")) (codes "complete")) (codes "quiet")
 
+-- the option and the two words that name a file, added to a command line.
 abbrev pub with_files : App → App
 with_files app = with_rule (with_rule (with_rule app coverage_rule) system_rule) capture_rule
 
@@ -109,12 +112,13 @@ with_files app = with_rule (with_rule (with_rule app coverage_rule) system_rule)
 abbrev pub with_rules : WordSlice → WordSlice → App
 with_rules links orders = with_files (with_flags (with_choices (program_of (codes "tlcheck")) links orders))
 
--- the rule is that of `--links`, or of `--order`, wherever its list of words lies
+-- the rule is that of `--links`, wherever its list of words lies.
 pub record IsLinksRule (rule : Rule) : Type 0 where
   pub names : WordSlice
   pub listed : texts_of names ≡ links_words
   pub is : rule ≡ links_rule names
 
+-- the rule is that of `--order`, wherever its list of words lies.
 pub record IsOrderRule (rule : Rule) : Type 0 where
   pub names : WordSlice
   pub listed : texts_of names ≡ order_words
@@ -142,6 +146,7 @@ pub record AskedOptions : Type 0 where
   pub system : Text
   pub capture : Option Text
 
+-- the options that were read, without where their texts lie.
 abbrev pub options_asked : CheckOptions → AskedOptions
 options_asked options = record {
   links = options.links;
@@ -155,16 +160,18 @@ options_asked options = record {
   capture = option_map (λ name. name.now) options.capture;
 }
 
--- the links that a word names, and the orders
+-- the links that a word of `--links` names; both sides if it is another word.
 abbrev pub links_of : Text → Links
 links_of word =
     if bytes_eq word (codes "masters") then Masters
     else (if bytes_eq word (codes "ports") then Ports else (if bytes_eq word (codes "each") then Each else Both))
 
+-- the orders that a word names in the rows of such a table; `accept` on both sides if no row has the word.
 abbrev pub orders_among : List (Text × SideOrders) → Text → SideOrders
 orders_among [] word = on_both Accept
 orders_among (row ∷ rows) word = if bytes_eq word row.0 then row.1 else orders_among rows word
 
+-- the orders that a word of `--order` names.
 abbrev pub orders_of : Text → SideOrders
 orders_of word = orders_among order_table word
 
@@ -178,7 +185,7 @@ abbrev pub limit_of : Option Text → Option ℕ
 limit_of None = None
 limit_of (Some word) = option_and_then (λ number. number) (digits_of 10 (without_plus word))
 
--- the options that matches ask for, and those that words ask for
+-- the options that matches of clap ask for.
 abbrev pub asked_from : List Row → AskedOptions
 asked_from rows = record {
   links = links_of (value_of rows (codes "links"));
@@ -192,6 +199,7 @@ asked_from rows = record {
   capture = file_of (first_of (codes "capture") rows);
 }
 
+-- the options that words ask for, by clap's reading of words.
 abbrev pub asked_in : App → List Text → AskedOptions
 asked_in app words = asked_from (matches_of app words)
 
@@ -221,6 +229,7 @@ plain = record {
   capture = None;
 }
 
+-- the words are taken and ask for these options, wherever the lists of words lie.
 abbrev pub AskFor : AskedOptions → List Text → Type 0
 AskFor asked words = (app : App) → IsCommandLine app → Asks asked words app
 

@@ -65,7 +65,9 @@ pub struct CheckOptions<'a> {
     pub capture: Option<&'a str>,
 }
 
-/// Reads the command line, whose first word is the program's name.
+/// Reads the command line, whose first word is the program's name. To clap an option's words are a list that lies somewhere
+/// in memory, and its place is part of the command line. So the clause is said of the list at some places, and the laws of
+/// it at all places; no clause says that a line beside theirs is read alike at all places.
 ///
 /// Errors: help or the version that was asked for, an unknown option, a value that an option does not have or lacks, an
 /// option that is given twice, no SYSTEM, or a stray word; each is clap's own text.

@@ -33,14 +33,17 @@ first_unnamed [] number = None
 first_unnamed (None ∷ links) number = Some number
 first_unnamed (Some names ∷ links) number = first_unnamed links (number + 1)
 
--- of links of which some are watched: the first without signals, masters before ports
+-- of ports' links the first without signals, if ports' links are watched.
 abbrev pub port_unnamed : Links → SignalNames → Option Link
 port_unnamed links names = if are_ports_watched links then option_map Port (first_unnamed names.ports 0) else None
 
+-- the link of the master of this number; if there is no number, of the ports' links that are watched the first without
+-- signals.
 abbrev pub master_or_port : Links → SignalNames → Option ℕ → Option Link
 master_or_port links names None = port_unnamed links names
 master_or_port links names (Some number) = Some (Master number)
 
+-- of the links that are watched the first without signals, masters before ports.
 abbrev pub link_unnamed : Links → SignalNames → Option Link
 link_unnamed links names =
     if are_masters_watched links then master_or_port links names (first_unnamed names.masters 0)
@@ -195,6 +198,7 @@ pub record IsDumpCounted (asked : Asked) (given : GivenParts) (old new : List �
   pub covered : IfSome given.capture (OfTheRows asked given.file given.images system (λ plan left.
       OfReplayed plan (buses_of asked.terms.links system) left verdict (λ crossed course. AppendsCoverage asked.coverage plan crossed course old new)))
 
+-- what was counted of a capture, which is no dump, or of a dump.
 abbrev pub IsOutcomeCounted : Asked → GivenParts → List ℕ → List ℕ → Bool → Type 0
 IsOutcomeCounted asked given old new lawful =
     (IfSome given.capture (λ text. is_dump text ≡ false) × IsCounted asked given old new lawful)

@@ -170,6 +170,8 @@ pub record IsCounted (asked : Asked) (given : GivenParts) (old new : List ℕ) (
 
 -- ---- for the proofs
 
+-- the buses of the masters' and of the ports' links, whether there are rows of resets, and the numbers of ports' links,
+-- as one.
 abbrev pub with_buses : List Bus → List Bus → Bool → List (Option PortNumbers) → LinkBuses
 with_buses masters ports resets numbers =
     record { masters = masters; ports = ports; resets = resets; numbers = numbers }

@@ -20,6 +20,7 @@ abbrev pub of_system : SystemFault → CheckFault
 of_system system.Memory = Memory
 of_system fault = System fault
 
+-- a failed read is told as it is, and want of memory too.
 abbrev pub of_read : ReadFault → CheckFault
 of_read read.Memory = Memory
 of_read read.Read = Read
@@ -33,6 +34,7 @@ of_capture capture.Read = Read
 of_capture capture.Memory = Memory
 of_capture capture.Write = Write
 
+-- want of memory is one fault; another fault of the keys is told as it is.
 abbrev pub of_keys : KeyFault → CheckFault
 of_keys key.Memory = Memory
 of_keys fault = Keys fault
@@ -41,6 +43,7 @@ of_keys fault = Keys fault
 abbrev pub dump_fault : WaveFault → CheckFault
 dump_fault fault = Dump (record { wave = fault })
 
+-- a failed read and want of memory are each one fault; another fault is told as that of a dump.
 abbrev pub of_wave : WaveFault → CheckFault
 of_wave wave.Read = Read
 of_wave wave.Memory = Memory

@@ -8,11 +8,12 @@ use Rattle.check_program.specs.declared.front.TheConstants.{MAX_FRONT}
 abbrev pub is_sign : ℕ → Bool
 is_sign byte = nat_lt 32 byte
 
--- whether a text has such a byte, and whether the first of them is a dollar sign
+-- whether a text has such a byte.
 abbrev pub has_sign : List ℕ → Bool
 has_sign [] = false
 has_sign (byte ∷ text) = is_sign byte || has_sign text
 
+-- whether the first such byte of a text is a dollar sign.
 abbrev pub begins_dump : List ℕ → Bool
 begins_dump [] = false
 begins_dump (byte ∷ text) = if is_sign byte then byte == 36 else begins_dump text

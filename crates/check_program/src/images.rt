@@ -68,7 +68,8 @@ fn read_image_of<F: ImageFiles>(
 
 /// Reads the images that the ports of a system name, port by port, each to its end. The answer has one for each port by
 /// its number, without bytes if the port names none. A file that can't be read, or has more bytes than the port's first
-/// range, is the fault of the system.
+/// range, is the fault of the system. That holds of all files whose readers tell their bytes: no clause says what the
+/// system's own files hold.
 pub fn read_images<F: ImageFiles>(
     alloc: Global,
     files: &F,

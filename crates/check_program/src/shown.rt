@@ -8,7 +8,8 @@ use std::io;
 use std::io::{Eprint, Read, Write};
 use std::time::Clock;
 
-/// A capture, with the meter that counts what is read of it, if its progress is shown.
+/// A capture, with the meter that counts what is read of it, if its progress is shown. That a read fails only if the one
+/// below does is read off the code.
 #[derive(Drop)]
 pub struct Shown<'m, 'a, R: Clock + Eprint, C: Read + Drop> {
     capture: C,
@@ -41,7 +42,8 @@ impl<'m, 'a, R: Clock + Eprint, C: Read + Drop> Read for Shown<'m, 'a, R, C> {
     }
 }
 
-/// A writer to the terminal on which the progress may be shown: the line of progress is erased before each write.
+/// A writer to the terminal on which the progress may be shown: the line of progress is erased before each write. That a
+/// write fails only if the one below does is read off the code.
 #[derive(Drop)]
 pub struct Erasing<'m, 'a, R: Clock + Eprint, W: Write + Drop> {
     writer: W,

@@ -20,6 +20,7 @@ pub record Partial : Type 0 where
   pub field : List ℕ
   pub size : ℕ
 
+-- what a draft keeps, as contracts see it: a record that is being read.
 abbrev pub partial : Draft → Partial
 partial draft = record {
   state = state_of draft.state;

@@ -10,6 +10,7 @@ use Rattle.check_records.specs.declared.machine.State.TheVariants as own_state
 use Rattle.check_records.specs.declared.machine.Action.{Action}
 use Rattle.check_records.specs.declared.machine.Action.TheVariants as own_action
 
+-- the state of crate `csv` that a state of this machine is.
 abbrev pub state_of : State → CsvState
 state_of own_state.StartRecord = st.StartRecord
 state_of own_state.StartField = st.StartField
@@ -18,12 +19,14 @@ state_of own_state.InQuoted = st.InQuoted
 state_of own_state.AfterQuote = st.AfterQuote
 state_of own_state.AfterCr = st.AfterCr
 
+-- the action of crate `csv` that an action of this machine is.
 abbrev pub action_of : Action → CsvAction
 action_of own_action.Skip = act.Skip
 action_of own_action.Copy = act.Copy
 action_of own_action.EndField = act.EndField
 action_of own_action.EndRecord = act.EndRecord
 
+-- the same of a state and an action, as one step gives them.
 abbrev pub step_of : State × Action → CsvState × CsvAction
 step_of pair = (state_of pair.0, action_of pair.1)
 

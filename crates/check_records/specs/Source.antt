@@ -30,6 +30,8 @@ pub record TextLeft : Type 0 where
   pub line : ℕ
   pub text : Option (List ℕ)
 
+-- the text that is left of a reader, if it is known, and the line on which it begins. Ends of lines that stand before a
+-- record change nothing but the line.
 abbrev pub left : {R : Type 0} → (R → Option (List ℕ)) → Source R → TextLeft
 left remaining source = record { line = source.line; text = text_left remaining source }
 

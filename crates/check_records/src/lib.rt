@@ -10,8 +10,9 @@
 //! [`Records::read_in_place`] leaves a record where it was read, if it stands there whole on a line without quotes, and
 //! [`Records::bare`] has that line (`specs/Bare.antt`). Of other records a field that begins with no quote and stands
 //! whole in what was read is taken at once; other bytes go one by one through the state machine of `csv`. The reader
-//! underneath is read in chunks of 64 KiB, and nothing is allocated after [`Records::new`]. A read that is interrupted
-//! is made again, a bounded number of times in a row. Read on in `docs/reference/captures.md`, which has the format.
+//! underneath is read in chunks of 64 KiB, and nothing is allocated after [`Records::new`]: that is read off the code, and
+//! no clause says when a read fails. Lines are counted in 64 bits: a text with more is a failed read. A read that is
+//! interrupted is made again, a bounded number of times in a row. Read on in `docs/reference/captures.md`, which has the format.
 #![tactic(auto)]
 
 mod bare;

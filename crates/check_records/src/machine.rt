@@ -17,7 +17,7 @@ pub(crate) enum State {
     InQuoted,
     /// Behind a quote that ends them, unless another follows.
     AfterQuote,
-    /// Behind a record that CR ended.
+    /// Behind a record that CR ended. For the defaults of `csv` that is the same as before any record.
     AfterCr,
 }
 

@@ -23,7 +23,7 @@ abbrev pub AreInOrder : List SeenRow → Type 0
 AreInOrder [] = Unit {0}
 AreInOrder (row ∷ before) = AllByRecursion (λ earlier. CrossesBefore earlier row) before × AreInOrder before
 
--- these are the rows of a file, in the order in which their beats cross
+-- these are the rows of a file, in the order in which their beats cross. There is at most one such list.
 pub record IsCrossing (file crossed : List SeenRow) : Type 0 where
   pub same : IsPermutation file crossed
   pub in_order : AreInOrder crossed

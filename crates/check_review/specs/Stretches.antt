@@ -31,8 +31,8 @@ sightings_in stretch = sightings_of stretch.plan.layout stretch.rows
 abbrev pub IsLawfulStretch : Stretch → Type 0
 IsLawfulStretch stretch = IsLawfulInOrder stretch.plan (sightings_in stretch)
 
--- a reset ends a lawful stretch, and after it the system goes on by this plan: ports hold what is loaded into them, or what
--- the reset has left
+-- a reset ends a lawful stretch, and after it the system goes on by this plan: ports hold what is loaded into them, or
+-- what the reset has left. That plan differs from the one before in the slaves alone.
 pub record EndsStretch (system : SystemPlan) (last : Stretch) (next : Plan) : Type 0 where
   pub lawful : IsLawfulStretch last
   pub loaded : List (Option Slave)
@@ -60,7 +60,7 @@ abbrev pub AreStretches : SystemPlan → List SeenRow → Stretch → List Stret
 AreStretches system [] now ended = (now ≡ record { plan = system.begins; rows = [] }) × (ended ≡ [])
 AreStretches system (row ∷ before) now ended = GoOnWith row.is_reset system row (AreStretches system before) now ended
 
--- the stretches of rows that crossed
+-- the stretches of rows that crossed. They are one list alone, since what a reset leaves is one thing alone.
 pub record Stretches (system : SystemPlan) (crossed : List SeenRow) : Type 0 where
   pub now : Stretch
   pub ended : List Stretch

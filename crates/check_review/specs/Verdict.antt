@@ -1,4 +1,5 @@
--- The verdict over the rows of a capture. Lists of what crossed have the latest first. This project's own.
+-- The verdict over the rows of a capture. Lists of what crossed have the latest first. This project's own. Crates above
+-- that take `SystemPlan` from here need not list `check_start`.
 use Rattle.std.specs.Prelude.{◌≡◌, ◌⊎◌, ℕ, ◌%◌, ◌^◌, ◌<◌, Bool, true, false, List, [], ◌∷◌, ◌++◌, Option, Some, None, IsTrue, Contains, length, option_to_list, reverse}
 use Rattle.std.specs.List.{AllByRecursion}
 use Rattle.check_watch.specs.declared.fault.Fault.{Fault}

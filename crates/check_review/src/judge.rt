@@ -28,7 +28,8 @@ use check_unanswered::Pending;
 use std::alloc::{AllocError, Global};
 use std::marker::Model;
 
-/// The judge of the rows of a file, which it takes in the order in which they stand there.
+/// The judge of the rows of a file, which it takes in the order in which they stand there. If memory was refused, nothing
+/// is promised of the text of traced replies.
 #[derive(Drop)]
 pub struct Judge {
     tally: Tally,
@@ -208,7 +209,8 @@ impl Judge {
     }
 
     /// Takes the next row of the file, if that tells nothing, refuses nothing and judges one row at most; answers
-    /// whether it did. Nothing changes if it did not. It costs less than [`Judge::take`], which has room for a fault.
+    /// whether it did. Nothing changes if it did not. It costs less than [`Judge::take`], which has room for a fault. Of
+    /// several rows of one time only the last is left to that.
     pub fn take_quietly(
         &mut self,
         alloc: Global,

@@ -50,7 +50,8 @@ pub fn count_end(links: Links, link: Link, end: Ended, requests: &mut u64, answe
     }
 }
 
-/// The judge of beats in the order in which they cross, with how many whole requests and replies it has seen.
+/// The judge of beats in the order in which they cross, with how many whole requests and replies it has seen. It knows
+/// nothing of files: the judge of a file turns its answer into the words of the file.
 #[derive(Drop)]
 pub struct Tally {
     pub watch: OrderedWatch,

@@ -22,11 +22,12 @@ abbrev pub part_of : List ℕ → Tap → List ℕ
 part_of digits tap =
     if nat_le tap.from tap.to && nat_le tap.to (length digits) then slice_range digits tap.from tap.to else []
 
--- and of a list of values, one for each slot
+-- the digits that a tap takes of a value; none if there is no value.
 abbrev pub part_if_any : Option (List ℕ) → Tap → List ℕ
 part_if_any None tap = []
 part_if_any (Some digits) tap = part_of digits tap
 
+-- the digits that a tap takes of values, of the one in its slot; none if there is no such slot.
 abbrev pub bits_of : List (List ℕ) → Tap → List ℕ
 bits_of values tap = part_if_any (slice_get values tap.slot) tap
 

@@ -25,6 +25,7 @@ unwatched domain = record { domain = domain; edges = no_edges }
 
 -- what contracts see
 
+-- what contracts see of a domain.
 abbrev pub domain_view : code_domain.Domain → Domain
 domain_view domain = record {
   clock = domain.clock;
@@ -33,5 +34,6 @@ domain_view domain = record {
   reset_name = option_map (λ name. name.items) domain.reset_name;
 }
 
+-- what contracts see of a domain with its edges.
 abbrev pub watched_view : code_watched.Watched → Watched
 watched_view watched = record { domain = domain_view watched.domain; edges = watched.edges }

@@ -17,11 +17,12 @@ pub data EdgeFault : Type 0 where
   ResetAtEdges : Option (List ℕ) → Bool → EdgeFault
   ResetAtBeats : Bool → EdgeFault
 
--- a clock has no edge
+-- the clock of this name has no such edge.
 abbrev pub never_by : Edge → Option (List ℕ) → EdgeFault
 never_by Rising name = NeverRises name
 never_by Falling name = NeverFalls name
 
+-- the clock of a domain has no edge.
 abbrev pub never_of : Domain → EdgeFault
 never_of domain = never_by domain.clock.edge domain.clock_name
 

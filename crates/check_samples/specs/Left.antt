@@ -44,6 +44,7 @@ pub record RowsLeft : Type 0 where
   pub text : List ℕ
   pub end : End
 
+-- these rows, which end so, or before the beat that ends them.
 abbrev pub left_by : Rows → End → RowsLeft
 left_by rows end = record { text = rows.text; end = end_by rows.fault end }
 
@@ -51,6 +52,7 @@ left_by rows end = record { text = rows.text; end = end_by rows.fault end }
 abbrev pub left_of : List Happens → Sampling → RowsLeft
 left_of happens s = left_by (rows_from happens s) (end_in happens s)
 
+-- the rows that are left to come of a dump, and how they end; none if the dump is not known.
 abbrev pub left_in : Dumping → Sampling → Option RowsLeft
 left_in dump s = option_map (λ happens. left_of happens s) (happens_in dump)
 

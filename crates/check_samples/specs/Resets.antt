@@ -37,8 +37,10 @@ is_reset_due before now watched (Some one) = begins before now one && some_cross
 abbrev pub reset_line : ℕ → List ℕ
 reset_line time = decimal time ++ codes ",reset,,,,,,,,,,"
 
+-- the row of a reset of the whole system: its line with its end.
 abbrev pub reset_row : ℕ → List ℕ
 reset_row time = reset_line time ++ (10 ∷ [])
 
+-- the row of a reset at a time, if one is due.
 abbrev pub reset_rows : ℕ → Bool → Rows
 reset_rows time is_due = if is_due then record { text = reset_row time; fault = None } else no_rows

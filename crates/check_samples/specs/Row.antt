@@ -27,6 +27,7 @@ abbrev pub digit_by : Option ℕ → ℕ
 digit_by None = 120
 digit_by (Some number) = digit_glyph false (number % 16)
 
+-- the hexadecimal digit of these bits, of which there are at most four.
 abbrev pub digit_of : List ℕ → ℕ
 digit_of bits = digit_by (number_of 2 4 bits)
 
@@ -41,11 +42,12 @@ hex_text bits =
     let over = length bits % 4 in
     if over == 0 then hexes bits else digit_of (take over bits) ∷ hexes (drop over bits)
 
+-- a link as captures name it: `m` or `p`, and the number of the master or the port.
 abbrev pub link_text : Link → List ℕ
 link_text (Master number) = 109 ∷ decimal number
 link_text (Port number) = 112 ∷ decimal number
 
--- the numbers of a beat, or the first of its signals with an unknown bit
+-- the numbers of a beat of channel A, or the first of its signals with an unknown bit.
 abbrev pub cells_of_ask : List (List ℕ) → AskTaps → Result AskCells Signal
 cells_of_ask values taps = do
   opcode ← known_number signal.AOpcode (bits_of values taps.opcode)
@@ -57,6 +59,7 @@ cells_of_ask values taps = do
   corrupt ← number_if_any signal.ACorrupt (bits_of values taps.corrupt)
   Ok (record { opcode = opcode; param = param; size = size; source = source; address = address; corrupt = corrupt })
 
+-- the numbers of a beat of channel D, or the first of its signals with an unknown bit.
 abbrev pub cells_of_reply : List (List ℕ) → ReplyTaps → Result ReplyCells Signal
 cells_of_reply values taps = do
   opcode ← known_number signal.DOpcode (bits_of values taps.opcode)
@@ -80,10 +83,11 @@ abbrev pub mark_text : Option ℕ → List ℕ
 mark_text None = []
 mark_text (Some number) = decimal number
 
--- the row of a beat of channel A, with the bits of its mask and of its data
+-- the columns of a beat of channel A from the opcode to the source.
 abbrev pub ask_numbers : AskCells → List ℕ
 ask_numbers cells = cell cells.opcode ++ cell cells.param ++ cell cells.size ++ cell cells.source
 
+-- the columns of a beat of channel A from the address to the data.
 abbrev pub ask_lanes : ℕ → List ℕ → List ℕ → List ℕ
 ask_lanes address mask lanes = (44 ∷ digits 16 false address) ++ (44 ∷ hex_text mask) ++ (44 ∷ hex_text lanes)
 
@@ -91,23 +95,27 @@ ask_lanes address mask lanes = (44 ∷ digits 16 false address) ++ (44 ∷ hex_t
 abbrev pub ask_flags : AskCells → List ℕ
 ask_flags cells = (44 ∷ []) ++ (44 ∷ mark_text cells.corrupt)
 
--- the line of the row, and its text: the line with its end
+-- the line of the row of a beat of channel A, without its end.
 unfoldable pub ask_line : ℕ → Link → AskCells → List ℕ → List ℕ → List ℕ
 ask_line time link cells mask lanes =
     head_text time link 65 ++ ask_numbers cells ++ ask_lanes cells.address mask lanes ++ ask_flags cells
 
+-- the line of the row of a beat of channel A, with its end.
 abbrev pub ask_text : ℕ → Link → AskCells → List ℕ → List ℕ → List ℕ
 ask_text time link cells mask lanes = ask_line time link cells mask lanes ++ (10 ∷ [])
 
--- the row of a beat of channel D, with the bits of its data
+-- the columns of a beat of channel D from the opcode to the source.
 abbrev pub reply_numbers : ReplyCells → List ℕ
 reply_numbers cells = cell cells.opcode ++ (44 ∷ mark_text cells.param) ++ cell cells.size ++ cell cells.source
 
+-- the columns of a beat of channel D from the address to the last one; those of the address and the mask are empty.
 abbrev pub reply_lanes : List ℕ → ReplyCells → List ℕ
 reply_lanes lanes cells = (44 ∷ 44 ∷ 44 ∷ hex_text lanes) ++ cell cells.denied ++ (44 ∷ mark_text cells.corrupt)
 
+-- the line of the row of a beat of channel D, without its end.
 unfoldable pub reply_line : ℕ → Link → ReplyCells → List ℕ → List ℕ
 reply_line time link cells lanes = head_text time link 68 ++ reply_numbers cells ++ reply_lanes lanes cells
 
+-- the line of the row of a beat of channel D, with its end.
 abbrev pub reply_text : ℕ → Link → ReplyCells → List ℕ → List ℕ
 reply_text time link cells lanes = reply_line time link cells lanes ++ (10 ∷ [])

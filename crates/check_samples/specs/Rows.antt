@@ -23,9 +23,11 @@ use Rattle.check_samples.specs.declared.signal.Signal.{Signal}
 use Rattle.check_samples.specs.declared.signal.Signal.TheVariants as signal
 use Rattle.check_samples.specs.declared.tap.Tap.{Tap}
 
+-- a signal of one bit is 1.
 abbrev pub is_one : List ℕ → Bool
 is_one bits = bytes_eq bits (codes "1")
 
+-- a signal of one bit is 0.
 abbrev pub is_zero : List ℕ → Bool
 is_zero bits = bytes_eq bits (codes "0")
 
@@ -50,6 +52,7 @@ row_by (D taps) time values channel =
     cells_of_reply values taps
     >>= (λ cells. Ok (reply_text time channel.link cells (bits_of values taps.data)))
 
+-- the row of a channel's beat at a time, or the first of its signals, data aside, with an unknown bit.
 abbrev pub row_at : ℕ → List (List ℕ) → Channel → Result (List ℕ) Signal
 row_at time values channel = row_by channel.beat time values channel
 
@@ -58,6 +61,7 @@ pub record Rows : Type 0 where
   pub text : List ℕ
   pub fault : Option UnknownBit
 
+-- no rows, and no beat that is none.
 abbrev pub no_rows : Rows
 no_rows = record { text = []; fault = None }
 
@@ -66,6 +70,7 @@ abbrev pub followed_by : Option UnknownBit → List ℕ → Rows → Rows
 followed_by None text others = record { text = text ++ others.text; fault = others.fault }
 followed_by (Some fault) text others = record { text = text; fault = Some fault }
 
+-- rows and then others, unless a beat that is none ends the first.
 abbrev pub and_then : Rows → Rows → Rows
 and_then rows others = followed_by rows.fault rows.text others
 
@@ -75,11 +80,12 @@ row_alone time channel (Ok row) = record { text = row; fault = None }
 row_alone time channel (Err which) =
     record { text = []; fault = Some (record { time = time; link = channel.link; signal = which }) }
 
--- the signals of a channel's handshake
+-- the signal that says whether a channel has a beat.
 abbrev pub valid_of : BeatTaps → Signal
 valid_of (A taps) = signal.AValid
 valid_of (D taps) = signal.DValid
 
+-- the signal that says whether a channel's beat is taken.
 abbrev pub ready_of : BeatTaps → Signal
 ready_of (A taps) = signal.AReady
 ready_of (D taps) = signal.DReady
@@ -98,15 +104,18 @@ hand_alone time channel None = no_rows
 hand_alone time channel (Some which) =
     record { text = []; fault = Some (record { time = time; link = channel.link; signal = which }) }
 
+-- the row of a channel, if a beat crosses; or what ends the rows, if a signal of its handshake has to be known and is
+-- not.
 abbrev pub rows_at : Needs → ℕ → List (List ℕ) → Channel → Rows
 rows_at needs time values channel =
     if crosses values channel then row_alone time channel (row_at time values channel)
     else hand_alone time channel (unknown_hand needs values channel)
 
--- what has to be known in each domain at a time, if its clock has an edge then outside of reset; of the one at a place
+-- for each domain what has to be known at a time, if its clock has an edge then outside of reset.
 abbrev pub Dues : Type 0
 Dues = List (Option Needs)
 
+-- what has to be known in the domain at a place; none if nothing is due there.
 abbrev pub due_at : Dues → ℕ → Option Needs
 due_at dues place = option_and_then (λ due. due) (slice_get dues place)
 
@@ -137,11 +146,12 @@ is_active values None = false
 is_active values (Some reset) =
     if reset.is_low then is_zero (bits_of values reset.tap) else is_one (bits_of values reset.tap)
 
--- the bit that a clock is before its edge, and the one that it is then
+-- the bit that a clock is before its edge.
 abbrev pub is_early : Edge → List ℕ → Bool
 is_early Rising bits = is_zero bits
 is_early Falling bits = is_one bits
 
+-- the bit that a clock is from its edge on.
 abbrev pub is_late : Edge → List ℕ → Bool
 is_late Rising bits = is_one bits
 is_late Falling bits = is_zero bits
@@ -170,6 +180,7 @@ Writes (Err (Unknown fault)) old new rows = (new ≡ old ++ rows.text) × (rows.
 Writes (Err (Gap line)) old new rows = ⊥
 Writes (Err Memory) old new rows = Unit {0}
 
+-- what contracts see of what is looked at.
 abbrev pub view_of : code_probes.Probes → Probes
 view_of probes = record {
   domains = map domain_view probes.domains.items;

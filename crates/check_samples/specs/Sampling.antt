@@ -55,6 +55,7 @@ abbrev pub is_time : Option ℕ → ℕ → Bool
 is_time None time = false
 is_time (Some last) time = last == time
 
+-- this is the present time.
 abbrev pub is_at : Sampling → ℕ → Bool
 is_at s time = is_time s.time time
 
@@ -72,10 +73,12 @@ watched_from place before now channels (one ∷ watched) =
     record { domain = one.domain; edges = edges_at place before now channels one }
     ∷ watched_from (place + 1) before now channels watched
 
+-- the domains with what there was at their edges, with the edges of the present time if there is one.
 abbrev pub watched_when : Option ℕ → Sampling → List Watched
 watched_when None s = s.watched
 watched_when (Some time) s = watched_from 0 s.before s.now s.channels s.watched
 
+-- the domains with what there was at their edges up to the present time.
 abbrev pub watched_now : Sampling → List Watched
 watched_now s = watched_when s.time s
 
@@ -84,6 +87,7 @@ abbrev pub resets_when : Option ℕ → Sampling → Option WatchedReset
 resets_when None s = s.resets
 resets_when (Some time) s = option_map (watched_reset s.before s.now) s.resets
 
+-- the system's reset, if its resets are told, and whether it was active at the last edge up to the present time.
 abbrev pub resets_now : Sampling → Option WatchedReset
 resets_now s = resets_when s.time s
 
@@ -110,6 +114,7 @@ abbrev pub needs_due : List (List ℕ) → List (List ℕ) → Watched → Optio
 needs_due before now one =
     if has_edge before now one.domain then Some (needs_of one.domain.reset one.edges) else None
 
+-- what has to be known in each domain at the present time.
 abbrev pub dues_of : List (List ℕ) → List (List ℕ) → List Watched → Dues
 dues_of before now watched = map (needs_due before now) watched
 
@@ -123,6 +128,7 @@ rows_when None s = no_rows
 rows_when (Some time) s =
     and_then (reset_rows time (is_reset_due s.before s.now s.watched s.resets)) (beat_rows time s)
 
+-- the rows of the present time of these values; none before the first time.
 abbrev pub rows_now : Sampling → Rows
 rows_now s = rows_when s.time s
 
@@ -147,6 +153,7 @@ IsJoined (event.Time time) s = ⊤
 IsJoined (event.Change slot) s = ⊤
 IsJoined (event.Resume line) s = some_crossed s.watched ≡ false
 
+-- what is answered after an event: that changes are told again is taken if no beat had crossed, and else there is a gap.
 abbrev pub Joins : Result Unit SampleFault → Event → Sampling → Type 0
 Joins (Ok done) next s = IsJoined next s
 Joins (Err (Gap line)) next s = (next ≡ event.Resume line) × (some_crossed s.watched ≡ true)

@@ -3,6 +3,7 @@ use Rattle.std.specs.Prelude.{ℕ, List, codes}
 use Rattle.check_samples.specs.declared.signal.Signal.{Signal}
 use Rattle.check_samples.specs.declared.signal.Signal.TheVariants.{AValid, AReady, AOpcode, AParam, ASize, ASource, AAddress, AMask, AData, ACorrupt, DValid, DReady, DOpcode, DParam, DSize, DSource, DData, DDenied, DCorrupt}
 
+-- the name of a signal in the specification.
 abbrev pub signal_name : Signal → List ℕ
 signal_name AValid = codes "a_valid"
 signal_name AReady = codes "a_ready"

@@ -138,7 +138,7 @@ pub record IsSameSystem (script : System) (system : Description) : Type 0 where
   pub lists : system.lists ≡ nothing_said system.ports
   pub paths : system.paths ≡ nothing_said system.masters
 
--- and the system that such a file describes is the script's.
+-- if a file is a script of tlx and says nothing that a script does not, the system that it describes is the script's.
 abbrev pub DescribesTheSame : Type 0
 DescribesTheSame =
     (bytes : List ℕ) (script : System) (parts : Parts) (system : Description) → Spells bytes script

@@ -43,10 +43,11 @@ use Rattle.check_signals.specs.declared.wanted.Wanted.TheVariants.{AtMost}
 
 -- ---- what the names find
 
--- a clock and a reset have one bit
+-- what is looked for by the name of a clock or a reset: one bit.
 abbrev pub line_asked : SignalOwner → List ℕ → WantedSignal
 line_asked whose name = record { owner = whose; name = name; behind = None; wanted = AtMost 1 }
 
+-- what the name of a clock or a reset finds, which is one part.
 abbrev pub line_source : List Var → SignalOwner → List ℕ → Result Source SearchFault
 line_source vars whose name = named_in vars (line_asked whose name) >>= one_of (line_asked whose name)
 
@@ -56,23 +57,26 @@ pub record ClockSources : Type 0 where
   pub clock : Option Source
   pub reset : Option Source
 
+-- what the names of a clock and a reset find, the clock's first; of a name that there is not, nothing.
 unfoldable pub clock_sources : List Var → SignalOwner → ClockNames → Result ClockSources SearchFault
 clock_sources vars whose names = do
   clock ← if_any (line_source vars whose) names.clock
   reset ← if_any (line_source vars whose) names.reset
   Ok (record { names = names; clock = clock; reset = reset })
 
--- the parts of a signal of a link whose bus has so many bytes
+-- a signal of a link whose bus has so many bytes.
 abbrev pub signal_by : SignalOwner → ℕ → Signal → LinkSignal
 signal_by whose bus which = record { owner = whose; which = which; wanted = wanted_of which bus }
 
+-- the parts that the name of a signal finds, at a link whose bus has so many bytes.
 abbrev pub parts_by : List Var → SignalOwner → ℕ → Signal × SignalName → Result (List Source) SearchFault
 parts_by vars whose bus named = signal_parts vars (signal_by whose bus named.0) named.1
 
--- the same of some signals, and of all signals of a link, in the order of their names
+-- the parts that the names of some signals find, in their order.
 abbrev pub signals_named : List Var → SignalOwner → ℕ → List Signal → List SignalName → Result (List (List Source)) SearchFault
 signals_named vars whose bus signals names = each (parts_by vars whose bus) (zip signals names)
 
+-- the parts that the names of all signals of a link find, in their order.
 abbrev pub sources_of : List Var → SignalOwner → ℕ → List SignalName → Result (List (List Source)) SearchFault
 sources_of vars whose bus names = signals_named vars whose bus SIGNALS names
 
@@ -82,10 +86,12 @@ pub record LinkSources : Type 0 where
   pub clock : ClockSources
   pub signals : List (List Source)
 
+-- the link of a port or of a master of this number.
 abbrev pub link_at : Bool → ℕ → Link
 link_at true number = link.Port number
 link_at false number = link.Master number
 
+-- whose signals those of a link are.
 abbrev pub owner_of : Link → SignalOwner
 owner_of (link.Port number) = owner.Port number
 owner_of (link.Master number) = owner.Master number
@@ -123,9 +129,11 @@ named_sources vars link bus names = do
   signals ← sources_of vars (owner_of link) bus names.signals
   Ok (record { link = link; clock = clock; signals = signals })
 
+-- what the names of a link find, which has a bus.
 abbrev pub link_sources : List Var → NamedLink → Result LinkSources SearchFault
 link_sources vars named = named_sources vars named.link (bus_bytes named.bus) named.names
 
+-- what the names of all links of a kind find, of which the first has this number.
 unfoldable pub links_from : List Var → Bool → NamesOf → ℕ → List Bus → Result (List LinkSources) SearchFault
 links_from vars is_port names number buses = each (link_sources vars) (numbered is_port names number buses)
 
@@ -155,6 +163,7 @@ is_same (Changing one width) (Constant digit count) = false
 is_same (Constant digit bits) (Changing other count) = false
 is_same (Constant digit bits) (Constant other count) = (digit == other) && (bits == count)
 
+-- a value is among those that are kept.
 abbrev pub is_kept : List Kept → Kept → Bool
 is_kept kept value = list_any (λ other. is_same other value) kept
 
@@ -168,16 +177,19 @@ distinct some (value ∷ values) =
 abbrev pub with_lines : ClockSources → List Source → List Source
 with_lines own others = cons_option own.clock (cons_option own.reset others)
 
--- all sources of a link, of links, and of a system
+-- all sources of a link: its clock and its reset, as far as there are any, and then its signals.
 abbrev pub of_link : LinkSources → List Source
 of_link found = with_lines found.clock (all_parts found.signals)
 
+-- all sources of these links, one link after the other.
 abbrev pub flat : List LinkSources → List Source
 flat links = flat_map of_link links
 
+-- all sources of a system: its clock and its reset, and then those of the ports' and of the masters' links.
 abbrev pub all_of : FoundSources → List Source
 all_of sources = with_lines sources.system (flat sources.ports ++ flat sources.masters)
 
+-- the values of these sources, each identifier and each constant once, in the order in which they come first.
 unfoldable pub values_kept : List Source → List Kept
 values_kept sources = distinct [] (map (λ source. source.kept) sources)
 
@@ -186,17 +198,18 @@ abbrev pub slot_place : List Kept → Kept → ℕ
 slot_place [] value = 0
 slot_place (other ∷ kept) value = if is_same other value then 0 else slot_place kept value + 1
 
+-- the digits of a source, in the slot of its value.
 abbrev pub tap_by : List Kept → Source → Tap
 tap_by kept source = record { slot = slot_place kept source.kept; from = source.from; to = source.to }
 
 -- ---- what is put together
 
--- the parts of all signals that have several stand one after the other, in a value behind those that are kept. What a signal
--- adds to them, and how many bits it adds
+-- the parts that a signal adds to what is put together: its own, if it has several.
 abbrev pub joins_of : List Kept → List Source → List Tap
 joins_of kept (part ∷ []) = []
 joins_of kept parts = map (tap_by kept) parts
 
+-- how many bits a signal adds to what is put together: 0 if it has one part.
 abbrev pub joined_bits : List Source → ℕ
 joined_bits (part ∷ []) = 0
 joined_bits parts = parts_bits parts
@@ -207,45 +220,52 @@ abbrev pub tap_of : List Kept → ℕ → List Source → Tap
 tap_of kept before (part ∷ []) = tap_by kept part
 tap_of kept before parts = record { slot = length kept; from = before; to = before + parts_bits parts }
 
--- the same of some signals, one after the other, and of links
+-- the parts that some signals add to what is put together, one after the other.
 abbrev pub joins_in : List Kept → List (List Source) → List Tap
 joins_in kept signals = flat_map (joins_of kept) signals
 
+-- how many bits some signals add to what is put together.
 abbrev pub bits_in : List (List Source) → ℕ
 bits_in [] = 0
 bits_in (parts ∷ signals) = joined_bits parts + bits_in signals
 
+-- where the digits of some signals are; so many bits are put together of those before them.
 abbrev pub taps_from : List Kept → ℕ → List (List Source) → List Tap
 taps_from kept before [] = []
 taps_from kept before (parts ∷ signals) =
     tap_of kept before parts ∷ taps_from kept (before + joined_bits parts) signals
 
+-- the parts that the signals of links add to what is put together, one after the other.
 abbrev pub link_joins : List Kept → List LinkSources → List Tap
 link_joins kept links = flat_map (λ found. joins_in kept found.signals) links
 
+-- how many bits the signals of links add to what is put together.
 abbrev pub link_bits : List LinkSources → ℕ
 link_bits [] = 0
 link_bits (found ∷ links) = bits_in found.signals + link_bits links
 
 -- ---- the domains
 
--- the clocks and resets of links are one domain if the same is said of them
+-- two texts are the same, or there is neither.
 abbrev pub same_text : Option (List ℕ) → Option (List ℕ) → Bool
 same_text None None = true
 same_text None (Some other) = false
 same_text (Some one) None = false
 same_text (Some one) (Some other) = bytes_eq one other
 
+-- two clocks have the same edges.
 abbrev pub same_edge : Edge → Edge → Bool
 same_edge Rising Rising = true
 same_edge Rising Falling = false
 same_edge Falling Rising = false
 same_edge Falling Falling = true
 
+-- two flags are the same.
 abbrev pub same_flag : Bool → Bool → Bool
 same_flag true other = other
 same_flag false other = not other
 
+-- the same is said of two clocks and of their resets: their names, the edges, and whether the reset is active at 0.
 abbrev pub same_clock : ClockNames → ClockNames → Bool
 same_clock one other =
     (same_text one.clock other.clock && same_edge one.edge other.edge)
@@ -256,13 +276,15 @@ abbrev pub domain_place : List ClockSources → ClockNames → ℕ
 domain_place [] names = 0
 domain_place (other ∷ others) names = if same_clock other.names names then 0 else domain_place others names + 1
 
--- those of links that are to stand behind some, each once
+-- the same is said of one of these clocks.
 abbrev pub clocks_known : List ClockSources → ClockNames → Bool
 clocks_known some names = list_any (λ other. same_clock other.names names) some
 
+-- the clocks and resets of links, in order.
 abbrev pub clocks_of : List LinkSources → List ClockSources
 clocks_of links = map (λ found. found.clock) links
 
+-- these clocks and resets, and then the others of which something else is said, each once.
 unfoldable pub with_clocks : List ClockSources → List ClockSources → List ClockSources
 with_clocks some [] = some
 with_clocks some (own ∷ others) =
@@ -278,9 +300,11 @@ has_system system own =
 abbrev pub clocks_of_links : ClockNames → List ClockSources → List ClockSources
 clocks_of_links system links = with_clocks (with_clocks [] (filter (has_system system) links)) links
 
+-- the clocks and resets of all domains of a system.
 abbrev pub all_clocks : FoundSources → List ClockSources
 all_clocks sources = clocks_of_links sources.system.names (clocks_of sources.ports ++ clocks_of sources.masters)
 
+-- a reset by what its name finds; none if there is no name.
 abbrev pub reset_by : List Kept → Bool → Option Source → Option Reset
 reset_by kept is_low None = None
 reset_by kept is_low (Some reset) = Some (record { tap = tap_by kept reset; is_low = is_low })
@@ -322,10 +346,13 @@ shared_domain kept system own = record {
   reset_name = own.names.reset;
 }
 
+-- the domain of a link, by what the name of its own clock finds; the system's clock if it has none.
 abbrev pub domain_by : List Kept → ClockSources → ClockSources → Option Source → Domain
 domain_by kept system own None = shared_domain kept system own
 domain_by kept system own (Some clock) = own_domain kept clock own
 
+-- the domain of a link: its own clock with no reset but its own, or the system's clock with the link's own reset or else
+-- the system's.
 abbrev pub domain_of : List Kept → ClockSources → ClockSources → Domain
 domain_of kept system own = domain_by kept system own own.clock
 
@@ -387,6 +414,7 @@ pub record Found : Type 0 where
   pub probes : Probes
   pub kept : List Kept
 
+-- what is looked at and kept, if these values are kept and these are the clocks and resets of the domains.
 abbrev pub found_by : List Kept → List ClockSources → FoundSources → Found
 found_by kept clocks sources = record {
   probes = record {
@@ -399,6 +427,7 @@ found_by kept clocks sources = record {
   kept = kept;
 }
 
+-- what is looked at and kept, by all that the names find.
 abbrev pub found_of : FoundSources → Found
 found_of sources = found_by (values_kept (all_of sources)) (all_clocks sources) sources
 
@@ -409,15 +438,17 @@ found_in vars masters ports names = sources_in vars masters ports names >>= (λ 
 
 -- ---- how a dump is read so
 
--- how many bits a value has; its digits before a dump's body; and the identifier that it changes by
+-- how many bits a kept value has.
 abbrev pub width_in : Kept → ℕ
 width_in (Changing code width) = width
 width_in (Constant digit width) = width
 
+-- the digits of a kept value before a dump's body: those of a constant are known, and no others.
 abbrev pub digits_in : Kept → List ℕ
 digits_in (Changing code width) = unknown width
 digits_in (Constant digit width) = replicate width digit
 
+-- the identifier by which a kept value changes; a constant has none.
 abbrev pub code_in : Kept → Option (List ℕ)
 code_in (Changing code width) = Some code
 code_in (Constant digit width) = None
@@ -433,6 +464,7 @@ abbrev pub slot_one : Option (List ℕ) → ℕ → Find → Find
 slot_one None slot find other = find other
 slot_one (Some code) slot find other = if bytes_eq code other then with_slot slot (find other) else find other
 
+-- what is known of identifiers, with the slots of these, of which the first has this slot.
 abbrev pub slots_from : List (Option (List ℕ)) → ℕ → Find → Find
 slots_from [] slot find other = find other
 slots_from (code ∷ codes) slot find other = slots_from codes (slot + 1) (slot_one code slot find) other
@@ -443,6 +475,7 @@ find_of vars found = slots_from (map code_in found.kept) 0 (coded_in vars)
 
 -- ---- what calls answer
 
+-- what contracts see of what the names of a clock and a reset find.
 abbrev pub clocks_view : code_domains.ClockSources → ClockSources
 clocks_view own = record {
   names = clock_view own.names.now;
@@ -450,13 +483,16 @@ clocks_view own = record {
   reset = option_map source_view own.reset;
 }
 
+-- what contracts see of what the names of a link find.
 abbrev pub link_sources_view : code_links.LinkSources → LinkSources
 link_sources_view found =
     record { link = found.link; clock = clocks_view found.clock; signals = signals_view found.signals.items }
 
+-- the same of several links.
 abbrev pub links_view : Vec code_links.LinkSources Global → List LinkSources
 links_view links = map link_sources_view links.items
 
+-- what contracts see of what all names find.
 abbrev pub sources_view : code_sources.Sources → FoundSources
 sources_view sources = record {
   system = clocks_view sources.system;

@@ -36,6 +36,7 @@ is_low_by other (Some word) =
     else if bytes_eq word (codes "low") then Ok true
     else Err (OutOfRange ResetActive)
 
+-- whether a reset is active at 0, by a table; if it says nothing, it is as this flag says.
 abbrev pub is_low_in : Bool → Members → Result Bool KeyFault
 is_low_in other members = optional_text ResetActive members >>= is_low_by other
 
@@ -47,6 +48,7 @@ edge_by other (Some word) =
     else if bytes_eq word (codes "falling") then Ok Falling
     else Err (OutOfRange EdgeKey)
 
+-- the edges of a clock at which beats cross, by a table; if it says nothing, these.
 abbrev pub edge_in : Edge → Members → Result Edge KeyFault
 edge_in other members = optional_text EdgeKey members >>= edge_by other
 
@@ -93,35 +95,43 @@ lone_name which value =
 abbrev pub part_name : Data → Result (List ℕ) KeyFault
 part_name value = signal_text_of Wires value >>= name_unless Wires true
 
+-- the names of the signals that a wire puts together: 1 to 512 texts.
 abbrev pub joined_names : List Data → Result SignalName KeyFault
 joined_names values =
     if nat_le 1 (length values) && nat_le (length values) MAX_PARTS
     then each part_name values >>= (λ names. Ok (Joined names))
     else Err (OutOfRange Wires)
 
+-- the name of a signal by the value of its wire, which is a text or an array.
 abbrev pub wired_by : Signal → Data → Option Items → Result SignalName KeyFault
 wired_by which value None = lone_name which value
 wired_by which value (Some items) = joined_names (list_of items)
 
+-- the name of a signal by the value of its wire.
 abbrev pub wired : Signal → Data → Result SignalName KeyFault
 wired which value = wired_by which value (as_array value)
 
--- or else the names behind the prefixes, of what `names` says or of the specification's
+-- the name of a signal without a wire: behind the prefixes what `names` says, or the specification's name; a text of
+-- `names` that is no name stands alone.
 abbrev pub called : Manner → Signal → Option (List ℕ) → SignalName
 called manner which None = Prefixed (behind_each (name_behind manner.naming.bits which) manner.prefixes)
 called manner which (Some text) =
     if is_no_name text then Wired text else Prefixed (behind_each text manner.prefixes)
 
+-- the name of a signal by the value of its wire, or if there is none behind the prefixes.
 abbrev pub name_by : Manner → Signal → Option Data → Result SignalName KeyFault
 name_by manner which None = said_in manner.naming.names which >>= (λ text. Ok (called manner which text))
 name_by manner which (Some value) = wired which value
 
+-- the name of a signal, by a table of wires that may be absent.
 abbrev pub name_in : Manner → Option Members → Signal → Result SignalName KeyFault
 name_in manner wires which = name_by manner which (value_in wires which)
 
+-- the names of all signals of a link, in their order.
 abbrev pub names_in : Manner → Option Members → Result (List SignalName) KeyFault
 names_in manner wires = each (name_in manner wires) SIGNALS
 
+-- the same of a link that has signals.
 abbrev pub some_names_in : Manner → Option Members → Result (Option (List SignalName)) KeyFault
 some_names_in manner wires = names_in manner wires >>= (λ names. Ok (Some names))
 
@@ -130,6 +140,8 @@ abbrev pub wired_alone : Option Members → Bool → Result (Option (List Signal
 wired_alone None bits = Ok None
 wired_alone (Some wires) bits = some_names_in (bare bits) (Some wires)
 
+-- the names of the signals of a link: if it has prefixes, behind these; if it has wires alone, by these, and `names` says
+-- nothing; if it has neither, it has no signals.
 abbrev pub link_by : Option (List (List ℕ)) → Option Members → Naming → Result (Option (List SignalName)) KeyFault
 link_by None wires naming = wired_alone wires naming.bits
 link_by (Some prefixes) wires naming = some_names_in (record { prefixes = prefixes; naming = naming }) wires
@@ -139,6 +151,7 @@ pub record LinkNames : Type 0 where
   pub clock : ClockNames
   pub signals : List SignalName
 
+-- the names of a link that has signals, with those of its clock and reset.
 abbrev pub with_clock : ClockNames → Option (List SignalName) → Option LinkNames
 with_clock clock None = None
 with_clock clock (Some signals) = Some (record { clock = clock; signals = signals })
@@ -158,6 +171,7 @@ link_in top members = do
   signals ← link_by prefixes wires (record { bits = unwrap_or bits top.naming.bits; names = top.naming.names })
   Ok (with_clock clock signals)
 
+-- the names of the link whose table this value is.
 unfoldable pub link_of : Common → SignalKey → Data → Result (Option LinkNames) KeyFault
 link_of top key value = ok_or (as_table value) (WrongType key) >>= link_in top
 
@@ -167,6 +181,7 @@ links_by top key None = Ok []
 links_by top key (Some value) =
     ok_or (as_array value) (WrongType key) >>= (λ items. each (link_of top key) (list_of items))
 
+-- the names of the links at a key, in order; each has signals or not.
 unfoldable pub links_in : Common → SignalKey → Members → Result (List (Option LinkNames)) KeyFault
 links_in top key members = links_by top key (get_member (signal_key_name key) members)
 
@@ -180,14 +195,16 @@ pub record SignalNames : Type 0 where
   pub ports : List (Option LinkNames)
   pub masters : List (Option LinkNames)
 
--- some link of a kind has signals; some that has signals has no clock of its own
+-- some link of a kind has signals.
 abbrev pub have_signals : List (Option LinkNames) → Bool
 have_signals links = list_any (λ link. is_some link) links
 
+-- a link has signals, and no clock of its own.
 abbrev pub has_no_clock : Option LinkNames → Bool
 has_no_clock None = false
 has_no_clock (Some names) = is_none names.clock.clock
 
+-- some link of a kind has signals, and no clock of its own.
 abbrev pub need_clock : List (Option LinkNames) → Bool
 need_clock links = list_any has_no_clock links
 
@@ -226,12 +243,14 @@ all_names members = do
       top.system.clock
   Ok (record { system = top.system; resets = resets; ports = ports; masters = masters })
 
+-- the names of a system file, or its first fault; before all else comes that it is no document.
 unfoldable pub names_of_file : List ℕ → Result SignalNames KeyFault
 names_of_file bytes =
     if is_utf8 bytes then ok_or (parse_document bytes) NotToml >>= all_names else Err NotToml
 
 -- ---- what calls answer
 
+-- what contracts see of the name of a signal.
 abbrev pub name_view : code_name.SignalName → SignalName
 name_view (code_names_of.Prefixed texts) = Prefixed (map (λ text. text.items) texts.items)
 name_view (code_names_of.Wired text) = Wired text.items
@@ -241,6 +260,7 @@ name_view (code_names_of.Joined texts) = Joined (map (λ text. text.items) texts
 abbrev pub signals_view : Option (Vec code_name.SignalName Global) → Option (List SignalName)
 signals_view signals = option_map (λ names. map name_view names.items) signals
 
+-- what contracts see of the names of a clock and a reset.
 abbrev pub clock_view : code_clock.ClockNames → ClockNames
 clock_view names = record {
   clock = option_map (λ name. name.items) names.clock;
@@ -249,15 +269,19 @@ clock_view names = record {
   is_low = names.is_low;
 }
 
+-- what contracts see of the names of a link.
 abbrev pub link_names_view : code_link.LinkNames → LinkNames
 link_names_view names = record { clock = clock_view names.clock; signals = map name_view names.signals.items }
 
+-- the same of a link that may have no signals.
 abbrev pub link_view : Option code_link.LinkNames → Option LinkNames
 link_view link = option_map link_names_view link
 
+-- what contracts see of what the file says of all links.
 abbrev pub common_view : code_common.Common → Common
 common_view top = record { system = clock_view top.system.now; naming = naming_view top.naming }
 
+-- what contracts see of the names of a file.
 abbrev pub names_view : code_names.SignalNames → SignalNames
 names_view names = record {
   system = clock_view names.system;

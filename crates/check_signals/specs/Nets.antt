@@ -24,13 +24,15 @@ bit_by var None = None
 bit_by var (Some span) =
     if (var.width == 1) && (span.left == span.right) then Some (record { index = span.left; code = var.code }) else None
 
+-- the bit that a signal is, if it has one bit with an index.
 abbrev pub bit_of : Var → Option Bit
 bit_of var = bit_by var var.span
 
--- the bits of a name
+-- the bit that a signal of this name is.
 abbrev pub bit_called : List ℕ → Var → Option Bit
 bit_called name var = if bytes_eq var.name name then bit_of var else None
 
+-- the bits that are declared alone by this name, in the order of the header.
 abbrev pub bits_called : List Var → List ℕ → List Bit
 bits_called vars name = filter_map (bit_called name) vars
 
@@ -40,17 +42,19 @@ has_whole vars name = list_any (λ var. bytes_eq var.name name && is_none (bit_o
 
 -- ---- a vector of them
 
--- the highest and the lowest index
+-- the highest and the lowest index, with one bit more.
 abbrev pub with_bit : Span → Bit → Span
 with_bit span bit = record {
   left = if nat_lt span.left bit.index then bit.index else span.left;
   right = if nat_lt bit.index span.right then bit.index else span.right;
 }
 
+-- the highest and the lowest index of these bits and of a range.
 abbrev pub span_from : Span → List Bit → Span
 span_from span [] = span
 span_from span (bit ∷ bits) = span_from (with_bit span bit) bits
 
+-- the highest and the lowest index of these bits; none if there is none.
 abbrev pub span_of : List Bit → Option Span
 span_of [] = None
 span_of (bit ∷ bits) = Some (span_from (record { left = bit.index; right = bit.index }) bits)
@@ -59,18 +63,20 @@ span_of (bit ∷ bits) = Some (span_from (record { left = bit.index; right = bit
 abbrev pub codes_at : List Bit → ℕ → List (List ℕ)
 codes_at bits index = filter_map (λ bit. if bit.index == index then Some bit.code else None) bits
 
--- the bit of an index: the lowest of its identifier. There has to be one identifier, and no other
+-- the bit of an identifier: the lowest of its value, which has so many bits.
 abbrev pub bit_within : WantedSignal → List ℕ → ℕ → Result Source SearchFault
 bit_within asked code width =
     if nat_lt MAX_WIDTH width then Err (too_wide asked width MAX_WIDTH)
     else Ok (record { kept = Changing code width; from = width - 1; to = width })
 
+-- the bit of an index, by the identifiers of the bits that have it: there has to be one, and no other.
 abbrev pub bit_among : List Var → WantedSignal → List (List ℕ) → Option (List ℕ) → Result Source SearchFault
 bit_among vars asked codes None = Err (Twice asked.owner asked.name)
 bit_among vars asked codes (Some code) =
     if list_any (λ other. not (bytes_eq other code)) codes then Err (Twice asked.owner asked.name)
     else bit_within asked code (width_of vars code)
 
+-- the bit of an index among these bits.
 unfoldable pub bit_at : List Var → WantedSignal → List Bit → ℕ → Result Source SearchFault
 bit_at vars asked bits index =
     let codes = codes_at bits index in bit_among vars asked codes (first_of codes)
@@ -102,10 +108,12 @@ meant_of span None = if nat_lt span.right span.left then Some span else None
 meant_of span (Some part) =
     if nat_lt part.right part.left && (nat_le part.left span.left && nat_le span.right part.right) then Some part else None
 
+-- the indices that are meant, if they are several; none if no bits are declared alone.
 abbrev pub meant : Option Span → Option Span → Option Span
 meant None part = None
 meant (Some span) part = meant_of span part
 
+-- what one signal finds, as a list of one part.
 abbrev pub lone : Result Source SearchFault → Result (List Source) SearchFault
 lone found = found >>= (λ source. Ok (source ∷ []))
 
@@ -114,15 +122,18 @@ abbrev pub net_by : List Var → WantedSignal → List ℕ → List Bit → Opti
 net_by vars asked name bits None = lone (signal_in vars asked)
 net_by vars asked name bits (Some span) = vector_in vars asked name bits span
 
+-- what a name finds: a vector of bits that are declared alone, the highest first, or one signal.
 abbrev pub net_in : List Var → WantedSignal → Result (List Source) SearchFault
 net_in vars asked =
     let parts = sought vars asked.name in
     let bits = bits_called vars parts.0 in net_by vars asked parts.0 bits (meant (span_of bits) parts.1)
 
+-- what a name finds, unless it is this digit, which is a constant.
 abbrev pub named_by : List Var → WantedSignal → Option ℕ → Result (List Source) SearchFault
 named_by vars asked (Some digit) = Ok (constant_of digit (constant_bits asked.wanted) ∷ [])
 named_by vars asked None = net_in vars asked
 
+-- what a name finds: no bits if it says that the design has no such signal, a constant, or the bits of signals.
 unfoldable pub named_in : List Var → WantedSignal → Result (List Source) SearchFault
 named_in vars asked = if is_left_out asked then Ok (left_out ∷ []) else named_by vars asked (digit_in asked.name)
 
@@ -133,5 +144,6 @@ one_of asked parts = Err (too_wide asked (parts_bits parts) (count_of asked.want
 
 -- ---- what calls answer
 
+-- what contracts see of a bit that is declared alone.
 abbrev pub bit_view : code_bit.Bit → Bit
 bit_view bit = record { index = bit.index; code = bit.code.now }

@@ -44,5 +44,6 @@ signal_parts vars signal (Joined names) = each (part_of vars signal) names >>= (
 
 -- ---- what calls answer
 
+-- what contracts see of the parts of signals.
 abbrev pub signals_view : List (Vec code_source.Source Global) → List (List Source)
 signals_view signals = map sources_view signals

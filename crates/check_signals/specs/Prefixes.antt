@@ -30,6 +30,7 @@ several_prefixes values =
     if nat_le 1 (length values) && nat_le (length values) MAX_PREFIXES then each (signal_text_of Signals) values
     else Err (OutOfRange Signals)
 
+-- the one prefix that a text is.
 abbrev pub lone_prefix : Data → Result (List (List ℕ)) KeyFault
 lone_prefix value = signal_text_of Signals value >>= (λ prefix. Ok (prefix ∷ []))
 
@@ -38,6 +39,7 @@ abbrev pub prefixes_by : Data → Option Items → Result (List (List ℕ)) KeyF
 prefixes_by value None = lone_prefix value
 prefixes_by value (Some items) = several_prefixes (list_of items)
 
+-- the prefixes that a value gives: a text is one, and an array lists several.
 abbrev pub prefixes_of : Data → Result (List (List ℕ)) KeyFault
 prefixes_of value = prefixes_by value (as_array value)
 
@@ -51,6 +53,7 @@ prefixes_in members = if_any prefixes_of (get_member (signal_key_name Signals) m
 abbrev pub said_of : Signal → Data → Result (List ℕ) KeyFault
 said_of which value = signal_text_of Names value >>= name_unless Names (not (may_be_left_out which))
 
+-- what the table `names` says of a signal; none if there is no table, or if it says nothing of the signal.
 abbrev pub said_in : Option Members → Signal → Result (Option (List ℕ)) KeyFault
 said_in names which = if_any (said_of which) (value_in names which)
 
@@ -59,6 +62,7 @@ abbrev pub names_checked : Option Members → List Signal → Result (Option Mem
 names_checked names [] = Ok names
 names_checked names (which ∷ signals) = said_in names which >>= (λ text. names_checked names signals)
 
+-- the table `names`, if there is one and each text in it is one that may stand there; or its first fault.
 abbrev pub table_of_names : Members → Result (Option Members) KeyFault
 table_of_names members = optional_table Names members >>= (λ names. names_checked names SIGNALS)
 
@@ -124,9 +128,11 @@ taken vars names = unwrap_or (first_declared vars names) (unwrap_or (first_of na
 
 -- ---- what calls answer
 
+-- what contracts see of how signals are called.
 abbrev pub naming_view : code_naming.Naming → Naming
 naming_view naming = record { bits = naming.bits; names = option_map (λ names. table_view names.now) naming.names }
 
+-- what contracts see of how signals are called behind prefixes.
 abbrev pub manner_view : code_manner.Manner → Manner
 manner_view manner = record {
   prefixes = map (λ prefix. prefix.now) manner.prefixes.now;

@@ -69,11 +69,12 @@ is_left_out asked = may_be_absent asked.wanted && bytes_eq asked.name (codes "-"
 
 -- ---- a signal
 
--- how many bits the values of an identifier have: those of the widest signal that has it
+-- how many bits the values of an identifier have, by what is known of it; 0 if nothing is.
 abbrev pub width_by : Option Coded → ℕ
 width_by None = 0
 width_by (Some coded) = coded.width
 
+-- how many bits the values of an identifier have: those of the widest signal that has it.
 abbrev pub width_of : List Var → List ℕ → ℕ
 width_of vars code = width_by (coded_in vars code)
 
@@ -84,6 +85,7 @@ bundled_name name which =
     if not (is_handshake which) && bytes_eq (drop split name) (signal_name which)
     then Some (take split name ++ with_bits (signal_name which)) else None
 
+-- the same of a name that stands behind a prefix or not; none if it does not.
 abbrev pub bundled_if_any : List ℕ → Option Signal → Option (List ℕ)
 bundled_if_any name None = None
 bundled_if_any name (Some which) = bundled_name name which
@@ -98,12 +100,16 @@ abbrev pub or_nearest : List Var → List ℕ → Option (List ℕ) → Option (
 or_nearest vars name None = nearest name (map (λ var. var.name) vars)
 or_nearest vars name (Some bundled) = Some bundled
 
+-- the name that may be meant by one that no signal has: that in the bundle `bits` if a signal has it, and else the
+-- nearest.
 abbrev pub near_in : List Var → WantedSignal → Option (List ℕ)
 near_in vars asked = or_nearest vars asked.name (if_declared vars (bundled_if_any asked.name asked.behind))
 
+-- no signal has the name that is looked for.
 abbrev pub missing : List Var → WantedSignal → SearchFault
 missing vars asked = NoSignal asked.owner asked.name (near_in vars asked)
 
+-- a signal has so many bits, and so many are wanted, or are the most.
 abbrev pub too_wide : WantedSignal → ℕ → ℕ → SearchFault
 too_wide asked bits wanted = Width asked.owner asked.name bits wanted
 
@@ -129,6 +135,8 @@ measured vars asked wire =
 abbrev pub may_lack : WantedSignal → Bool
 may_lack asked = is_some asked.behind && may_be_unfound asked.wanted
 
+-- what a name finds that no signal has: no bits, if it stands behind a prefix and the design may lack the signal; else it
+-- is a fault.
 abbrev pub unfound : List Var → WantedSignal → Result Source SearchFault
 unfound vars asked = if may_lack asked then Ok left_out else Err (missing vars asked)
 
@@ -139,6 +147,8 @@ alone vars asked wires (Some wire) =
     if list_any (λ other. not (bytes_eq other.var.code wire.var.code)) wires then Err (Twice asked.owner asked.name)
     else measured vars asked wire
 
+-- what a name finds: the bits of the widest signal that it means. It is a fault if another signal that it means has
+-- another identifier, or if the bits are not as many as are wanted.
 abbrev pub signal_in : List Var → WantedSignal → Result Source SearchFault
 signal_in vars asked =
     let wires = wires_called vars asked.name in alone vars asked wires (widest_of wires)
@@ -152,17 +162,21 @@ parts_bits (part ∷ parts) = (part.to - part.from) + parts_bits parts
 
 -- ---- what calls answer
 
+-- what contracts see of a signal that is looked for.
 abbrev pub asked_view : code_asked.WantedSignal → WantedSignal
 asked_view asked =
     record { owner = asked.owner; name = asked.name.now; behind = asked.behind; wanted = asked.wanted }
 
+-- what contracts see of a value that is kept.
 abbrev pub kept_view : code_kept.Kept → Kept
 kept_view (kept.Signal code width) = Changing code.now width
 kept_view (kept.Constant digit width) = Constant digit width
 
+-- what contracts see of some digits of a value.
 abbrev pub source_view : code_source.Source → Source
 source_view source = record { kept = kept_view source.kept; from = source.from; to = source.to }
 
+-- the same of several, one after the other.
 abbrev pub sources_view : Vec code_source.Source Global → List Source
 sources_view parts = map source_view parts.items
 

@@ -11,9 +11,11 @@ use Rattle.check_signals.specs.declared.fault.SignalKey.{SignalKey}
 use Rattle.check_signals.specs.declared.fault.KeyFault.{KeyFault}
 use Rattle.check_signals.specs.declared.fault.KeyFault.TheVariants.{WrongType, OutOfRange, Memory}
 
+-- the text that the value at this key is; a value of another type has the wrong type of the key.
 abbrev pub signal_text_of : SignalKey → Data → Result (List ℕ) KeyFault
 signal_text_of key value = ok_or (as_str value) (WrongType key)
 
+-- the text at a key that may be absent.
 abbrev pub optional_text : SignalKey → Members → Result (Option (List ℕ)) KeyFault
 optional_text key members = if_any (signal_text_of key) (get_member (signal_key_name key) members)
 

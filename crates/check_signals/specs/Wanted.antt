@@ -5,12 +5,14 @@ use Rattle.check_samples.specs.declared.signal.Signal.TheVariants as signal
 use Rattle.check_signals.specs.declared.wanted.Wanted.{Wanted}
 use Rattle.check_signals.specs.declared.wanted.Wanted.TheVariants.{Exactly, AtMost, Optional, Extra}
 
+-- a signal may have so many bits.
 abbrev pub bits_fit : Wanted → ℕ → Bool
 bits_fit (Exactly count) bits = bits == count
 bits_fit (AtMost count) bits = nat_le bits count
 bits_fit (Optional count) bits = nat_le bits count
 bits_fit (Extra count) bits = nat_le bits count
 
+-- how many bits a signal has to have, or may have at most.
 abbrev pub count_of : Wanted → ℕ
 count_of (Exactly count) = count
 count_of (AtMost count) = count

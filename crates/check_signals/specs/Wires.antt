@@ -54,21 +54,24 @@ first_of (x ∷ xs) = Some x
 abbrev pub wider : Wire → Wire → Wire
 wider wire other = if nat_lt wire.var.width other.var.width then other else wire
 
--- the one of the widest signal, of several the first, if there is one
+-- the wire of the widest signal among this one and others; of several the first.
 abbrev pub widest_from : Wire → List Wire → Wire
 widest_from wire [] = wire
 widest_from wire (other ∷ wires) = widest_from (wider wire other) wires
 
+-- the wire of the widest signal, of several the first; none if there is no wire.
 abbrev pub widest_of : List Wire → Option Wire
 widest_of [] = None
 widest_of (wire ∷ wires) = Some (widest_from wire wires)
 
--- what is looked for by a name: all bits of a signal of this name; or else, if the name ends in a range, the bits that it
--- means of a signal of the rest of the name
+-- what is looked for by a name that no signal has: the bits that the range at its end means of a signal of the rest of
+-- the name; the whole name if it has no range.
 abbrev pub cut_by : List ℕ → Option (List ℕ × Span) → List ℕ × Option Span
 cut_by name None = (name, None)
 cut_by name (Some parts) = (parts.0, Some parts.1)
 
+-- what is looked for by a name: all bits of a signal of this name, if one is declared; or else, if the name ends in a
+-- range, the bits that it means of a signal of the rest of the name.
 abbrev pub sought : List Var → List ℕ → List ℕ × Option Span
 sought vars name =
     if is_some (first_of (wires name None vars)) then (name, None) else cut_by name (split_range name)
@@ -79,11 +82,12 @@ wires_called vars name = wires (sought vars name).0 (sought vars name).1 vars
 
 -- ---- what calls answer
 
--- the same beside a wire that may be absent, and beside all of a list
+-- the wire of a wider signal, or else the first, which may be absent.
 abbrev pub wider_by : Option Wire → Wire → Wire
 wider_by None other = other
 wider_by (Some wire) other = wider wire other
 
+-- the wire of the widest signal among these, beside one that may be absent.
 abbrev pub widest_with : Option Wire → List Wire → Option Wire
 widest_with None wires = widest_of wires
 widest_with (Some wire) wires = Some (widest_from wire wires)
@@ -92,8 +96,10 @@ widest_with (Some wire) wires = Some (widest_from wire wires)
 abbrev pub IsInside : code_wire.Wire → Type 0
 IsInside wire = (wire.places.from ≤ wire.places.to) × (wire.places.to ≤ wire.var.now.width)
 
+-- what contracts see of a wire.
 abbrev pub wire_view : code_wire.Wire → Wire
 wire_view wire = record { var = var_view wire.var.now; places = wire.places }
 
+-- what contracts see of what is looked for.
 abbrev pub sought_view : Bor (List ℕ) × Option Span → List ℕ × Option Span
 sought_view parts = (parts.0.now, parts.1)

@@ -233,16 +233,18 @@ pub record IsJudgedAt (buses : LinkBuses) (first : JudgeView) (tally : Tally) (o
   pub covered : (plan : SystemPlan) → Judges plan [] first → IsCountedBy plan answer rows tally
   pub told : (plan : SystemPlan) → Judges plan [] first → WroteBy (is_traced first) plan answer rows old new text
 
+-- a judge of no rows took some from this place of a text on and answers this; nothing is said if the text is not known.
 abbrev pub IsJudged : LinkBuses → JudgeView → Tally → Option (List ℕ) → Option (List ℕ) → List ℕ → TextLeft → Result Verdict CaptureFault
     → Type 0
 IsJudged buses first tally old new text at answer =
     IfSome at.text (λ left. IsJudgedAt buses first tally old new text answer (record { line = at.line; text = left }))
 
--- what is answered where no more rows are taken, and where the last ones are refused
+-- what is answered if no more rows are taken.
 abbrev pub answer_of : Halt → Result Verdict CaptureFault
 answer_of (halt.Unlawful found) = Ok (NotLawful found)
 answer_of (halt.Fault why) = Err why
 
+-- what is answered if the rows of the last time are refused.
 abbrev pub verdict_refused : Refusal → Result Verdict CaptureFault
 verdict_refused (refusal.Unlawful found) = Ok (NotLawful found)
 verdict_refused refusal.Memory = Err fault.Memory
@@ -252,5 +254,6 @@ abbrev pub ended_with : VerdictCounts → Option LeftOver → Verdict
 ended_with counts None = Lawful counts
 ended_with counts (Some left) = Incomplete left
 
+-- the verdict over the rows of a whole text, which are lawful.
 abbrev pub verdict_at_end : Ending → Verdict
 verdict_at_end ending = ended_with ending.counts ending.left

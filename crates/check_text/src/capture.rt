@@ -38,7 +38,8 @@ fn read_header<R: Read + Drop>(records: &mut Records<R>) -> Result<(), CaptureFa
 /// Judges a capture that a reader gives, of a system whose links have these buses, by a judge that has taken no row.
 /// It reads to the end, or to the first row of a later time than one that is unlawful, or to the first record that is
 /// no row; what the judge tells of the rows by then is written. After a verdict the judge has counted what is covered, if
-/// that is asked for.
+/// that is asked for. No clause says when a read fails, memory is refused or a write fails: so what is said of a lawful
+/// capture holds of each one for which `lawful` is written.
 pub fn judge_capture<R: Read + Drop, W: Write>(
     alloc: Global,
     reader: R,

@@ -8,7 +8,7 @@ use crate::fault::{CaptureFault, Verdict};
 use std::io::Write;
 use tl_streams::{LimitedWriter, write_all};
 
-/// How long a text grows before it is written.
+/// How long a text grows before it is written. So no more of it is kept than this and the lines of one time.
 const LONG: usize = 4096;
 
 /// Writes a text and clears it, if it is long.

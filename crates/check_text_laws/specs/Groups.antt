@@ -14,6 +14,7 @@ pub record IsAtWatchedLink (layout : Layout) (x : Sighting) : Type 0 where
   pub watched : IsWatched layout.links x.link
   pub lanes : bus_of layout x.link ≤ length x.lanes
 
+-- each of these sightings is at a link that is watched, and has a lane for each byte of its bus.
 abbrev pub AreAllWatched : Layout → List Sighting → Type 0
 AreAllWatched layout past = AllByRecursion (IsAtWatchedLink layout) past
 

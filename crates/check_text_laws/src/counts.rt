@@ -1,4 +1,6 @@
-//! Laws of what was covered, each on a function that does nothing but carry it.
+//! Laws of what was covered, each on a function that does nothing but carry it. Those that speak of contested requests
+//! are of the links that are judged together: with `--links each` of the masters' links. Of a port's link that is judged
+//! by itself nothing is counted, so no line tells what was contested there.
 ghost use Rattle.std.specs.Prelude.{◌≡◌, ◌<◌, ◌^◌, ◌++◌, List, ℕ, length};
 ghost use Rattle.tl_map.specs.Map.{IsLawfulAddressMap};
 ghost use Rattle.check_watch.specs.Lawful as group_lawful;

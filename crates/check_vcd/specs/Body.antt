@@ -63,6 +63,8 @@ abbrev pub changed_to : Body → Option Coded → Step
 changed_to body None = Fails NoSuchIdentifier
 changed_to body (Some coded) = if nat_lt coded.width body.size then Fails TooWide else set body coded.slot
 
+-- the value at hand is that of this identifier, which has to be declared, with as many bits as the value has digits or
+-- more.
 abbrev pub changed : Find → Body → List ℕ → Step
 changed find body code = changed_to body (find code)
 
@@ -71,19 +73,22 @@ abbrev pub passed_to : Body → Option Coded → Step
 passed_to body None = Fails NoSuchIdentifier
 passed_to body (Some coded) = Goes body
 
+-- a value that is not of bits is that of this identifier, which has to be declared.
 abbrev pub passed : Find → Body → List ℕ → Step
 passed find body code = passed_to body (find code)
 
--- a time begins, if it does not fall
+-- a time is below the one before it.
 abbrev pub falls : Option ℕ → ℕ → Bool
 falls None time = false
 falls (Some last) time = nat_lt time last
 
+-- a time begins, if it does not fall; a word that is no time is a mistake.
 abbrev pub timed_at : Body → Option ℕ → Step
 timed_at body None = Fails NotADump
 timed_at body (Some time) =
     if falls body.time time then Fails TimeFalls else Gives (record body { time = Some time }) (At time)
 
+-- a time begins, of these decimal digits.
 abbrev pub timed : Body → List ℕ → Step
 timed body digits = timed_at body (number_of 10 TIME_DIGITS digits)
 
@@ -113,6 +118,7 @@ begun_by kind.Off find body line size first rest = Goes (record body { is_off = 
 begun_by kind.On find body line size first rest = resumed body line
 begun_by kind.Unknown find body line size first rest = Fails NotADump
 
+-- what a word on this line of so many bytes begins; the list has its bytes as far as they are kept.
 abbrev pub begun : Find → Body → ℕ → ℕ → List ℕ → Step
 begun find body line size [] = Fails NotADump
 begun find body line size (first ∷ rest) = begun_by (token_kind first (first ∷ rest)) find body line size first rest
@@ -124,6 +130,7 @@ step_at InComment find body line size word = Goes (if is_end word then record bo
 step_at BehindVector find body line size word = changed find (record body { place = Plain }) word
 step_at BehindOther find body line size word = passed find (record body { place = Plain }) word
 
+-- what a word on this line of so many bytes does; the list has its bytes as far as they are kept.
 abbrev pub step_of : Find → Body → ℕ → ℕ → List ℕ → Step
 step_of find body line size word = step_at body.place find body line size word
 
@@ -143,6 +150,7 @@ happenings find (word ∷ words) body =
 
 -- ---- what calls answer
 
+-- what contracts see of where a word stands.
 abbrev pub body_of : code_body.Body → Body
 body_of body = record {
   place = body.place;
@@ -158,6 +166,7 @@ happens_of (event.Time time) value = At time
 happens_of (event.Change slot) value = Sets slot value
 happens_of (event.Resume line) value = Resumes line
 
+-- what a word did, by the event that was answered; without one it led on.
 abbrev pub told : Option Event → Body → Step
 told None body = Goes body
 told (Some event) body = Gives body (happens_of event body.value)

@@ -22,6 +22,7 @@ abbrev pub cell_at : List (Option Coded) → Option ℕ → Option (Option Coded
 cell_at short None = None
 cell_at short (Some place) = slice_get short place
 
+-- what is known of an identifier: by its place, if it has one, and else by all its signs.
 abbrev pub known_by : Option (Option Coded) → Option Coded → Option Coded
 known_by None hashed = hashed
 known_by (Some cell) hashed = cell

@@ -33,6 +33,7 @@ abbrev pub IsWrongHeader : List Word → ℕ → Mistake → Type 0
 IsWrongHeader words line mistake =
     (opening words blank ≡ Refused line mistake) ⊎ ((opening words blank ≡ Cut) × (mistake ≡ CutInHeader))
 
+-- the words that are left are those of a header that is wrong so, on this line; nothing is said if they are not known.
 abbrev pub IsMistakeAt : Option (List Word) → ℕ → Mistake → Type 0
 IsMistakeAt left line mistake = IfSome left (λ words. IsWrongHeader words line mistake)
 
@@ -42,6 +43,7 @@ pub record Opens (text : Option (List ℕ)) (vars : List Var) (dump : Dumping) :
   pub find : (code : List ℕ) → find_in dump.codes code ≡ coded_in vars code
   pub body : dump.body ≡ start
 
+-- a text begins with a header that is wrong so, on this line; nothing is said if the text is not known.
 abbrev pub IsNoDump : Option (List ℕ) → ℕ → Mistake → Type 0
 IsNoDump text line mistake = IfSome text (λ bytes. IsWrongHeader (dump_words bytes) line mistake)
 

@@ -41,6 +41,7 @@ abbrev pub named_by : ℕ → List ℕ → Option (List ℕ × Span) → List �
 named_by width name None = (name, None)
 named_by width name (Some parts) = if has_bits parts.1 width then (parts.0, Some parts.1) else (name, None)
 
+-- the name of a signal of so many bits, without the range at its end if that has as many bits, and that range.
 abbrev pub named : ℕ → List ℕ → List ℕ × Option Span
 named width name = named_by width name (split_range name)
 
@@ -53,6 +54,7 @@ pub record Header : Type 0 where
   pub args : List (List ℕ)
   pub vars : List Var
 
+-- a header before its first word.
 abbrev pub blank : Header
 blank = record { scopes = []; command = None; args = []; vars = [] }
 
@@ -76,6 +78,7 @@ abbrev pub scope_by : Header → List (List ℕ) → Step
 scope_by header (kind ∷ name ∷ more) = Goes (record header { scopes = header.scopes ++ (name ∷ []) })
 scope_by header args = Fails NotADump
 
+-- what the end of a `$scope` command does.
 abbrev pub scoped : Header → Step
 scoped header = scope_by header header.args
 
@@ -94,7 +97,8 @@ var_of scopes name code width = record {
   span = name.1;
 }
 
--- `$var KIND WIDTH IDENTIFIER NAME [RANGE]`: a signal is declared
+-- a signal with this identifier, these words as its name and this width is declared; a word that is no width is a
+-- mistake.
 abbrev pub declare_as : Header → List ℕ → List (List ℕ) → Option ℕ → Step
 declare_as header code words None = Fails NotADump
 declare_as header code words (Some width) =
@@ -102,10 +106,12 @@ declare_as header code words (Some width) =
       vars = header.vars ++ (var_of header.scopes (named width (joined words)) code width ∷ []);
     })
 
+-- `$var KIND WIDTH IDENTIFIER NAME [RANGE]`: a signal is declared by these words.
 abbrev pub declare_by : Header → List (List ℕ) → Step
 declare_by header (kind ∷ width ∷ code ∷ words) = declare_as header code words (number_of 10 WIDTH_DIGITS width)
 declare_by header args = Fails NotADump
 
+-- what the end of a `$var` command does.
 abbrev pub declared : Header → Step
 declared header = declare_by header header.args
 
@@ -131,10 +137,12 @@ went_on command header word =
     else if nat_lt (length header.args) MAX_ARGS then Goes (record header { args = header.args ++ (word ∷ []) })
     else Goes header
 
+-- what a word does: it begins a command, or it is one of the command at hand.
 abbrev pub step_by : Option Command → Header → List ℕ → Step
 step_by None header word = began header word
 step_by (Some command) header word = went_on command header word
 
+-- what a word does, after what was read of the header.
 abbrev pub step_of : Header → List ℕ → Step
 step_of header word = step_by header.command header word
 
@@ -146,20 +154,25 @@ pub data Opening : Type 0 where
   Refused : ℕ → Mistake → Opening
   Cut : Opening
 
+-- what the words of a dump open, by what the first of them does.
 abbrev pub words_behind : Step → Word → List Word → (Header → Opening) → Opening
 words_behind (Goes header) word words others = others header
 words_behind (Ends header) word words others = Opened header.vars words
 words_behind (Fails mistake) word words others = Refused word.line mistake
 
+-- what the words of a dump open, after what was read of the header: the signals and the words after them, the first wrong
+-- word with its line, or that the header is cut.
 unfoldable pub opening : List Word → Header → Opening
 opening [] header = Cut
 opening (word ∷ words) header = words_behind (step_of header word.bytes) word words (opening words)
 
 -- ---- what calls answer
 
+-- what contracts see of a signal.
 abbrev pub var_view : code_var.Var → Var
 var_view var = record { name = var.name.items; code = var.code.items; width = var.width; span = var.span }
 
+-- what contracts see of a header so far.
 abbrev pub header_of : code_header.Header → Header
 header_of header = record {
   scopes = map (λ scope. scope.items) header.scopes.items;
@@ -168,6 +181,7 @@ header_of header = record {
   vars = map var_view header.vars.items;
 }
 
+-- a word ends the header, or leads on.
 abbrev pub led : Bool → Header → Step
 led true header = Ends header
 led false header = Goes header

@@ -39,23 +39,29 @@ abbrev pub last_from : ℕ → Option ℕ → List ℕ → Option ℕ
 last_from at found [] = found
 last_from at found (c ∷ text) = last_from (at + 1) (if c == 91 then Some at else found) text
 
+-- the place of the last opening bracket of a text, counted from 0; none if it has none.
 abbrev pub last_bracket : List ℕ → Option ℕ
 last_bracket text = last_from 0 None text
 
--- a name without the range at its end, and that range, if it has one
+-- a name without the range that begins with the bracket at this place, and that range; none if no range ends the name
+-- there.
 abbrev pub split_at : List ℕ → ℕ → Option (List ℕ × Span)
 split_at name at = option_map (λ span. (take at name, span)) (range_in (drop (at + 1) name))
 
+-- a name without the range at its end, and that range; none if no range ends it.
 abbrev pub split_range : List ℕ → Option (List ℕ × Span)
 split_range name = option_and_then (split_at name) (last_bracket name)
 
 -- ---- what calls answer
 
+-- what contracts see of an index and the text after it.
 abbrev pub rest_view : ℕ × Bor (List ℕ) → ℕ × List ℕ
 rest_view parts = (parts.0, parts.1.now)
 
+-- what contracts see of a name without its range, and of the range.
 abbrev pub cut_view : Bor (List ℕ) × Span → List ℕ × Span
 cut_view parts = (parts.0.now, parts.1)
 
+-- what contracts see of a name, and of its range if it has one.
 abbrev pub named_view : Bor (List ℕ) × Option Span → List ℕ × Option Span
 named_view parts = (parts.0.now, parts.1)

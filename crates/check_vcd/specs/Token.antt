@@ -9,28 +9,31 @@ use Rattle.check_vcd.specs.declared.token.TokenKind.TheVariants.{Ignored, Off, O
 abbrev pub is_plain : ℕ → Bool
 is_plain c = (c == 48) || (c == 49) || (c == 120) || (c == 88) || (c == 122) || (c == 90)
 
+-- each of these digits is 0, 1, x or z.
 abbrev pub are_plain : List ℕ → Bool
 are_plain digits = list_all is_plain digits
 
--- the others of the nine values of VHDL (IEEE 1164), which its simulators write too: L and H are a weak 0 and 1, and of U, W
--- and - nothing is known
+-- a weak 0 of the nine values of VHDL (IEEE 1164), which its simulators write too: L.
 abbrev pub is_weak_low : ℕ → Bool
 is_weak_low c = (c == 76) || (c == 108)
 
+-- a weak 1 of the nine values of VHDL: H.
 abbrev pub is_weak_high : ℕ → Bool
 is_weak_high c = (c == 72) || (c == 104)
 
+-- one of the nine values of VHDL of which nothing is known: U, W or -.
 abbrev pub is_unset : ℕ → Bool
 is_unset c = (c == 85) || (c == 117) || (c == 87) || (c == 119) || (c == 45)
 
--- one of all these
+-- a digit of Verilog, or one of the nine values of VHDL.
 abbrev pub is_bit : ℕ → Bool
 is_bit c = is_plain c || is_weak_low c || is_weak_high c || is_unset c
 
+-- each of these digits is one of a bit.
 abbrev pub are_bits : List ℕ → Bool
 are_bits digits = list_all is_bit digits
 
--- what one stands for
+-- what a digit stands for: L and H for 0 and 1, and U, W and - for x; the others for themselves.
 abbrev pub plain_digit : ℕ → ℕ
 plain_digit c = if is_plain c then c else if is_weak_low c then 48 else if is_weak_high c then 49 else 120
 
@@ -42,9 +45,11 @@ starts_vector c = (c == 98) || (c == 66)
 abbrev pub starts_other : ℕ → Bool
 starts_other c = (c == 114) || (c == 82) || (c == 115) || (c == 83)
 
+-- the word `$end`.
 abbrev pub is_end : List ℕ → Bool
 is_end word = bytes_eq word (codes "$end")
 
+-- a word that changes nothing: `$end`, `$dumpvars` or `$dumpall`.
 abbrev pub is_ignored : List ℕ → Bool
 is_ignored word =
     is_end word || bytes_eq word (codes "$dumpvars") || bytes_eq word (codes "$dumpall")

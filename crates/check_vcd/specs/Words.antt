@@ -8,7 +8,8 @@ use Rattle.check_vcd.specs.declared.scanner.TheConstants.{MAX_WORD}
 abbrev pub is_blank : ℕ → Bool
 is_blank byte = nat_le byte 32
 
--- a word: the line on which it stands, its bytes, of which so many are kept at most, and how many it has
+-- a word: the line on which it stands, its bytes, of which so many are kept at most, and how many it has. At most 65,536
+-- bytes are kept.
 pub record Word : Type 0 where
   pub line : ℕ
   pub bytes : List ℕ
@@ -19,6 +20,7 @@ pub record Front : Type 0 where
   pub bytes : List ℕ
   pub size : ℕ
 
+-- a front without a byte: all of its word is to come.
 abbrev pub nothing : Front
 nothing = record { bytes = []; size = 0 }
 

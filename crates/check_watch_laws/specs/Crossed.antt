@@ -21,7 +21,7 @@ pub record IsWatchedAt (layout : Layout) (x : Sighting) : Type 0 where
   pub watched : IsGroupLink layout x.link
   pub lanes : bus_of layout x.link ≤ length x.lanes
 
--- so is each of these sightings.
+-- each of these sightings is at a link that is watched, and has a lane for each byte of its bus.
 abbrev pub AreWatched : Layout → List Sighting → Type 0
 AreWatched layout past = AllByRecursion (IsWatchedAt layout) past
 

@@ -47,7 +47,7 @@ IsCompliant plan past x (D beat) =
     → HasKnownLanes (bus_of plan.layout x.link) (may_be_unknown (reset_of plan (port_for plan x.link ask))) ask beat
     x.known
 
--- so is each of these beats after those before it.
+-- each of these beats is compliant by itself, after those before it.
 abbrev pub AreCompliant : Plan → List Sighting → Type 0
 AreCompliant plan [] = Unit {0}
 AreCompliant plan (x ∷ past) = AreCompliant plan past × IsCompliant plan past x x.beat

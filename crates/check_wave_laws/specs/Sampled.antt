@@ -49,11 +49,12 @@ cut_after time (Sets slot digits ∷ happens) = cut_after time happens
 cut_after time (Resumes line ∷ happens) = cut_after time happens
 cut_after time (Wrong line mistake ∷ happens) = Some time
 
--- at an earlier time, and at this time or an earlier one; what stands before the first time is earlier than each
+-- another time is earlier than this one; what stands before the first time is earlier than each.
 abbrev pub is_before : ℕ → Option ℕ → Bool
 is_before time None = true
 is_before time (Some other) = nat_lt other time
 
+-- another time is this one or an earlier one; what stands before the first time is earlier than each.
 abbrev pub is_until : ℕ → Option ℕ → Bool
 is_until time None = true
 is_until time (Some other) = nat_le other time
@@ -79,6 +80,7 @@ pub record Wave : Type 0 where
   pub gaps : List (Option ℕ)
   pub cut : Option (Option ℕ)
 
+-- the dump in which this happens, if this is looked at, and with these first digits and numbers of bits of the slots.
 abbrev pub wave_of : Probes → List (List ℕ) → List ℕ → List Happens → Wave
 wave_of probes first widths happens = record {
   probes = probes;
@@ -98,10 +100,11 @@ abbrev pub value_by : List ℕ → ℕ → Option ValueChange → List ℕ
 value_by first width None = first
 value_by first width (Some change) = extended width change.digits
 
--- the value of a slot if these changes alone count, and the values of all slots
+-- the value of a slot if these changes alone count.
 abbrev pub value_after : Wave → List ValueChange → ℕ → List ℕ
 value_after wave changes slot = value_by (get_or wave.first slot []) (get_or wave.widths slot 0) (last_of slot changes)
 
+-- the values of all slots if these changes alone count, without what is put together of their parts.
 abbrev pub values_after : Wave → List ValueChange → List (List ℕ)
 values_after wave changes = map (value_after wave changes) (range_with_len 0 (length wave.first))
 
@@ -136,21 +139,26 @@ pub record HasEdge (wave : Wave) (clock : Clock) (so : List (List ℕ) → Bool)
   pub late : is_late clock.edge (bits_of (values_until wave time) clock.tap) ≡ true
   pub was : so (values_before wave time) ≡ true
 
--- what may be so of the values before an edge of a domain's clock: anything; its reset is active, or not; valid and ready of
--- some channel of the domain, which has this place, are 1 outside of reset, or in it
+-- of the values before an edge, anything may be so.
 abbrev pub always : List (List ℕ) → Bool
 always values = true
 
+-- of the values before an edge of a domain's clock, its reset is active.
 abbrev pub active_in : Domain → List (List ℕ) → Bool
 active_in domain values = is_active values domain.reset
 
+-- of the values before an edge of a domain's clock, its reset is not active.
 abbrev pub outside_in : Domain → List (List ℕ) → Bool
 outside_in domain values = not (is_active values domain.reset)
 
+-- of the values before an edge of a domain's clock, valid and ready of some channel of the domain, which has this place,
+-- are 1 outside of reset.
 abbrev pub crossed_in : Wave → ℕ → Domain → List (List ℕ) → Bool
 crossed_in wave place domain values =
     not (is_active values domain.reset) && some_crosses place values wave.probes.channels
 
+-- of the values before an edge of a domain's clock, valid and ready of some channel of the domain, which has this place,
+-- are 1 in reset.
 abbrev pub masked_in : Wave → ℕ → Domain → List (List ℕ) → Bool
 masked_in wave place domain values = is_active values domain.reset && some_crosses place values wave.probes.channels
 
@@ -186,6 +194,7 @@ abbrev pub MayLose : Wave → Option ℕ → Type 0
 MayLose wave None = ⊥
 MayLose wave (Some time) = HasCrossed wave time
 
+-- there is no gap.
 abbrev pub HasNoGap : Wave → Type 0
 HasNoGap wave = (gap : Option ℕ) → Contains wave.gaps gap → MayLose wave gap → ⊥
 
@@ -274,14 +283,17 @@ pub data SampledRow : Type 0 where
   OfBeat : SampledBeat → SampledRow
   OfReset : ℕ → SampledRow
 
+-- the time of a row.
 abbrev pub time_of_sampled : SampledRow → ℕ
 time_of_sampled (OfBeat beat) = beat.time
 time_of_sampled (OfReset time) = time
 
+-- the dump has this beat, or this reset.
 abbrev pub IsSampled : Wave → SampledRow → Type 0
 IsSampled wave (OfBeat beat) = IsSampledBeat wave beat
 IsSampled wave (OfReset time) = IsSampledReset wave time
 
+-- the row of a beat or of a reset.
 abbrev pub sampled_row : Wave → SampledRow → Rows
 sampled_row wave (OfBeat beat) = shown_row beat.time (values_before wave beat.time) beat.channel
 sampled_row wave (OfReset time) = reset_rows time true
@@ -304,6 +316,7 @@ Precedes one later =
     (time_of_sampled one < time_of_sampled later)
     ⊎ ((time_of_sampled one ≡ time_of_sampled later) × PrecedesAtTime one later)
 
+-- each of these precedes all that stand after it.
 abbrev pub AreInOrder : List SampledRow → Type 0
 AreInOrder [] = ⊤
 AreInOrder (one ∷ others) = ((later : SampledRow) → Contains others later → Precedes one later) × AreInOrder others

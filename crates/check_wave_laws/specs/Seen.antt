@@ -59,6 +59,7 @@ reply_in bus values taps = record {
   lanes = lanes_in bus values taps.data;
 }
 
+-- the beat of either channel that signals show, with its lanes.
 abbrev pub beat_in : ℕ → BeatTaps → List (List ℕ) → SeenBeat
 beat_in bus (A taps) values = ask_in bus values taps
 beat_in bus (D taps) values = reply_in bus values taps
@@ -80,6 +81,7 @@ pub record AskFits (bus : ℕ) (values : List (List ℕ)) (taps : AskTaps) : Typ
   pub data_bits : length (bits_of values taps.data) ≡ 8 * bus
   pub corrupt : length (bits_of values taps.corrupt) ≤ 1
 
+-- the same of channel D, which has no mask.
 pub record ReplyFits (bus : ℕ) (values : List (List ℕ)) (taps : ReplyTaps) : Type 0 where
   pub opcode : length (bits_of values taps.opcode) ≤ 8
   pub param : length (bits_of values taps.param) ≤ 8
@@ -89,6 +91,7 @@ pub record ReplyFits (bus : ℕ) (values : List (List ℕ)) (taps : ReplyTaps) :
   pub denied : length (bits_of values taps.denied) ≤ 1
   pub corrupt : length (bits_of values taps.corrupt) ≤ 1
 
+-- the same of a beat of either channel.
 abbrev pub BeatFits : ℕ → BeatTaps → List (List ℕ) → Type 0
 BeatFits bus (A taps) values = AskFits bus values taps
 BeatFits bus (D taps) values = ReplyFits bus values taps

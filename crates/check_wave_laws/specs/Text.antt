@@ -46,6 +46,7 @@ AreRows masters ports channels told line (row ∷ rows) text =
     × ((front : List ℕ) × (rest : List ℕ) × (text ≡ front ++ rest) × IsRow masters ports row front
     × AreRows masters ports channels told (line + 1) rows rest)
 
+-- a text is such rows, of which the first stands on this line.
 pub record HasRows (masters ports : List Bus) (channels : List Channel) (told : Bool) (line : ℕ)
     (text : List ℕ) : Type 0 where
   pub rows : List SeenRow
@@ -59,6 +60,8 @@ pub record TakesBeat (widths : List ℕ) (tap : Tap) (count : ℕ) : Type 0 wher
   pub inside : tap.to ≤ get_or widths tap.slot 0
   pub bits : tap.to - tap.from ≡ count
 
+-- no signal of channel A takes more bits than its column has room for; a mask takes a bit for each byte of the bus, and
+-- data takes eight.
 pub record AskTakes (bus : ℕ) (widths : List ℕ) (taps : AskTaps) : Type 0 where
   pub opcode : taps.opcode.to - taps.opcode.from ≤ 8
   pub param : taps.param.to - taps.param.from ≤ 8
@@ -68,6 +71,7 @@ pub record AskTakes (bus : ℕ) (widths : List ℕ) (taps : AskTaps) : Type 0 wh
   pub lanes : TakesBeat widths taps.data (8 * bus)
   pub corrupt : taps.corrupt.to - taps.corrupt.from ≤ 1
 
+-- the same of channel D, which has no mask.
 pub record ReplyTakes (bus : ℕ) (widths : List ℕ) (taps : ReplyTaps) : Type 0 where
   pub opcode : taps.opcode.to - taps.opcode.from ≤ 8
   pub param : taps.param.to - taps.param.from ≤ 8
@@ -77,19 +81,22 @@ pub record ReplyTakes (bus : ℕ) (widths : List ℕ) (taps : ReplyTaps) : Type 
   pub denied : taps.denied.to - taps.denied.from ≤ 1
   pub corrupt : taps.corrupt.to - taps.corrupt.from ≤ 1
 
+-- the same of a beat of either channel.
 abbrev pub BeatTakes : ℕ → List ℕ → BeatTaps → Type 0
 BeatTakes bus widths (A taps) = AskTakes bus widths taps
 BeatTakes bus widths (D taps) = ReplyTakes bus widths taps
 
--- a part of a value lies within it; so many bits parts have together
+-- a part of a value lies within the value, which has so many bits.
 pub record LiesWithin (widths : List ℕ) (part : Tap) : Type 0 where
   pub from : part.from ≤ part.to
   pub inside : part.to ≤ get_or widths part.slot 0
 
+-- each of these parts lies within its value.
 abbrev pub AllLieWithin : List ℕ → List Tap → Type 0
 AllLieWithin widths [] = ⊤
 AllLieWithin widths (part ∷ parts) = LiesWithin widths part × AllLieWithin widths parts
 
+-- how many bits parts have together.
 abbrev pub taps_bits : List Tap → ℕ
 taps_bits [] = 0
 taps_bits (part ∷ parts) = (part.to - part.from) + taps_bits parts

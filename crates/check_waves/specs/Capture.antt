@@ -32,6 +32,8 @@ pub data NoRows : Type 0 where
 abbrev pub rows_of : List Var → List Word → Found → RowsLeft
 rows_of vars words found = left_of (happenings (find_of vars found) words start) (sampling_of found)
 
+-- the rows of what happens after a header that declares these signals, if this was found; or the first signal that was
+-- not found.
 abbrev pub rows_found : List Var → List Word → Result Found SearchFault → Result RowsLeft NoRows
 rows_found vars words (Ok found) = Ok (rows_of vars words found)
 rows_found vars words (Err fault) = Err (NotFound fault)
@@ -40,6 +42,7 @@ rows_found vars words (Err fault) = Err (NotFound fault)
 abbrev pub found_among : List Var → WaveLinks → Result Found SearchFault
 found_among vars links = found_in vars links.masters links.ports links.names
 
+-- the rows that come after this opening of a dump, or why there are none.
 abbrev pub rows_after : WaveLinks → Opening → Result RowsLeft NoRows
 rows_after links (Opened vars words) = rows_found vars words (found_among vars links)
 rows_after links (Refused line mistake) = Err (WrongHeader line mistake)
@@ -145,6 +148,7 @@ pub record IsCaptureWritten (read_old read_new : Option (List ℕ)) (result : Re
   pub out : IsOut answer (capture_of left) old mid
   pub ends : EndsCapture mid new answer result
 
+-- what was written of a dump by this answer: the whole capture, or what comes before the fault, if there is anything.
 abbrev pub IsCapture : Option (List ℕ) → Option (List ℕ) → Result Unit WaveFault → List ℕ → Option (List ℕ)
     → Option (List ℕ) → Type 0
 IsCapture read_old read_new (Ok done) text old new = IsCaptureWritten read_old read_new (Ok done) text old new

@@ -20,19 +20,23 @@ abbrev pub of_system : SystemFault → WaveFault
 of_system system.Memory = Memory
 of_system fault = System fault
 
+-- want of memory is one fault; another fault of the keys is told as it is.
 abbrev pub of_keys : KeyFault → WaveFault
 of_keys key.Memory = Memory
 of_keys fault = Keys fault
 
+-- a fault of a dump is told as it is; a failed read and want of memory are each one fault.
 abbrev pub of_dump : DumpFault → WaveFault
 of_dump (dump.At line mistake) = Dump line mistake
 of_dump dump.Read = Read
 of_dump dump.Memory = Memory
 
+-- want of memory is one fault; a signal that is not found is told as it is.
 abbrev pub of_signal : SignalFault → WaveFault
 of_signal signal.Memory = Memory
 of_signal fault = Signal fault
 
+-- a fault of rows is told as it is; a failed read and want of memory are each one fault.
 abbrev pub of_rows : RowsFault → WaveFault
 of_rows (rows.Unknown unknown) = Unknown unknown
 of_rows (rows.Dump line mistake) = Dump line mistake
@@ -40,6 +44,7 @@ of_rows (rows.Edges why) = Edges why
 of_rows rows.Read = Read
 of_rows rows.Memory = Memory
 
+-- a failed read is told as it is, and want of memory too.
 abbrev pub of_read : ReadFault → WaveFault
 of_read read.Read = Read
 of_read read.Memory = Memory

@@ -13,9 +13,11 @@ pub record WaveLinks : Type 0 where
   pub ports : List Bus
   pub names : SignalNames
 
+-- the bus of each master's link, in order.
 abbrev pub buses_of_masters : List Master → List Bus
 buses_of_masters masters = map (λ (master : Master). master.bus) masters
 
+-- the bus of each port's link, in order.
 abbrev pub buses_of_ports : List Port → List Bus
 buses_of_ports ports = map (λ (port : Port). port.bus) ports
 

@@ -18,19 +18,21 @@ pub record NamedFiles : Type 0 where
   pub system : Text
   pub dump : Option Text
 
+-- the files that were read off a command line, without where their names lie.
 abbrev pub files_asked : WaveOptions → NamedFiles
 files_asked options = record {
   system = options.system.now;
   dump = option_map (λ name. name.now) options.dump;
 }
 
--- the files that clap's matches name, and those that words name
+-- the files that clap's matches name.
 abbrev pub files_from : List Row → NamedFiles
 files_from rows = record {
   system = value_of rows (codes "system");
   dump = file_of (first_of (codes "dump") rows);
 }
 
+-- the files that words name, by clap's reading of words.
 abbrev pub files_in : List Text → NamedFiles
 files_in words = files_from (matches_of wave_line words)
 

@@ -3,8 +3,8 @@
 //!
 //! [`audit`] answers Ok exactly if they agree (`Agrees`, `specs/Agrees.antt`); a fault names an entry of a trace, or
 //! a place of a history, at which that fails. [`audit_lists`] takes histories from anywhere in place of books. Both
-//! take one mark for each place of each history, and time in proportion to the entries. Each entry of a trace is read by
-//! value, once for each of the three looks at a trace.
+//! take one mark for each place of each history, and time in proportion to the entries. Each entry of a trace is copied
+//! out of it, once for each of the three looks at a trace.
 //!
 //! What follows for a reader of the traces is a law ([`laws`], `specs/Reader.antt`): they are those of one thread that
 //! serves each port's history from reset.

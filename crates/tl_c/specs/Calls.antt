@@ -22,6 +22,7 @@ use Rattle.tl_c.specs.declared.wire.WireAsk.{WireAsk}
 
 -- ---- what a handle holds, of each kind
 
+-- the handle holds a system, and this is so of it.
 abbrev pub HoldsSystem : (System → Type 0) → Option HandleContent → Type 0
 HoldsSystem Is (Some (held.System s)) = Is s
 HoldsSystem Is (Some (held.Draft d)) = ⊥
@@ -29,6 +30,7 @@ HoldsSystem Is (Some (held.Model c)) = ⊥
 HoldsSystem Is (Some (held.Judge j)) = ⊥
 HoldsSystem Is None = ⊥
 
+-- the handle holds a draft, and this is so of it.
 abbrev pub HoldsDraft : (DraftView → Type 0) → Option HandleContent → Type 0
 HoldsDraft Is (Some (held.System s)) = ⊥
 HoldsDraft Is (Some (held.Draft d)) = Is d
@@ -36,6 +38,7 @@ HoldsDraft Is (Some (held.Model c)) = ⊥
 HoldsDraft Is (Some (held.Judge j)) = ⊥
 HoldsDraft Is None = ⊥
 
+-- the handle holds a model, and this is so of it.
 abbrev pub HoldsModel : (CrossbarState → Type 0) → Option HandleContent → Type 0
 HoldsModel Is (Some (held.System s)) = ⊥
 HoldsModel Is (Some (held.Draft d)) = ⊥
@@ -43,6 +46,7 @@ HoldsModel Is (Some (held.Model c)) = Is c
 HoldsModel Is (Some (held.Judge j)) = ⊥
 HoldsModel Is None = ⊥
 
+-- the handle holds a judge, and this is so of it.
 abbrev pub HoldsJudge : (HeldJudge → Type 0) → Option HandleContent → Type 0
 HoldsJudge Is (Some (held.System s)) = ⊥
 HoldsJudge Is (Some (held.Draft d)) = ⊥
@@ -50,16 +54,19 @@ HoldsJudge Is (Some (held.Model c)) = ⊥
 HoldsJudge Is (Some (held.Judge j)) = Is j
 HoldsJudge Is None = ⊥
 
--- it holds one of that kind at all
+-- the handle holds a system.
 abbrev pub IsSystem : Option HandleContent → Type 0
 IsSystem = HoldsSystem (λ _. ⊤)
 
+-- the handle holds a draft.
 abbrev pub HasDraft : Option HandleContent → Type 0
 HasDraft = HoldsDraft (λ _. ⊤)
 
+-- the handle holds a model.
 abbrev pub IsModel : Option HandleContent → Type 0
 IsModel = HoldsModel (λ _. ⊤)
 
+-- the handle holds a judge.
 abbrev pub IsJudge : Option HandleContent → Type 0
 IsJudge = HoldsJudge (λ _. ⊤)
 
@@ -74,7 +81,6 @@ IsScriptAnswer script number =
 -- ---- models
 
 -- a request of a master is served, and the struct has its answer
-
 pub record IsServedBy (old : CrossbarState) (master : ℕ) (wire : WireAsk) (answer : WireAnswer)
     (new : CrossbarState) : Type 0 where
   pub ask : Request

@@ -43,6 +43,7 @@ abbrev pub image_of : Option Port → Option (List ℕ)
 image_of None = None
 image_of (Some port) = port.contents.image
 
+-- the file of the image of the port of this number; none if there is no such port, or if it names none.
 abbrev pub image_file : DraftView → ℕ → Option (List ℕ)
 image_file draft port = image_of (slice_get draft.parts.ports port)
 
@@ -79,6 +80,7 @@ fault_at port count (Some said) =
     then (if nat_lt (first_length said.ranges) count then Some (System (ImageTooLong port)) else None)
     else Some (NoImage port)
 
+-- why these bytes are not taken as the image of the port of this number, beside want of memory; none if they are.
 abbrev pub image_fault : DraftView → ℕ → List ℕ → Option ImageFault
 image_fault draft port bytes = fault_at port (length bytes) (slice_get draft.parts.ports port)
 

@@ -160,6 +160,7 @@ pub record IsJudgeOfFile (terms : Terms) (file : List ℕ) (judge : HeldJudge) :
 
 -- ---- the numbers of links and order
 
+-- the links that a number stands for: 0 both, 1 the masters', 2 the ports', 3 each; none for other numbers.
 abbrev pub links_of : ℕ → Option Links
 links_of n =
     if n == 0 then Some Both
@@ -168,6 +169,7 @@ links_of n =
     else if n == 3 then Some Each
     else None
 
+-- the order that a number stands for: 0 `accept`, 1 `reply`, 2 `any`; none for other numbers.
 abbrev pub order_of : ℕ → Option Order
 order_of n =
     if n == 0 then Some Accept

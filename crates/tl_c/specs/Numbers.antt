@@ -13,6 +13,7 @@ use Rattle.check_watch.specs.declared.fault.Fault.TheVariants as beat
 use Rattle.tl_c.specs.declared.draft.ImageFault.{ImageFault}
 use Rattle.tl_c.specs.declared.draft.ImageFault.TheVariants as image
 
+-- the number of a fault of a script.
 abbrev pub script_number : ScriptFault → ℕ
 script_number script.Memory = 4
 script_number script.NotToml = 10
@@ -24,6 +25,7 @@ script_number (script.Map fault) = 15
 script_number (script.Sources fault) = 16
 script_number script.TooLong = 17
 
+-- the number of a fault of a system file.
 abbrev pub file_number : SystemFault → ℕ
 file_number file.Memory = 4
 file_number file.NotToml = 10
@@ -39,16 +41,19 @@ file_number (file.UnknownKey unknown) = 19
 file_number (file.ImageTooLong port) = 62
 file_number (file.ImageUnreadable port) = 63
 
+-- the number of a fault of an image.
 abbrev pub image_number : ImageFault → ℕ
 image_number (image.NoPort port) = 60
 image_number (image.NoImage port) = 61
 image_number (image.System fault) = file_number fault
 
+-- the number of a fault of a request at a model.
 abbrev pub serve_number : ServeFault → ℕ
 serve_number serve.NoSuchMaster = 22
 serve_number serve.NoSuchSource = 23
 serve_number serve.Uncountable = 24
 
+-- the number of a fault of a beat alone.
 abbrev pub form_number : FormFault → ℕ
 form_number form.Changed = 31
 form_number form.Opcode = 32
@@ -59,6 +64,7 @@ form_number form.Mask = 36
 form_number form.CorruptFlag = 37
 form_number form.UnknownData = 38
 
+-- the number of a fault of a beat that a judge is shown.
 abbrev pub beat_number : Fault → ℕ
 beat_number (beat.Form fault) = form_number fault
 beat_number beat.NoSuchSource = 39

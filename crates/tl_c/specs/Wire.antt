@@ -63,7 +63,7 @@ flag_of n = if n == 0 then Some false else if n == 1 then Some true else None
 abbrev pub link_of : ℕ → ℕ → Option Link
 link_of side number = if side == 0 then Some (Master number) else if side == 1 then Some (Port number) else None
 
--- the beat of a request, and that of a reply, by its flags
+-- the beat of a request that a struct stands for, by its flag; none if the flag has no meaning.
 abbrev pub ask_beat : WireBeat → Option Bool → Option Beat
 ask_beat w (Some corrupt) = Some (A (record {
   opcode = w.opcode;
@@ -76,6 +76,7 @@ ask_beat w (Some corrupt) = Some (A (record {
 }))
 ask_beat w None = None
 
+-- the beat of a reply that a struct stands for, by its flags; none if one of them has no meaning.
 abbrev pub reply_beat : WireBeat → Option Bool → Option Bool → Option Beat
 reply_beat w (Some denied) (Some corrupt) = Some (D (record {
   opcode = w.opcode;

@@ -57,7 +57,7 @@ pub fn value<'a>(matches: &ArgMatches<'a>, id: &str) -> &'a str
     matches.get_str(id).unwrap_or("")
 }
 
-/// Whether a flag is set, by its value.
+/// Whether a flag is set, by the text of its value: clap says no more of a flag's value.
 pub fn read_flag(word: &str) -> bool
     ensures { result ≡ flag_of word.now }
 {

@@ -180,7 +180,7 @@ pub record IsTrueListFor (v : Hands) (u : Desk) : Type 0 where
   pub masters : IsOfMasters v.about u.list
   pub own : JustOwn u.list (Owns v.about v.number) (at_port u.number v.got) (sent_at u.number v.hand)
 
--- so it is of each master's view and each port's list between any two steps.
+-- between any two steps each port's list is true for each master's view.
 abbrev pub ListsAreJustOwn : Type 0
 ListsAreJustOwn =
     (a : About) (s : Table) (id at : ℕ) (v : Hands) (u : Desk) → AreSeatsOf a s id at v u → IsTrueListFor v u
@@ -202,7 +202,8 @@ pub record IsAnsweredSlot (a : About) (s : Table) (i : ℕ) (v : Hands) (u : Des
   pub answered : slice_index s.words i ≡ word (Answered v.number u.number)
   pub home : IsHome s.homes i letter
 
--- so it is of each slot that the port has answered for the master, between any two steps.
+-- between any two steps the record of a slot that is answered spells a reply which stands in the port's list, after all
+-- that the owner had seen there.
 abbrev pub AnswersAreSeenFit : Type 0
 AnswersAreSeenFit =
     (a : About) (s : Table) (id at i : ℕ) (v : Hands) (u : Desk) (letter : SlotRecord)
@@ -234,7 +235,7 @@ pub record AreArenaWords (a : About) (words : List ℕ) : Type 0 where
   pub owners_stay : (i m : ℕ) (f : Phase) → i < a.slots → IsWordOf f (slice_index words i) → Names f m
       → (m < a.masters) × (slice_index words (a.slots + m) ≡ 0)
 
--- the words of each table that fits are these.
+-- in each table that fits, the word of each slot codes a phase, and a leave word is 0 or 1.
 abbrev pub WordsFit : Type 0
 WordsFit = (a : About) (s : Table) → Fits a s → AreArenaWords a s.words
 

@@ -9,8 +9,8 @@ use Rattle.tl_beats.specs.Beats.{SpellsAsk}
 use Rattle.tl_beats.specs.Replies.{SpellsReply}
 
 -- what a slot holds: the beats of a request, its port, and the place and the beats of its reply. Beats spell at most one
--- message, so a record has one meaning. No clause says anything of `port`, since the slot's word has the port; it is for
--- who reads a record by itself.
+-- message, so a record has one meaning. No rule of the arena speaks of `port`, since the slot's word has the port; it is
+-- for who reads a record by itself.
 pub record SlotRecord : Type 0 where
   pub beats : List ABeat
   pub port : ℕ
