@@ -9,7 +9,7 @@ import tomllib
 HERE = os.path.dirname(os.path.abspath(__file__))
 TOOLS = os.path.join(os.path.dirname(os.path.dirname(HERE)), "tools")
 sys.path.insert(0, TOOLS)
-from common import BUS, SIGNALS, with_bits  # noqa: E402
+from tlxtools.common import BUS, SIGNALS, with_bits  # noqa: E402
 
 # What is looked at of a draft: the tables of links, and where their signals are. Of a link that may be a master's or a port's, the draft
 # has both tables as comments.

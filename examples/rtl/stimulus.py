@@ -13,10 +13,10 @@ import tomllib
 TOP = os.path.dirname(os.path.dirname(os.path.dirname(os.path.abspath(__file__))))
 sys.path.insert(0, os.path.join(TOP, "tools"))
 sys.dont_write_bytecode = True
-import operation_lines  # noqa: E402
-from bus import Bus, bus_of  # noqa: E402
-from wide_sources import widths  # noqa: E402
-from common import HEADER, OPERATIONS, REPLIES  # noqa: E402, F401
+from tlxtools import operation_lines  # noqa: E402
+from tlxtools.bus import Bus, bus_of  # noqa: E402
+from tlxtools.wide_sources import widths  # noqa: E402
+from tlxtools.common import HEADER, OPERATIONS, REPLIES  # noqa: E402, F401
 
 NAMES = {codes: name for name, codes in OPERATIONS.items()}
 ANSWERS = {code: name for name, code in REPLIES.items()}

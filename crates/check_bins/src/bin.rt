@@ -68,8 +68,8 @@ pub struct Operation {
     pub size: u8,
 }
 
-/// A thing that a capture may show. Bins stand in the order of the text. That `tools/coverage_text.py` has the same order
-/// is read off the declaration.
+/// A thing that a capture may show. Bins stand in the order of the text. That `tools/tlxtools/coverage_text.py` has the same
+/// order is read off the declaration.
 #[derive(Clone, Copy, PartialEq, Eq, PartialOrd, Ord)]
 pub enum Bin {
     /// A request, and whether its address is unaligned.

@@ -5,9 +5,9 @@
 //! - `progress`, `erasing`: the progress of a capture, and what a terminal shows after it (`screen`);
 //! - `faults`: their lines and statuses.
 //!
-//! Read on in `docs/reference/captures.md`. What the built programs print stands in `examples/verdicts` and `examples/waves`;
-//! `tools/disturb_streams` runs them with streams that are slow or fail, `tools/refuse_memory` with memory that is refused,
-//! and `tools/options_test` with other command lines.
+//! Read on in `docs/reference/captures.md`. What the built programs print stands in `tests/captures` and `tests/dumps`;
+//! `tests/hostile/disturb_streams` runs them with streams that are slow or fail, `tests/hostile/refuse_memory` with memory
+//! that is refused, and `tests/tools/options_test` with other command lines.
 #![tactic(auto)]
 
 #[cfg(test)]

@@ -4,7 +4,7 @@
 //! holds, has the public calls of the crates below do the work, and puts it back. Most take one call; a judge that is
 //! made, a request that is served and a beat that is judged take several: a beat that is taken is `watches`, `bus`,
 //! `change`, `take` and `Pending::note`, and one that is refused is `step` and `push_unlawful` too. A call on a model or a
-//! text asks for no memory, nor does one on a judge but a step and a reset (`examples/c/check` counts the requests).
+//! text asks for no memory, nor does one on a judge but a step and a reset (`tests/c/check` counts the requests).
 //!
 //! The clauses of an export are those of the calls that it makes, said of what the handle holds. `laws` has the numbers of
 //! the header.

@@ -1,6 +1,6 @@
 //! What is answered if memory is refused. These tests hold whether their requests for memory are granted or not, so
-//! that each request may be refused in turn (`rt try --test --fail-alloc N`, `tools/refuse_memory`): the answer is the
-//! right one, or that memory was refused. A text is the whole one, or there is none.
+//! that each request may be refused in turn (`rt try --test --fail-alloc N`, `tests/hostile/refuse_memory`): the answer is
+//! the right one, or that memory was refused. A text is the whole one, or there is none.
 use super::holds;
 use std::alloc::{AllocError, Global};
 use std::process::Abort;

@@ -1,4 +1,4 @@
-//! The model of a crossbar, call by call: the same texts as those of the serial run (`examples/scripts`), refusals, and
+//! The model of a crossbar, call by call: the same texts as those of the serial run (`tests/scripts`), refusals, and
 //! bytes.
 use super::holds;
 use std::alloc::Global;

@@ -1,4 +1,4 @@
-//! Banks: what lies in them and what does not, and beside memories that are as plain as they can be. `examples/scripts`
+//! Banks: what lies in them and what does not, and beside memories that are as plain as they can be. `tests/scripts`
 //! has the worked values of each operation at each kind of slave.
 use super::{ask_of, given_of, holds, rising};
 use std::alloc::Global;

@@ -1,5 +1,5 @@
-//! The lines and statuses of the faults of a run (`tl_program`). `tools/disturb_streams` runs the program with streams that
-//! are slow or fail.
+//! The lines and statuses of the faults of a run (`tl_program`). `tests/hostile/disturb_streams` runs the program with
+//! streams that are slow or fail.
 use super::holds;
 use tl_audit::AuditFault;
 use tl_program::fault::RunFault;

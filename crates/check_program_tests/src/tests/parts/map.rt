@@ -1,4 +1,4 @@
-//! The address map of ports with several ranges. `tools/system_faults.py` has ranges with a byte in common.
+//! The address map of ports with several ranges. `tests/tools/system_faults.py` has ranges with a byte in common.
 ghost use Rattle.std.specs.Prelude.{◌↔◌, IsTrue, ◌≡◌, ◌<◌, true, All};
 ghost use Rattle.tl_map.specs.Map.{AreRanges, IsLawfulRange, lists_in};
 ghost use Rattle.check_program_tests.specs.Port.{IsPort};

@@ -1,6 +1,6 @@
 //! Bits past the bus, in masks and among the lanes that are known.
 //!
-//! A capture cannot spell them, and who calls the judge may give them. `examples/verdicts` has all other beats.
+//! A capture cannot spell them, and who calls the judge may give them. `tests/captures` has all other beats.
 use crate::tests::holds;
 use crate::tests::parts::state::expect_text;
 use check_beats::{AskHead, Bus, FormFault, LinkRules, ReplyHead, UnderWay};

@@ -1,4 +1,4 @@
-//! What no program asks a port: bytes outside of its range, and any bytes of a device. `examples/verdicts` has what is due by
+//! What no program asks a port: bytes outside of its range, and any bytes of a device. `tests/captures` has what is due by
 //! each order (`what_is_due_follows_the_order`).
 use super::scene::{cross, expect_due, head_of, ram, side_of_four};
 use crate::tests::holds;

@@ -1,5 +1,5 @@
 //! Requests that lie in no range, worked out by hand. No program asks a memory for such bytes: the error port denies them.
-//! `examples/verdicts` has what each kind of slave serves.
+//! `tests/captures` has what each kind of slave serves.
 use super::scene::{Turn, memory_of, serve_all};
 use check_memory::Sizes;
 use tl_map::Range;

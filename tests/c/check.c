@@ -1,0 +1,476 @@
+/* Walks every call of the library with right and wrong arguments, refuses each request for memory in turn, and judges the captures beside
+ * by calls (captures.c). Its argument is the folder of the examples; it ends in 'N passed, M failed'. What it expects was worked out by
+ * hand, or is the captures' own verdict. It is linked with --wrap for malloc, realloc and free. */
+#include "check.h"
+
+#include <malloc.h>
+#include <stdio.h>
+#include <stdlib.h>
+#include <string.h>
+
+static int passed, failed;
+
+void tell(const char *name, int is_so) {
+  if (is_so) {
+    passed++;
+  } else {
+    failed++;
+    fprintf(stderr, "tests/c: %s is not as it was worked out\n", name);
+  }
+}
+
+/* ---- memory: the library's calls of malloc, realloc and free come here */
+
+void *__real_malloc(size_t size);
+void *__real_realloc(void *old, size_t size);
+void __real_free(void *old);
+void *__wrap_malloc(size_t size);
+void *__wrap_realloc(void *old, size_t size);
+void __wrap_free(void *old);
+
+size_t requests;
+size_t refused;
+int asked_less;
+long blocks;
+static int wants; /* how often a beat was refused memory */
+
+static int is_refused(int asks_less) {
+  if (++requests != refused) return 0;
+  asked_less = asks_less;
+  return 1;
+}
+
+void *__wrap_malloc(size_t size) {
+  void *made = is_refused(0) ? NULL : __real_malloc(size);
+  blocks += made != NULL;
+  return made;
+}
+
+void *__wrap_realloc(void *old, size_t size) {
+  void *made = is_refused(old && size <= malloc_usable_size(old)) ? NULL : __real_realloc(old, size);
+  blocks += !old && made;
+  return made;
+}
+
+void __wrap_free(void *old) {
+  blocks -= old != NULL;
+  __real_free(old);
+}
+
+uint32_t step_refused(struct tlx_judge *judge, const struct tlx_beat *beat) {
+  uint32_t fault = TLX_MEMORY;
+  for (size_t number = 1; fault == TLX_MEMORY; number++) {
+    requests = 0;
+    refused = number;
+    fault = tlx_judge_step(judge, beat);
+    wants += fault == TLX_MEMORY;
+  }
+  refused = 0;
+  return fault;
+}
+
+/* ---- the words of faults, those of a beat as docs/reference/captures.md has them; the compiler complains of a fault without a case */
+
+const char *words_of(enum tlx_fault fault) {
+  switch (fault) {
+    case TLX_OK: return "no fault";
+    case TLX_NULL: return "null pointer";
+    case TLX_EMPTY: return "empty handle";
+    case TLX_FULL: return "full handle";
+    case TLX_MEMORY: return "memory refused";
+    case TLX_BAD_ARGUMENT: return "bad argument";
+    case TLX_OTHER_VERSION: return "header of another version";
+    case TLX_NOT_TOML: return "not TOML";
+    case TLX_MISSING: return "missing key";
+    case TLX_WRONG_TYPE: return "wrong type";
+    case TLX_OUT_OF_RANGE: return "out of range";
+    case TLX_BAD_OPERATION: return "bad operation";
+    case TLX_BAD_PORTS: return "bad ports";
+    case TLX_BAD_SOURCES: return "bad sources";
+    case TLX_TOO_LONG: return "longer than 1048576 bytes";
+    case TLX_TWO_CALLED: return "two of one name";
+    case TLX_UNKNOWN_KEY: return "unknown key";
+    case TLX_NO_OPERATION: return "no such operation";
+    case TLX_SIZE: return "size over the limit";
+    case TLX_NO_MASTER: return "no such master";
+    case TLX_NO_SOURCE: return "no such source";
+    case TLX_UNCOUNTABLE: return "the port has served as many requests as can be counted";
+    case TLX_NO_BYTE: return "no byte at this address";
+    case TLX_NO_LINK: return "no such link";
+    case TLX_FIELD_CHANGED: return "field changed";
+    case TLX_UNKNOWN_OPCODE: return "unknown opcode";
+    case TLX_WRONG_PARAM: return "wrong param";
+    case TLX_SIZE_OUT_OF_RANGE: return "size out of range";
+    case TLX_UNALIGNED_ADDRESS: return "unaligned address";
+    case TLX_WRONG_MASK: return "wrong mask";
+    case TLX_WRONG_CORRUPT_FLAG: return "wrong corrupt flag";
+    case TLX_UNKNOWN_LANES: return "unknown data";
+    case TLX_NO_SUCH_SOURCE: return "no such source";
+    case TLX_SOURCE_IN_FLIGHT: return "source in flight";
+    case TLX_WRONG_PORT: return "not this port's address";
+    case TLX_NO_REQUEST: return "reply without request";
+    case TLX_EARLY_REPLY: return "reply before its request ended";
+    case TLX_WRONG_SIZE: return "size of another request";
+    case TLX_WRONG_OPCODE: return "opcode of another operation";
+    case TLX_UNKNOWN_DATA: return "unknown data";
+    case TLX_NOT_SENT: return "no master sent this request";
+    case TLX_NOT_GIVEN: return "the port gave no such reply";
+    case TLX_WRONG_REPLY: return "wrong reply";
+    case TLX_INCOMPLETE: return "requests without reply";
+    case TLX_OUT_OF_ORDER: return "reply out of order";
+    case TLX_NO_PORT: return "no such port";
+    case TLX_NO_IMAGE: return "the file names no image for the port";
+    case TLX_LONG_IMAGE: return "image is longer than its range";
+    case TLX_IMAGE_UNREADABLE: return "image can't be read";
+  }
+  return "unknown fault";
+}
+
+static void check_words(void) {
+  char text[128];
+  for (uint32_t number = 0; number < 256; number++) {
+    const char *words = words_of((enum tlx_fault)number);
+    int is_so = tlx_fault_text(number, text, sizeof text) == strlen(words) && !strcmp(text, words);
+    if (strcmp(words, "unknown fault") || !is_so) tell(words, is_so);
+  }
+  tell("the words of no fault's number", tlx_fault_text(UINT32_MAX, text, sizeof text) == 13 && !strcmp(text, "unknown fault"));
+  tell("words that are cut off", tlx_fault_text(TLX_EMPTY, text, 4) == 3 && !strcmp(text, "emp"));
+  tell("words into one byte", tlx_fault_text(TLX_EMPTY, text, 1) == 0 && !text[0]);
+  tell("words into nothing", tlx_fault_text(TLX_EMPTY, 0, 9) == 0 && tlx_fault_text(TLX_EMPTY, text, 0) == 0);
+  tell("the largest size", tlx_largest_size() == 8);
+  tell("words take no memory", requests == 0);
+}
+
+size_t read_file(const char *folder, const char *name, char *text) {
+  char path[1024];
+  snprintf(path, sizeof path, "%s/%s", folder, name);
+  FILE *file = fopen(path, "rb");
+  if (!file) return 0;
+  size_t length = fread(text, 1, MAX_TEXT - 1, file);
+  fclose(file);
+  text[length] = 0;
+  return length;
+}
+
+/* ---- the calls */
+
+const char SYSTEM[] =
+    "slots = 1\n"
+    "[[port]]\nkind = \"ram\"\nbase = 0x1000\nlength = 64\nreset = \"0011223344\"\n"
+    "[[port]]\nkind = \"ram\"\nbase = 0x2000\nlength = 64\n"
+    "[[master]]\nsources = 2\nops = []\n";
+
+/* Scripts with faults, most with a later one as well, which is not told. */
+#define MASTER(sources, operation) "[[master]]\nsources = " sources "\nops = [\"" operation "\"]\n"
+#define PORT(base, length) "[[port]]\nkind = \"ram\"\nbase = " base "\nlength = " length "\n"
+static const struct { const char *script; uint32_t fault; const char *text; } SCRIPTS[] = {
+    {"slots = 257\n=", TLX_NOT_TOML, "script: not TOML"},
+    {"slots = 1 # \xff", TLX_NOT_TOML, "script: not TOML"},
+    {"", TLX_MISSING, "script: missing slots"},
+    {"port = 1", TLX_MISSING, "script: missing slots"},
+    {"slots = \"4\"\nport = 1", TLX_WRONG_TYPE, "script: wrong type of slots"},
+    {"slots = 257\nport = 1", TLX_OUT_OF_RANGE, "script: slots out of range"},
+    {"slots = 1\n" PORT("0x1000", "0"), TLX_MISSING, "script: missing master"},
+    {"slots = 1\n" PORT("0x1000", "0") MASTER("257", "get"), TLX_BAD_PORTS, "script: port 0: empty range"},
+    {"slots = 1\n" PORT("0x1000", "64") PORT("0x103f", "1") MASTER("0", "get"), TLX_BAD_PORTS, "script: ports 0 and 1 overlap"},
+    {"slots = 1\n" MASTER("257", "get"), TLX_BAD_SOURCES, "script: too many masters or sources"},
+    {"slots = 1\n" MASTER("0", "get"), TLX_BAD_SOURCES, "script: master 0: no source"},
+    {"slots = 1\n" MASTER("1", "1 get 0x1000 2"), TLX_BAD_OPERATION, "script: master 0 operation 0: bad operation"},
+};
+
+static void check_scripts(void) {
+  static char longest[(1 << 20) + 1];
+  struct tlx_system system = {0};
+  char text[128];
+  for (size_t k = 0; k < sizeof SCRIPTS / sizeof *SCRIPTS; k++)
+    tell(SCRIPTS[k].text, tlx_system_read(&system, SCRIPTS[k].script, strlen(SCRIPTS[k].script), text, sizeof text) == SCRIPTS[k].fault &&
+         !strcmp(text, SCRIPTS[k].text));
+  memset(longest, '#', sizeof longest);
+  tell("a script too long", tlx_system_read(&system, longest, sizeof longest, text, sizeof text) == TLX_TOO_LONG &&
+       !strcmp(text, "script: longer than 1048576 bytes"));
+  tell("a script as long as it may be", tlx_system_read(&system, longest, sizeof longest - 1, text, sizeof text) == TLX_MISSING);
+  tell("a text that is cut off", tlx_system_read(&system, "slots = 257", 11, text, 8) == TLX_OUT_OF_RANGE && !strcmp(text, "script:"));
+}
+
+static void check_systems(void) {
+  struct tlx_system system = {0};
+  char text[128];
+  memset(text, 'a', sizeof text);
+  tell("a null system", tlx_system_read(0, SYSTEM, strlen(SYSTEM), text, sizeof text) == TLX_NULL && !text[0] && text[1] == 'a');
+  memset(text, 'a', sizeof text);
+  tell("a null script", tlx_system_read(&system, 0, 0, text, sizeof text) == TLX_NULL && !text[0]);
+  tell("no text", tlx_system_read(0, SYSTEM, strlen(SYSTEM), 0, 9) == TLX_NULL && tlx_system_read(&system, 0, 0, text, 0) == TLX_NULL);
+  tell("a system", tlx_system_read(&system, SYSTEM, strlen(SYSTEM), text, sizeof text) == TLX_OK && !text[0]);
+  memset(text, 'a', sizeof text);
+  tell("a second system in one handle", tlx_system_read(&system, SYSTEM, strlen(SYSTEM), text, sizeof text) == TLX_FULL && !text[0]);
+  tlx_system_free(&system);
+  tlx_system_free(&system);
+  tlx_system_free(0);
+  tell("a handle that was freed", tlx_system_read(&system, SYSTEM, strlen(SYSTEM), 0, 0) == TLX_OK);
+  tlx_system_free(&system);
+}
+
+static struct tlx_request request(uint8_t opcode, uint8_t param, uint8_t size, uint16_t source, uint64_t address) {
+  struct tlx_request made = {0};
+  made.opcode = opcode;
+  made.param = param;
+  made.size = size;
+  made.source = source;
+  made.address = address;
+  return made;
+}
+
+static void check_serving(struct tlx_model *model) {
+  static const uint8_t zeros[TLX_ROOM];
+  struct tlx_answer answer, before;
+  struct tlx_request ask = request(4, 0, 2, 1, 0x1000);
+  size_t so_far = requests;
+  memset(&answer, 0xa5, sizeof answer);
+  tell("a get", tlx_model_serve(model, 0, &ask, &answer) == TLX_OK && answer.port == 0 && answer.place == 0 && answer.count == 4 &&
+       answer.opcode == 1 && answer.size == 2 && answer.source == 1 && !answer.denied && !memcmp(answer.bytes, "\x00\x11\x22\x33\xa5", 5));
+  ask = request(1, 0, 2, 0, 0x1000);
+  memcpy(ask.bytes, "\xaa\xbb\xcc\xdd", 4);
+  ask.set[1] = 1;
+  ask.set[3] = 255;
+  tell("a partial put", tlx_model_serve(model, 0, &ask, &answer) == TLX_OK && answer.place == 1 && answer.opcode == 0 && answer.count == 0);
+  uint8_t byte = 7;
+  tell("a byte that was left unset", tlx_model_byte(model, 0x1002, &byte) == TLX_OK && byte == 0x22);
+  tell("a byte that was put", tlx_model_byte(model, 0x1003, &byte) == TLX_OK && byte == 0xdd);
+  ask = request(0, 0, 0, 0, 0x2000);
+  ask.bytes[0] = 0x5a;
+  tell("a put to the other port", tlx_model_serve(model, 0, &ask, &answer) == TLX_OK && answer.port == 1 && answer.place == 0 &&
+       tlx_model_byte(model, 0x2000, &byte) == TLX_OK && byte == 0x5a && tlx_model_byte(model, 0x1000, &byte) == TLX_OK && byte == 0);
+  ask = request(4, 0, 0, 0, 0x9000);
+  tell("an address that no port has", tlx_model_serve(model, 0, &ask, &answer) == TLX_OK && answer.port == 2 && answer.denied && !answer.bytes[0]);
+  ask = request(4, 0, 8, 0, 0x1000);
+  memset(&answer, 0xa5, sizeof answer);
+  tell("a get of 256 bytes", tlx_model_serve(model, 0, &ask, &answer) == TLX_OK && answer.port == 2 && answer.place == 1 && answer.denied &&
+       answer.count == TLX_ROOM && !memcmp(answer.bytes, zeros, TLX_ROOM));
+  ask = request(4, 0, 0, 0, 0x9000);
+  byte = 7;
+  tell("a byte that no slave has", tlx_model_byte(model, 0x9000, &byte) == TLX_NO_BYTE && byte == 7);
+  before = answer;
+  tell("no such master", tlx_model_serve(model, 1, &ask, &answer) == TLX_NO_MASTER && !memcmp(&before, &answer, sizeof answer));
+  ask.source = 2;
+  tell("no such source", tlx_model_serve(model, 0, &ask, &answer) == TLX_NO_SOURCE && !memcmp(&before, &answer, sizeof answer));
+  ask = request(6, 0, 0, 0, 0x1000);
+  tell("a cached operation", tlx_model_serve(model, 0, &ask, &answer) == TLX_NO_OPERATION);
+  ask = request(2, 5, 0, 0, 0x1000);
+  tell("no such parameter", tlx_model_serve(model, 0, &ask, &answer) == TLX_NO_OPERATION);
+  ask = request(4, 0, 9, 0, 0x1000);
+  tell("a size too large", tlx_model_serve(model, 0, &ask, &answer) == TLX_SIZE);
+  tell("null arguments", tlx_model_serve(model, 0, 0, &answer) == TLX_NULL && tlx_model_serve(model, 0, &ask, 0) == TLX_NULL &&
+       tlx_model_serve(0, 0, &ask, &answer) == TLX_NULL && tlx_model_byte(model, 0, 0) == TLX_NULL && tlx_model_byte(0, 0, &byte) == TLX_NULL);
+  tell("the same model", tlx_model_masters(model) == 1 && tlx_model_ports(model) == 3);
+  tell("a model in use takes no memory", requests == so_far);
+}
+
+static void check_models(void) {
+  struct tlx_system system = {0};
+  struct tlx_model model = {0}, second = {0};
+  struct tlx_request ask = request(4, 0, 0, 0, 0x1000);
+  struct tlx_answer answer;
+  uint8_t byte;
+  tell("a model of no system", tlx_model_make(&model, &system) == TLX_EMPTY && tlx_model_make(0, &system) == TLX_NULL && tlx_model_make(&model, 0) == TLX_NULL);
+  tell("an empty model", tlx_model_serve(&model, 0, &ask, &answer) == TLX_EMPTY && tlx_model_byte(&model, 0, &byte) == TLX_EMPTY &&
+       tlx_model_masters(&model) == 0 && tlx_model_ports(&model) == 0 && tlx_model_masters(0) == 0 && tlx_model_ports(0) == 0);
+  tlx_system_read(&system, SYSTEM, strlen(SYSTEM), 0, 0);
+  tell("a model", tlx_model_make(&model, &system) == TLX_OK && tlx_model_masters(&model) == 1 && tlx_model_ports(&model) == 3);
+  tell("a system that was taken", tlx_model_make(&second, &system) == TLX_EMPTY);
+  tlx_system_read(&system, SYSTEM, strlen(SYSTEM), 0, 0);
+  tell("a second model in one handle", tlx_model_make(&model, &system) == TLX_FULL && tlx_model_make(&second, &system) == TLX_OK);
+  check_serving(&model);
+  tell("a model beside it", tlx_model_byte(&second, 0x2000, &byte) == TLX_OK && byte == 0);
+  tlx_model_free(&model);
+  tlx_model_free(&model);
+  tlx_model_free(&second);
+  tlx_model_free(0);
+  tlx_system_free(&system);
+}
+
+/* ---- calls that are refused memory */
+
+struct handles {
+  struct tlx_system system;
+  struct tlx_model model;
+  struct tlx_judge judge;
+};
+
+typedef uint32_t call(struct handles *handles, const char *script);
+
+static uint32_t read_system(struct handles *handles, const char *script) {
+  return tlx_system_read(&handles->system, script, strlen(script), 0, 0);
+}
+
+static uint32_t make_model(struct handles *handles, const char *script) {
+  (void)script;
+  return tlx_model_make(&handles->model, &handles->system);
+}
+
+static uint32_t read_judge(struct handles *handles, const char *file) {
+  return tlx_judge_read(&handles->judge, file, strlen(file), TLX_BOTH_LINKS, TLX_ACCEPT_ORDER, TLX_ACCEPT_ORDER, 0, 0);
+}
+
+static uint32_t describe(struct handles *handles, const char *file) {
+  return tlx_system_describe(&handles->system, file, strlen(file), 0, 0);
+}
+
+static uint32_t describe_with_image(struct handles *handles, const char *file) {
+  uint32_t fault = describe(handles, file);
+  return fault == TLX_OK ? tlx_system_image(&handles->system, 0, "1234", 4, 0, 0) : fault;
+}
+
+static uint32_t make_judge(struct handles *handles, const char *file) {
+  (void)file;
+  return tlx_judge_make(&handles->judge, &handles->system, TLX_EACH_LINK, TLX_ACCEPT_ORDER, TLX_ACCEPT_ORDER, 0, 0);
+}
+
+/* A judge with a put under way at a master's link, and one in flight at a port's. */
+static uint32_t begin_puts(struct handles *handles, const char *file) {
+  const struct tlx_beat puts[] = {{.size = 4, .address = 0x1000, .mask = 0xff, .known = 0xff},
+                                  {.side = TLX_PORT, .size = 2, .address = 0x1000, .mask = 0x0f, .known = 0x0f}};
+  uint32_t fault = tlx_judge_read(&handles->judge, file, strlen(file), TLX_EACH_LINK, TLX_ACCEPT_ORDER, TLX_ACCEPT_ORDER, 0, 0);
+  for (int k = 0; k < 2 && fault == TLX_OK; k++) fault = tlx_judge_step(&handles->judge, &puts[k]);
+  return fault;
+}
+
+static uint32_t reset(struct handles *handles, const char *file) {
+  (void)file;
+  return tlx_judge_reset(&handles->judge);
+}
+
+static int are_empty(struct handles *handles) {
+  struct tlx_model none = {0};
+  struct tlx_beat beat = {0};
+  return tlx_model_make(&none, &handles->system) == TLX_EMPTY && tlx_system_ports(&handles->system) == 0 &&
+         tlx_model_ports(&handles->model) == 0 && tlx_judge_step(&handles->judge, &beat) == TLX_EMPTY;
+}
+
+/* Refuses each request of a call in turn: it must say so, hold nothing and have given back all, also what was prepared for it. A request
+ * that gives up room of a block may be refused, and the block stays as it is. */
+static void refuse_each(const char *name, call *prepare, call *asked, const char *script) {
+  int is_well = 1, was_refused = 1;
+  size_t number = 0;
+  while (was_refused) {
+    struct handles handles = {0};
+    long before = blocks;
+    if (prepare) is_well &= prepare(&handles, script) == TLX_OK;
+    requests = 0;
+    asked_less = 0;
+    refused = ++number;
+    uint32_t fault = asked(&handles, script);
+    was_refused = requests >= number;
+    refused = 0;
+    is_well &= fault == (was_refused && !asked_less ? TLX_MEMORY : TLX_OK);
+    if (fault == TLX_MEMORY) is_well &= blocks == before && are_empty(&handles);
+    tlx_system_free(&handles.system);
+    tlx_model_free(&handles.model);
+    tlx_judge_free(&handles.judge);
+    is_well &= blocks == before;
+  }
+  tell(name, is_well && number > 1);
+}
+
+/* Refuses each request of a call that reads a script with a fault: want of memory is told, or the fault, whose text is left out. */
+static void refuse_text(void) {
+  struct tlx_system system = {0};
+  char text[128];
+  uint32_t fault = TLX_MEMORY;
+  size_t number = 0, without_text = 0;
+  int is_well = 1;
+  long before = blocks;
+  do {
+    requests = 0;
+    refused = ++number;
+    fault = tlx_system_read(&system, "slots = 257", 11, text, sizeof text);
+    if (fault == TLX_OUT_OF_RANGE && requests >= number) without_text++;
+    is_well &= fault == TLX_MEMORY || (fault == TLX_OUT_OF_RANGE && !text[0] == (requests >= number));
+  } while (requests >= number);
+  refused = 0;
+  tell("a fault without memory for its text", is_well && without_text > 0 && number > without_text + 1 && blocks == before);
+}
+
+/* The memory for an image is refused: the one before it stays, so that a judge is made of it. */
+static void refuse_image(const char *file) {
+  struct handles handles = {0};
+  long before = blocks;
+  int is_well = describe(&handles, file) == TLX_OK;
+  long without = blocks;
+  refused = 1;
+  requests = 0;
+  is_well &= tlx_system_image(&handles.system, 0, "12", 2, 0, 0) == TLX_MEMORY && blocks == without;
+  refused = 0;
+  is_well &= make_judge(&handles, file) == TLX_IMAGE_UNREADABLE && tlx_system_image(&handles.system, 0, "12", 2, 0, 0) == TLX_OK;
+  refused = 1;
+  requests = 0;
+  is_well &= tlx_system_image(&handles.system, 0, "34", 2, 0, 0) == TLX_MEMORY;
+  refused = 0;
+  is_well &= make_judge(&handles, file) == TLX_OK;
+  tlx_judge_free(&handles.judge);
+  tell("an image that is refused memory", is_well && blocks == before);
+}
+
+/* Each request for memory of these beats is refused once; `some` says whether there must be any. */
+static int steps_refused(struct tlx_judge *judge, const struct tlx_beat *beats, size_t count, int some) {
+  int before = wants, is_well = 1;
+  for (size_t k = 0; k < count; k++) is_well &= step_refused(judge, &beats[k]) == TLX_OK;
+  return is_well && (wants > before) == some;
+}
+
+/* A put takes memory for what it writes, and the first beat of a source at a port's link that is judged by itself does. A get of bytes that nobody
+ * has written takes none. */
+static void refuse_steps(void) {
+  const struct tlx_beat put[] = {{.size = 0, .address = 0x2000, .mask = 1, .known = 1, .lanes = {7}}, {.channel = TLX_D}};
+  const struct tlx_beat got[] = {{.opcode = 4, .size = 0, .address = 0x2000, .mask = 1}, {.channel = TLX_D, .opcode = 1, .known = 1, .lanes = {7}}};
+  const struct tlx_beat none[] = {{.opcode = 4, .size = 0, .address = 0x2001, .mask = 2}, {.channel = TLX_D, .opcode = 1, .known = 2}};
+  const struct tlx_beat first = {.side = TLX_PORT, .opcode = 4, .size = 2, .source = 4321, .address = 0x1000, .mask = 0x0f};
+  struct tlx_judge judge = {0};
+  long before = blocks;
+  int is_well = tlx_judge_read(&judge, SYSTEM, strlen(SYSTEM), TLX_EACH_LINK, TLX_ACCEPT_ORDER, TLX_ACCEPT_ORDER, 0, 0) == TLX_OK;
+  is_well &= steps_refused(&judge, none, 2, 0) && steps_refused(&judge, put, 2, 1) && steps_refused(&judge, got, 2, 0) &&
+             steps_refused(&judge, &first, 1, 1) && tlx_judge_step(&judge, &first) == TLX_SOURCE_IN_FLIGHT;
+  is_well &= tlx_judge_requests(&judge) == 3 && tlx_judge_answered(&judge) == 3;
+  tlx_judge_free(&judge);
+  tell("beats that are refused memory", is_well && blocks == before);
+}
+
+static void check_memory(const char *script) {
+  static const char IMAGE[] = "[[port]]\nname = \"rom\"\nkind = \"rom\"\nbase = 0\nlength = 64\nimage = \"a\"\nreset = \"00\"\n[[master]]\nsources = 3\n";
+  static const char OPERATIONS[] =
+      "slots = 1\n" PORT("0x1000", "64") MASTER("2", "0 putfull 0x1000 2 11223344\", \"wait\", \"1 putpart 0x1000 2 --556677")
+      MASTER("1", "0 get 0x1000 2");
+  refuse_each("a system that is refused memory", NULL, read_system, script);
+  refuse_each("one with operations", NULL, read_system, OPERATIONS);
+  refuse_each("a model that is refused memory", read_system, make_model, script);
+  refuse_each("a judge that is refused memory", NULL, read_judge, script);
+  refuse_each("a file that is refused memory", NULL, describe, IMAGE);
+  refuse_each("a judge with an image that is refused memory", describe_with_image, make_judge, IMAGE);
+  refuse_each("a reset that is refused memory", begin_puts, reset, RESETS);
+  refuse_image(IMAGE);
+  refuse_text();
+  refuse_steps();
+}
+
+int main(int count, char **words) {
+  static char script[MAX_TEXT];
+  char folder[1024];
+  check_words();
+  check_scripts();
+  check_systems();
+  check_models();
+  check_files();
+  check_images();
+  check_judges();
+  check_longest_line();
+  check_buses();
+  check_slaves();
+  check_resets();
+  snprintf(folder, sizeof folder, "%s/captures", count > 1 ? words[1] : "..");
+  read_file(folder, "system.toml", script);
+  check_captures(folder);
+  check_memory(script);
+  tell("beats that were refused memory", wants > 0);
+  tell("all memory was given back", blocks == 0);
+  printf("%d passed, %d failed\n", passed, failed);
+  return failed != 0;
+}

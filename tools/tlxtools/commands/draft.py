@@ -1,0 +1,204 @@
+"""Writes a system file to begin with, from the scopes of a value change dump (VCD).
+
+    tools/draft [--top SCOPE] DUMP >system.toml
+
+DUMP is a file, or standard input if it is `-`. With --top only the links in this scope are taken. What a dump can't tell stands in a line
+that begins with `# TODO`; when all of them are filled in, tlvcd takes the file. docs/guide/your_rtl.md has the rules ("A system file to begin
+with"). Nothing of it is proved: look at what was drafted before you trust a verdict.
+
+DUMP is read once. What crosses is counted at rising edges of the clock, outside the reset; if no clock or several are found, nothing is
+counted. A net that the dump declares bit by bit counts as one vector, and an escaped name of Icarus without its backslash.
+
+Status 1: no dump, or no links in it. Status 2: the command line.
+"""
+
+import json
+import sys
+
+from tlxtools.draft_links import links_of, name_of
+from tlxtools.dump import NoDump, Watch, steps_of, variables_of, words_of
+
+USAGE = "usage: tools/draft [--top SCOPE] DUMP"
+CLOCKS = ("clk", "clock", "clk_i", "aclk")
+# The signals that a wire may leave out; without d_corrupt each beat is as the standard asks.
+LEFT_OUT = ("a_corrupt", "d_param", "d_corrupt")
+# The names of resets, and which of them say that they are active at 0.
+LOW_RESETS = ("rst_n", "rst_ni", "resetn", "reset_n", "aresetn")
+RESETS = ("reset", "rst", *LOW_RESETS)
+HEAD = """\
+# Drafted by tools/draft from the names of a dump. Fill in what begins with "# TODO" (docs/guide/your_rtl.md, "A system file to begin with").
+"""
+
+
+def quoted(name):
+    """A name as a string of TOML: its escapes are those of JSON."""
+    return json.dumps(name, ensure_ascii=False)
+
+
+def chosen(names, variables, links):
+    """The signals of these names that may be meant, one of each net: the outermost of the scopes that links stand in, else of all."""
+    pool = [name for name, (_, bits) in variables.named.items()
+            if bits == 1 and name.rpartition(".")[2].lower() in names and name not in variables.twice]
+
+    def holds_links(name):
+        inside = name[:len(name) - len(name.rpartition(".")[2])]
+        return any(link.names["a_valid"].startswith(inside) for link in links)
+    pool = [name for name in pool if holds_links(name)] or pool
+    depth = min((name.count(".") for name in pool), default=0)
+    nets = {}
+    for name in pool:
+        if name.count(".") == depth:
+            nets.setdefault(variables.named[name][0], name)
+    return list(nets.values())
+
+
+def clock_lines(clocks):
+    """The clock, or those that may be it."""
+    if len(clocks) == 1:
+        return [f"clock = {quoted(clocks[0])}"]
+    if not clocks:
+        return [f"# TODO clock: no signal is called {', '.join(CLOCKS)}", '# clock = ".."']
+    return ["# TODO clock: choose one of these", *(f"# clock = {quoted(name)}" for name in clocks)]
+
+
+def polarity(reset, watch):
+    """Which value of the reset is active, by its name and by its changes. It is not active at the end of a dump."""
+    named = "0" if reset.rpartition(".")[2].lower() in LOW_RESETS else "1"
+    return named, {"0": "1", "1": "0"}.get(watch.last_reset, named)
+
+
+def reset_lines(resets, watch):
+    """The reset and its polarity, or what may be it."""
+    if not resets:
+        return [f"# TODO reset: no signal is called {', '.join(RESETS)}; a design without one needs no line"]
+    if len(resets) > 1:
+        return ["# TODO reset: choose one of these, with reset_active = \"low\" if it is active at 0",
+                *(f"# reset = {quoted(name)}" for name in resets)]
+    named, changes = polarity(resets[0], watch)
+    lines = [f"reset = {quoted(resets[0])}"]
+    if named == changes:
+        return lines + ['reset_active = "low"'] * (named == "0")
+    return [f"# TODO reset: {resets[0]} is active at {changes} by its changes, at {named} by its name: choose the polarity",
+            *(f"# {line}" for line in lines), f'# reset_active = "{"low" if changes == "0" else "high"}"']
+
+
+def source_lines(link, crossed):
+    """The count of a master's sources: the least that covers those that crossed."""
+    bits = link.bits.get("a_source", 0)
+    most = f"a_source has {bits} bits, at most {1 << min(bits, 16)} sources" if bits else "the link has no a_source"
+    if crossed.source is None:
+        return [f"# TODO sources: no request crossed; {most}", "sources = 1"]
+    return [f"# {most}; the greatest that crossed is {crossed.source}", f"sources = {crossed.source + 1}"]
+
+
+def range_lines(crossed):
+    """The range of a port, which the user has to say, beside the addresses that crossed and the least aligned range that holds them."""
+    told = "no request crossed"
+    if crossed.low is not None:
+        length = 1 << (crossed.low ^ crossed.high).bit_length()
+        base = crossed.low & -length
+        told = f"{crossed.low:#x} to {crossed.high:#x} crossed; base = {base:#x} and length = {length:#x} hold them"
+    return [f"# TODO base, length: {told}", "base = 0x????", "length = 0x????"]
+
+
+def wire_of(link, signal):
+    """The value of a wire: a name, or an array of names."""
+    elements = link.elements.get(signal)
+    return f"[{', '.join(map(quoted, elements))}]" if elements else quoted(link.names[signal])
+
+
+def wire_lines(link, role):
+    """Where the signals of a link are: one prefix or two, and a table of those that are not behind it."""
+    lines = []
+    for signal, bits, wanted in link.misfits():
+        lines.append(f"# TODO {signal}: {link.names[signal]} has {bits} bits, and tlvcd takes {wanted}: name bits of it in wires")
+    lines += [f"# TODO {name}: two signals are called so, and tlvcd takes neither" for name in link.doubles]
+    behind = link.behind()
+    if behind:
+        prefixes = [quoted(prefix) for prefix in link.prefixes]
+        lines += [f"signals = [{', '.join(prefixes)}]" if prefixes[1:] else f"signals = {prefixes[0]}"]
+        lines += ["bits = true"] * (not behind["a_opcode"].endswith("a_opcode"))
+    constants, unknown = link.missing()
+    wires = [f"{signal} = {wire_of(link, signal)}" for signal, name in link.names.items()
+             if not behind or name != behind[signal] or signal in link.elements]
+    wires += [f'{signal} = "{"-" if signal in LEFT_OUT else "0"}"  # the dump has no such signal' for signal in constants]
+    wires += [f'# TODO {signal} = "..": the dump has no such signal' for signal in unknown]
+    return lines + (["", f"[{role}.wires]", *wires] if wires else [])
+
+
+def table_lines(link, role, name, crossed):
+    """The table of a link as that of a master or of a port."""
+    lines = [f"[[{role}]]", *([f"name = {quoted(name)}"] if name else [])]
+    if role == "port":
+        lines += ["# TODO kind: ram, rom, regs, w1c or device", 'kind = "device"', *range_lines(crossed)]
+    else:
+        lines += source_lines(link, crossed)
+    bus = link.bus()
+    lines += [f"bus = {bus}"] if bus else ["# TODO bus: 1, 2, 4, 8, 16, 32 or 64 bytes; the width of the data does not tell"]
+    lines += [f"# the same nets: {other.prefix}" for other in link.aliases]
+    return lines + wire_lines(link, role)
+
+
+def link_lines(links, watch, active):
+    """The tables of all links: ports, masters, and those that may be either."""
+    roles = [link.role() for link in links]
+    for wanted in ("port", "master"):
+        for place, link in enumerate(links):
+            if roles[place] == wanted:
+                yield from ["", *table_lines(link, wanted, name_of(link, links), watch.crossed(place, active))]
+    for place, link in enumerate(links):
+        if roles[place] is None:
+            yield from ["", f"# TODO {link.prefix}: a master's link or a port's? Uncomment one of the tables"]
+            for role in ("master", "port"):
+                lines = table_lines(link, role, name_of(link, links), watch.crossed(place, active))
+                yield from (f"# {line}".rstrip() for line in lines)
+    if not {"master", None} & set(roles):
+        yield from ["", "# TODO master: no link of a master was found, and a system has at least one", "# [[master]]", "# sources = 1"]
+
+
+def drafted(file, top):
+    """The text of the system file, in one pass over the dump."""
+    words = words_of(file)
+    variables = variables_of(words)
+    links = list(links_of(variables, top))
+    if not links:
+        raise NoDump(f"no links{f' in the scope {top}' if top else ''}: no prefix has a_valid, a_opcode, a_address, d_valid and d_opcode")
+    clocks, resets = chosen(CLOCKS, variables, links), chosen(RESETS, variables, links)
+    clock, reset = (variables.named[found[0]][0] if len(found) == 1 else None for found in (clocks, resets))
+    watch = Watch(clock, reset, [link.identifiers for link in links])
+    watch.follow(steps_of(words, watch.tracked()))
+    active = polarity(resets[0], watch)[1] if reset else None
+    lines = [*clock_lines(clocks), *reset_lines(resets, watch), *link_lines(links, watch, active)]
+    return HEAD + "".join(f"{line}\n" for line in lines)
+
+
+def parsed(words):
+    """The scope and the dump of the command line, or None."""
+    top, words = None, list(words)
+    if words and words[0].partition("=")[0] == "--top":
+        _, mark, top = words.pop(0).partition("=")
+        top = top if mark else words.pop(0) if words else ""
+        if not top:
+            return None
+    is_one = len(words) == 1 and (words[0] == "-" or not words[0].startswith("-"))
+    return (top, words[0]) if is_one else None
+
+
+def main():
+    found = parsed(sys.argv[1:])
+    if found is None:
+        print(f"draft: {USAGE}", file=sys.stderr)
+        return 2
+    top, dump = found
+    how = {"encoding": "utf-8", "errors": "replace", "newline": ""}
+    try:
+        with open(0 if dump == "-" else dump, **how) as file:
+            text = drafted(file, top)
+    except OSError as error:
+        print(f"draft: {dump}: can't be read: {error.strerror}", file=sys.stderr)
+        return 1
+    except NoDump as why:
+        print(f"draft: {dump}: {why}", file=sys.stderr)
+        return 1
+    print(text, end="")
+    return 0
