@@ -228,7 +228,7 @@ class Places:
         causes = words("tools/causes.py", r'^    "(?P<text>[^"]+)": \[', "CAUSES = {\n", "\n}\n", r'": \[')
         self.said(faults, causes)
         self.said(faults, words("tools/explanation.py", r'fault == "(?P<text>[^"]+)"', every="fault == "), is_whole=False)
-        self.ordered(causes, self.files.table("docs/reference/faults.md", "| Fault | Look at |\n|---|---|\n", 0))
+        self.ordered(causes, self.files.table("docs/reference/causes.md", "| Fault | Look at |\n|---|---|\n", 0))
         self.parts(self.wrong, "tools/explanation.py", "\nWRONG = re.compile(", "\n")
         line = self.literals(PLACE)
         self.parts([*line[:2], self.wrong[0]._replace(text=self.wrong[0].text.split(": ")[0])], "tools/random_orders", "\nWRONG = re.compile(", "\n")

@@ -140,11 +140,11 @@ def page_of(places, crate):
     return "\n\n".join(said) + "\n"
 
 
-def index_of(families, crates, by_hand=()):
-    """The page that lists the pages: those that are written by hand, then by family, as crates.txt has them, each with the first sentence of
+def index_of(families, crates, first=()):
+    """The page that lists the pages: those that are of no crate, then by family, as crates.txt has them, each with the first sentence of
     its own page."""
     said = ["# Reference"]
-    lines = [wrapped(f"[{name}]({name}): {' '.join(sentence.split())}", "- ") for name, sentence in by_hand]
+    lines = [wrapped(f"[{name}]({name}): {' '.join(sentence.split())}", "- ") for name, sentence in first]
     if lines:
         said += ["## Formats and rules", "\n".join("\n".join(line) for line in lines), "## Definitions and calls"]
     said += ["\n".join(wrapped("Made by `tools/reference` from the sources: each crate's definitions, and the types and calls that it exports, with "

@@ -1,5 +1,5 @@
 """The keys of a system file: a row for each, with the table that may have it, what it may say, and what it means. The limits of their values stand
-here too. The lists of keys of the other tools, docs/system.schema.json and the table of docs/reference/formats.md, "The system file", come of these
+here too. The lists of keys of the other tools, docs/system.schema.json and the table of docs/reference/keys.md come of these
 rows; tools/schema_test compares them with the sources of the programs."""
 
 from typing import NamedTuple
@@ -218,7 +218,7 @@ RUN_ROWS = (Key("", "slots", ANYTHING, "it is a script's, and is ignored", absen
 TABLES = ("", "names", "port", "master", "sizes", "order", "sources", "wires")
 KEYS = (*SYSTEM_ROWS, *PLACES_ROWS, *RUN_ROWS,
         *(Key(table, "extra", ANYTHING, "it may have any value, and it is ignored", absent="nothing", about=NOTHING) for table in TABLES))
-# The tables whose keys have rows of their own in docs/reference/formats.md, with what stands there before their names.
+# The tables whose keys have rows of their own in docs/reference/keys.md, with what stands there before their names.
 PATHS = {"": "", "port": "port.", "sources": "port.sources.", "master": "master."}
 
 
@@ -252,6 +252,6 @@ def absent_of(row):
 
 
 def page_rows():
-    """The table of docs/reference/formats.md, "The system file": the cells of each row."""
+    """The table of docs/reference/keys.md: the cells of each row."""
     return [(f"`{PATHS[row.table]}{row.name}`", row.value.type, row.value.range, absent_of(row), row.meaning)
             for row in SYSTEM_ROWS if row.table in PATHS]
