@@ -147,9 +147,9 @@ def index_of(families, crates, first=()):
     lines = [wrapped(f"[{name}]({name}): {' '.join(sentence.split())}", "- ") for name, sentence in first]
     if lines:
         said += ["## Formats and rules", "\n".join("\n".join(line) for line in lines), "## Definitions and calls"]
-    said += ["\n".join(wrapped("Made by `tools/reference` from the sources: each crate's definitions, and the types and calls that it exports, with "
-                              "their contracts. [model.md](../design/model.md) says what they mean, [proved.md](../design/proved.md) has what is promised by which "
-                              "contract."))]
+    made = ("Made by `tools/reference` from the sources: each crate's definitions, and the types and calls that it exports, with their contracts. "
+            "[model.md](../design/model.md) says what they mean, [proved.md](../design/proved.md) has what is promised by which contract.")
+    said.append("\n".join(wrapped(made)))
     for family, names in families:
         lines = [wrapped(f"[`{name}`]({name}.md): {first_sentence(crates[name].page)}", "- ") for name in names if name in crates]
         if lines:
