@@ -137,7 +137,7 @@ SYSTEM_ROWS = (
         absent="no ports"),
     Key("port", "name", NAME_OF, "verdicts name the link by it; captures and traces keep `p0`. No two ports or masters have the same", absent="none"),
     Key("port", "kind", one_of(SYSTEM_KINDS),
-        "what the slave serves: the table of kinds in \"What is answered\". A `device` decides for itself", needed=True),
+        "what the slave serves: the table of kinds in formats.md, \"What is answered\". A `device` decides for itself", needed=True),
     Key("port", "base", integer(0, GREATEST), "the first address of its one range", needed=True, instead="ranges"),
     Key("port", "length", integer(1, GREATEST), "how many bytes the range has", needed=True, instead="ranges"),
     Key("port", "ranges", RANGES, "all ranges at which the slave answers; its memory is one memory with all these addresses. With `mirror` it is the "
@@ -148,7 +148,7 @@ SYSTEM_ROWS = (
                               "the first range"), "the first bytes of the first range", absent="none"),
     Key("port", "unknown", flag(), "the bytes that neither `image` nor `reset` gives: zero with `false`, unknown with `true`", False),
     Key("port", "sizes", SIZES, "the sizes that the slave supports. It supports no operation that the table leaves out",
-        absent="the row of its kind in \"What is answered\""),
+        absent="the row of its kind in formats.md, \"What is answered\""),
     Key("port", "order", ORDER, "when requests of this port take effect: with their last beat, with their reply's first beat, or at some moment between "
         "these. A string says it for both sides, a table for each (captures.md, \"The command\")", absent="that of the command line for the side"),
     Key("port", "bus", BUS_OF_LINK, "the data bus of this port's link", absent="`bus`"),
