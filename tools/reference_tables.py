@@ -1,10 +1,14 @@
 """Pages of docs/reference that tools/reference makes of tables of the tools: the keys of system files, and the likely causes of faults."""
 
+import re
+
 from causes import ADAPTED, CAUSES, DENIED, SHIFTED
 from markdown import wrapped
 from system_keys import page_rows
 
 WIDTH = 140
+# Where the pages are that meanings of keys name.
+PAGES = {"captures.md": "captures.md", "formats.md": "formats.md", "regression.md": "../guide/regression.md"}
 KEYS = ("For a reader who writes a system file: each key but those of dumps ([formats.md](formats.md), \"Dumps\"). [formats.md](formats.md), \"The system "
         "file\", has the rules, and [faults.md](faults.md), \"Of a system file\", what is refused. Made by `tools/reference` from `tools/system_keys.py`.")
 LIKELY = ("For an engineer with an unlawful beat: what `tools/explain` prints below `look at`, in the order of likelihood. It is not found in the capture. "
@@ -24,8 +28,13 @@ def table_of(rows):
     return "\n".join([lines[0], "|---" * len(rows[0]) + "|", *lines[1:]])
 
 
+def linked(text):
+    """The text with a link for each page that it names."""
+    return re.sub("|".join(map(re.escape, PAGES)), lambda found: f"[{found.group()}]({PAGES[found.group()]})", text)
+
+
 def keys_page():
-    table = table_of([("Key", "Type", "Range", "Absent", "Meaning"), *page_rows()])
+    table = table_of([("Key", "Type", "Range", "Absent", "Meaning"), *(tuple(map(linked, row)) for row in page_rows())])
     return "\n\n".join(["# Keys of the system file", "\n".join(wrapped(KEYS, WIDTH)), table]) + "\n"
 
 
