@@ -6,7 +6,7 @@ ghost use Rattle.check_sides.specs.Plan.{IsPlan, Plan};
 ghost use Rattle.check_review.specs.Waiting.{answers_late, first_late, is_late_reply, waiting_in};
 
 use crate::waiting::{Waiting, first_late, is_late_of, note_beat};
-use check_coverage::{is_counted, wide_source};
+use check_coverage::{is_counted, wide_source_at};
 use check_rows::Row;
 use check_sides::Watch;
 use check_turns::Beat;
@@ -58,7 +58,7 @@ impl Waits {
         if !is_counted(watch.links(), row.link) {
             return Ok(());
         }
-        match wide_source(watch.sources(), row.link, row.beat.source()) {
+        match wide_source_at(watch.sources(), row.link, row.beat.source()) {
             Some(wide) => note_beat(&mut self.requests, wide, row),
             None => Ok(()),
         }
@@ -90,7 +90,7 @@ impl Waits {
         if !is_counted(watch.links(), row.link) {
             return false;
         }
-        match wide_source(watch.sources(), row.link, row.beat.source()) {
+        match wide_source_at(watch.sources(), row.link, row.beat.source()) {
             Some(wide) => self.answers_late(wide, row),
             None => false,
         }
