@@ -123,7 +123,8 @@ impl GroupWatch {
             (Link::Master(master), Links::Both | Links::Masters | Links::Each) => {
                 master < self.wiring.sources.masters()
             }
-            (Link::Port(port), Links::Both) => port < self.wiring.map.ports() - 1 && !self.is_apart(port),
+            (Link::Port(port), Links::Both) => port < self.wiring.map.ports() - 1
+                && !self.is_apart(port),
             (Link::Port(port), Links::Ports) => port < self.wiring.map.ports() - 1,
             (Link::Master(_), Links::Ports) | (Link::Port(_), Links::Masters | Links::Each) =>
                 false,
@@ -283,7 +284,10 @@ impl GroupWatch {
         ensures port { (port : ℕ) → (result ≡ port) ↔ RoutesAt self.now.layout master address size port }
         ensures in_ports { result < length self.now.slaves }
     {
-        let found = self.wiring.map.route_bytes(address, self.wiring.rules.decoded_size(size));
+        let found = self
+            .wiring
+            .map
+            .route_bytes(address, self.wiring.rules.decoded_size(size));
         if self.wiring.paths.has(master, found) {
             found
         } else {
@@ -346,7 +350,9 @@ impl GroupWatch {
     fn crosses(&self, port: usize) -> bool
         ensures { result ≡ crosses_at_port self.now.layout port }
     {
-        matches!(self.wiring.links, Links::Both) && port < self.wiring.map.ports() - 1 && !self.is_apart(port)
+        matches!(self.wiring.links, Links::Both)
+            && port < self.wiring.map.ports() - 1
+            && !self.is_apart(port)
     }
 
     /// Whether the reply that must come at a link is what a port gave.
