@@ -204,7 +204,7 @@ static inline size_t tlx_fault_text(uint32_t fault, char *text, size_t room) {
 
 /* Reads the system that the bytes of a script describe into an empty handle, for a model, and writes the text of a fault of the script (which also
  * names the key, master or port) into `text`, an empty one if there is none, or no memory for it. `text` may be null.
- * Faults: TLX_NULL, TLX_OTHER_VERSION, TLX_FULL, TLX_TOO_LONG, TLX_NOT_TOML; then key by key, in the order that docs/reference/formats.md has, TLX_MISSING,
+ * Faults: TLX_NULL, TLX_OTHER_VERSION, TLX_FULL, TLX_TOO_LONG, TLX_NOT_TOML; then key by key, in the order that docs/reference/faults.md has, TLX_MISSING,
  * TLX_WRONG_TYPE, TLX_OUT_OF_RANGE; then TLX_BAD_PORTS, TLX_BAD_SOURCES, TLX_BAD_OPERATION. After TLX_TOO_LONG, TLX_MEMORY may come at
  * any point. */
 static inline uint32_t tlx_system_read(struct tlx_system *system, const void *script, size_t length, char *text, size_t room) {
@@ -219,7 +219,7 @@ static inline uint32_t tlx_system_read(struct tlx_system *system, const void *sc
 /* Reads what the bytes of a system file name into an empty handle, for a judge, and writes the text of a fault as tlx_system_read does. A
  * script of tlx is a system file; its slots and operations are not looked at. A key that no table of its kind has is a fault.
  * Faults: TLX_NULL, TLX_OTHER_VERSION, TLX_FULL, TLX_TOO_LONG, TLX_NOT_TOML, TLX_UNKNOWN_KEY; then key by key, in the order that
- * docs/reference/formats.md has, TLX_MISSING, TLX_WRONG_TYPE, TLX_OUT_OF_RANGE; then TLX_TWO_CALLED. After TLX_TOO_LONG, TLX_MEMORY may come at any
+ * docs/reference/faults.md has, TLX_MISSING, TLX_WRONG_TYPE, TLX_OUT_OF_RANGE; then TLX_TWO_CALLED. After TLX_TOO_LONG, TLX_MEMORY may come at any
  * point. */
 static inline uint32_t tlx_system_describe(struct tlx_system *system, const void *file, size_t length, char *text, size_t room) {
   char none;

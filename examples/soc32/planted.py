@@ -231,8 +231,7 @@ def seen_of(cell):
 
 
 def check_readme(folder, table):
-    """The README has a row for each bug that says which view sees it. Its commands, which docs/reference/captures.md has too, lead from a dump to the
-    verdicts that it shows."""
+    """The README has a row for each bug that says which view sees it. Its commands lead from a dump to the verdicts that it shows."""
     path = os.path.join(folder.folder, "README.md")
     text = rtl.read(path)
     for bug, cells in table.items():
@@ -241,8 +240,6 @@ def check_readme(folder, table):
     commands, prints = re.search(r"```sh\n(.*?)```\n\nprints\n\n    (.*?)\n", text, re.S).groups()
     without = re.search(r"^    (lawful: .*)$", text, re.M)[1]
     rtl.tell(f"{path}: more than ten lines", len(commands.splitlines()) <= 10)
-    shown = "".join(f"    {line}\n" for line in commands.splitlines()) + f"\nprints\n\n    {prints}\n"
-    rtl.tell(f"{path}: docs/reference/captures.md has other commands", shown in rtl.read(os.path.join(TOP, "docs", "CAPTURE.md")))
     commands = commands.replace("/tmp/", folder.directory + "/").replace("./tlcheck ", rtl.TLCHECK + " ")
     for words, expected in ((commands, prints), (re.sub(r"(-D|\+)(?i:bug)=\w+ ", "", commands), without)):
         done = subprocess.run(["bash", "-c", words], cwd=TOP, stdout=subprocess.PIPE, text=True)

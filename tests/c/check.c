@@ -69,7 +69,7 @@ uint32_t step_refused(struct tlx_judge *judge, const struct tlx_beat *beat) {
   return fault;
 }
 
-/* ---- the words of faults, those of a beat as docs/reference/captures.md has them; the compiler complains of a fault without a case */
+/* ---- the words of faults, those of a beat as docs/reference/faults.md has them; the compiler complains of a fault without a case */
 
 const char *words_of(enum tlx_fault fault) {
   switch (fault) {

@@ -8,7 +8,7 @@
 
 void tell(const char *name, int is_so);
 
-/* The words of faults, those of a beat as docs/reference/captures.md has them. */
+/* The words of faults, those of a beat as docs/reference/faults.md has them. */
 const char *words_of(enum tlx_fault fault);
 
 /* The bytes of a file, with a zero after them; how many there are, which is 0 if it can't be read. */

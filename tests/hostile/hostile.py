@@ -3,7 +3,7 @@
 The script of a seed is random bytes, random words of scripts, an example with bytes or lines changed, or a script of random
 values, lawful ones up to each limit or also some beyond. It runs on one thread and by threads, with histories and a random number
 of threads a port. The program must end within a minute in one of two ways. With status 0 there is nothing on standard error, and
-lines of the formats that agree in both runs. With status 1 there is nothing on standard output, and one line of docs/reference/formats.md,
+lines of the formats that agree in both runs. With status 1 there is nothing on standard output, and one line of docs/reference/faults.md,
 the same in both runs. Each seed is also one of a system file and a capture (tests/hostile/hostile_systems.py), and of a dump (tests/hostile/hostile_dumps.py).
 The gate runs seeds 0 to 999; tests/hostile/hostile 100000 takes some minutes more. It needs the built programs (./tlx, ./tlcheck and ./tlvcd build them;
 TLX=path, TLCHECK=path and TLVCD=path take others).

@@ -1,7 +1,7 @@
 """Hostile dumps, and what tlvcd and tlcheck make of them; tests/hostile/hostile runs it.
 
 The dump of a seed is one of examples/waves or tests/dumps, with bytes changed, left out or put in, with lines dropped, doubled or exchanged,
-or cut. tlvcd must end within a minute, with all rows, or with those before a fault and its line (docs/reference/captures.md). tlcheck must
+or cut. tlvcd must end within a minute, with all rows, or with those before a fault and its line (docs/reference/faults.md). tlcheck must
 then say of the dump what it says of these rows, if they are unlawful or there is no fault, and else the fault.
 """
 

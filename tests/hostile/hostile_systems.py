@@ -2,7 +2,7 @@
 
 The system of a seed is random bytes, random words, an example with bytes or lines changed, or one of random values, lawful ones up to each limit
 or also some beyond. It may name images that are not there, are a folder, are longer than their range, or can't be read. Its capture is an
-example's, or has random rows, with bytes and lines changed. The program must end within a minute, with a status and lines of docs/reference/captures.md. If it
+example's, or has random rows, with bytes and lines changed. The program must end within a minute, with a status and lines of docs/reference/faults.md. If it
 is asked what was covered, it writes that with a verdict, and not without one.
 """
 
@@ -200,7 +200,7 @@ def run(words, given):
 
 
 def is_right(status, out, err, traces):
-    """Whether a run ended in a way of docs/reference/captures.md."""
+    """Whether a run ended in a way of docs/reference/faults.md."""
     lines = out.split("\n")
     if lines.pop() != "":
         return False

@@ -1,5 +1,5 @@
-"""Tests tools/draft: on dumps written here, with the text that was worked out by hand from docs/guide/your_rtl.md ("A system file to begin
-with"); on the dumps of examples/waves, whose drafts agree with their system files; and by the rows that tlvcd writes with a draft that is
+"""Tests tools/draft: on dumps written here, with the text that was worked out by hand from the rules at the top of
+tools/draft; on the dumps of examples/waves, whose drafts agree with their system files; and by the rows that tlvcd writes with a draft that is
 filled in, which are those with a system file written by hand, or were worked out by hand. Rows are skipped if no tlvcd is built. The last
 line is 'N passed, M failed'.
 """
@@ -18,7 +18,7 @@ DRAFT = os.path.join(TOP, "tools", "draft")
 WAVES = os.path.join(TOP, "examples", "waves")
 DUMPS = os.path.join(TOP, "tests", "dumps")
 HEAD = """\
-# Drafted by tools/draft from the names of a dump. Fill in what begins with "# TODO" (docs/guide/your_rtl.md, "A system file to begin with").
+# Drafted by tools/draft from the names of a dump. Fill in what begins with "# TODO" (docs/guide/your_rtl.md, "Fill in what is left").
 """
 NO_RESET = "# TODO reset: no signal is called reset, rst, rst_n, rst_ni, resetn, reset_n, aresetn; a design without one needs no line\n"
 # The signals of a link with a bus of 4 bytes, and their bits. A signal's identifier is the link's mark and its name.
@@ -327,7 +327,7 @@ TEXTS = ((STANDARD, [], STANDARD_TEXT), (CHISEL, [], CHISEL_TEXT), (STRUCTS, [],
          (ARRAYS, [], ARRAYS_TEXT), (ESCAPED_ARRAYS, [], ESCAPED_ARRAYS_TEXT), (ARRAY_GAP, [], ARRAY_GAP_TEXT), (GATES, [], GATES_TEXT),
          (VHDL, [], VHDL_TEXT),
          (STANDARD[:-3], [], STANDARD_TEXT))
-# Which side a prefix is on, by the table of docs/reference/captures.md; none is told by the other words.
+# Which side a prefix is on, by the rules of tools/draft; none is told by the other words.
 SIDES = (("tb.cpu.", "master"), ("tb.HOST2_", "master"), ("tb.client[1].", "master"), ("tb.dram_", "port"), ("tb.master_port_", None),
          ("tb.x_in_", "master"), ("tb.out.", "port"), ("ram.auto_in_", "port"), ("cpu.auto_out_", "master"), ("host.inner.links.", None),
          ("tb.main_", None), ("tb.program_", None), ("tb.in_out_", None))

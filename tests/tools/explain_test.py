@@ -45,7 +45,8 @@ FACTS = (
 
 LOST = [os.path.join(CAPTURES, name) for name in ("system.toml", "lost_write.csv")]
 EXCHANGED = [os.path.join(CAPTURES, name) for name in ("adapter.toml", "adapter_words_exchanged.csv")]
-UNANSWERED = [os.path.join(CAPTURES, name) for name in ("system.toml", "no_reply_in_time.csv")]
+# the lines of its explanation that say where the fault lies
+WHERE = slice(10, 13)
 WAVES = [os.path.join(TOP, "examples", "waves", name) for name in ("system.toml", "get.vcd")]
 # The lines of the dump's fault, if the port holds the byte 11 at reset: the get is asked at 15 and answered at 25 by the byte 00.
 DUMPED = ("unlawful: line 4, time 25, p0 D: wrong reply: expected AccessAckData 11, captured AccessAckData 00",
@@ -305,18 +306,18 @@ def rows_of_table(page, head):
 
 
 def has_causes():
-    """Whether docs/guide/unlawful.md has the causes of tools/tlxtools/causes.py, and these the faults that docs/reference/captures.md has of beats."""
-    table = {fault.strip("`"): causes.split("<br>") for fault, causes in rows_of_table("UNLAWFUL.md", "| Fault | Look at |")}
-    faults = {row[0].split("`")[1].partition(":")[0] for row in rows_of_table("CAPTURE.md", "| Text | When | Capture |")}
-    page = " ".join(content(os.path.join(TOP, "docs", "UNLAWFUL.md")).split())
+    """Whether docs/reference/causes.md has the causes of tools/tlxtools/causes.py, and these are of the faults of beats in docs/reference/faults.md."""
+    table = {fault.strip("`"): causes.split("<br>") for fault, causes in rows_of_table("reference/causes.md", "| Fault | Look at |")}
+    faults = {row[0].split("`")[1].partition(":")[0] for row in rows_of_table("reference/faults.md", "| Text | When | Capture |")}
+    page = " ".join(content(os.path.join(TOP, "docs", "reference", "causes.md")).split())
     return table == CAUSES and faults == set(CAUSES) and f"in their place: {'; '.join(DENIED)}." in page and (
-        f"stands before them: {'; '.join(SHIFTED)}." in page and f"before them too: {'; '.join(ADAPTED)}." in page)
+        f"stands before them: {'; '.join(SHIFTED)}." in page and f"at its port: {'; '.join(ADAPTED)}." in page)
 
 
-def is_shown(page, files, options=()):
-    """Whether a document shows what is printed of a capture of the examples."""
-    text, _ = ran(EXPLAIN, [*options, *(os.path.relpath(path, TOP) for path in files)], folder=TOP)
-    block = "".join(f"    {line}".rstrip() + "\n" for line in text.splitlines()[1:]).strip("\n")
+def is_shown(page, files, part=slice(1, None)):
+    """Whether a document shows what is printed of a capture of the examples, or these lines of it."""
+    text, _ = ran(EXPLAIN, [os.path.relpath(path, TOP) for path in files], folder=TOP)
+    block = "".join(f"    {line}".rstrip() + "\n" for line in text.splitlines()[part]).strip("\n")
     return len(block) > 100 and block in content(os.path.join(TOP, "docs", page))
 
 
@@ -331,8 +332,7 @@ def main():
              (is_saved, (["--links", "masters"], OF_MASTER)),
              (is_saved, ([], OF_BOTH, denied_between)), (is_saved, (["--within=5"], OF_BOTH, given)), (is_page, ()), (is_page_of_wait, ()),
              (is_plain_page, ()), (has_causes, ()),
-             (is_shown, ("UNLAWFUL.md", LOST)), (is_shown, ("CAPTURE.md", LOST)), (is_shown, ("UNLAWFUL.md", EXCHANGED)),
-             (is_shown, ("UNLAWFUL.md", UNANSWERED, ["--within", "4"]))]
+             (is_shown, ("guide/unlawful.md", LOST)), (is_shown, ("guide/unlawful.md", EXCHANGED, WHERE))]
     tell_cases(cases)
 
 

@@ -146,7 +146,7 @@ def of_runs(places):
     for said in (*threads, *reads, *inputs, *checks):
         places.tell(keys.get(said.key) == said.text, f"{said.at}: {said.text!r} of {said.key} is {keys.get(said.key)!r} ({places.run_faults[0].path})")
     places.said(runs, files.words("crates/tl_streams/src/streams.rt", r'#\[error\("(?P<text>[^"]+)"\)\]\npub struct WriteFault;'), is_whole=False)
-    table = [said for said in files.table("docs/reference/formats.md", "| Fault | Line | Status |\n|---|---|---|\n", 1, 2) if said.key != "2"]
+    table = [said for said in files.table("docs/reference/faults.md", "| Fault | Line | Status |\n|---|---|---|\n", 1, 2) if said.key != "2"]
     places.said([*audit, *runs, memory], table)
     for said in table:
         wanted = "3" if any(re.fullmatch(one.pattern, said.text) for one in audit) else next(

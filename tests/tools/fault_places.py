@@ -15,8 +15,8 @@ FUNCTIONS = ("script_number", "file_number", "image_number", "serve_number", "fo
 LINES = r"(?:unlawful: line \d|incomplete: \d|empty: no|lawful: \d+ (?!rows`)|capture: line \d)"
 C_STRING = r'"(?P<text>(?:script|system|unlawful|incomplete|empty|lawful): (?:[^"\\]|\\.)*)'
 # Where lines of verdicts and of rows stand as examples.
-PAGES = ("README.md", "docs/reference/captures.md", "docs/guide/embedding.md", "docs/guide/unlawful.md", "docs/guide/regression.md",
-         "docs/release.md", "docs/tlcheck.1", "python/tlx/faults.py")
+PAGES = ("README.md", "docs/reference/faults.md", "docs/guide/first_run.md", "docs/guide/your_rtl.md", "docs/guide/embedding.md",
+         "docs/guide/unlawful.md", "docs/guide/regression.md", "docs/release.md", "docs/tlcheck.1", "python/tlx/faults.py")
 # What a line begins with: a place, and the word that stands there.
 WORD = re.compile(r"\S+(?: (?:'[^']*'|\"[^\"]*\"))?")
 
@@ -232,7 +232,7 @@ class Places:
         causes = words("tools/tlxtools/causes.py", r'^    "(?P<text>[^"]+)": \[', "CAUSES = {\n", "\n}\n", r'": \[')
         self.said(faults, causes)
         self.said(faults, words("tools/tlxtools/explanation.py", r'fault == "(?P<text>[^"]+)"', every="fault == "), is_whole=False)
-        self.ordered(causes, self.files.table("docs/guide/unlawful.md", "| Fault | Look at |\n|---|---|\n", 0))
+        self.ordered(causes, self.files.table("docs/reference/causes.md", "| Fault | Look at |\n|---|---|\n", 0))
         self.parts(self.wrong, "tools/tlxtools/explanation.py", "\nWRONG = re.compile(", "\n")
         line = self.literals(PLACE)
         self.parts([*line[:2], self.wrong[0]._replace(text=self.wrong[0].text.split(": ")[0])], "tests/hostile/random_orders.py", "\nWRONG = re.compile(", "\n")
@@ -241,15 +241,15 @@ class Places:
         self.parts(ends, "tests/hostile/hostile_systems.py", "\nENDS = {\n", "\n}\n")
 
     def of_captures(self):
-        """The tables of docs/reference/captures.md, in the order in which faults are tried."""
-        table = functools.partial(self.files.table, "docs/reference/captures.md")
+        """The tables of docs/reference/faults.md, in the order in which faults are tried."""
+        table = functools.partial(self.files.table, "docs/reference/faults.md")
         found = table("| Text | When | Capture |\n|---|---|---|\n", 0)
         self.said(self.whole_templates, found)
         self.ordered([*self.beats, *self.times], [said._replace(text=said.text.split(": ")[0]) for said in found])
         kinds = table("| Kind | Such a row |\n|---|---|\n", 0)
         self.said(self.row_words, kinds)
         self.ordered([one.said for one in self.rows][-len(self.row_faults):], kinds[2:])
-        explained = table("| Fault | What is printed |\n|---|---|\n", 0)
+        explained = self.files.table("docs/guide/unlawful.md", "| Fault | What is printed |\n|---|---|\n", 0)
         denied = [Template(explained[0], (word,), word) for word in ("denied", "incomplete")]
         self.said(self.fault_templates + denied, explained, is_whole=False)
         self.said(self.row_words, self.files.errors("crates/check_records/src/fault.rt", "RecordFault")[:1], is_whole=False)
@@ -260,7 +260,7 @@ class Places:
         self.said(self.line_templates[:4], man)
 
     def of_scripts(self):
-        words, page = self.files.words, "docs/reference/formats.md"
+        words, page = self.files.words, "docs/reference/faults.md"
         end = ("Map", "PastEnd")
         self.keyed(self.keys("tl_script"), words(
             "crates/tl_script/specs/Key.antt", r'script_key_name (?P<key>\w+) = codes "(?P<text>\w+)"', every="script_key_name [A-Z]"))
@@ -282,7 +282,7 @@ class Places:
         words = self.files.words
         self.keyed(self.keys("check_keys"), words("crates/check_keys/specs/Key.antt", r'key_name (?P<key>\w+) = codes "(?P<text>\w+)"', every="key_name [A-Z]"))
         images, long = [("NoPort",), ("NoImage",)], ("TooLong",)
-        table = self.files.table("docs/reference/formats.md", "| Line | Such a file |\n|---|---|\n", 0)
+        table = self.files.table("docs/reference/faults.md", "| Line | Such a file |\n|---|---|\n", 0)
         self.said(self.systems, table)
         self.said(self.systems, self.files.alternatives("tests/hostile/hostile_systems.py", "SYSTEM_FAULT"), images)
         rows = [said for name in ("system_faults", "socket_faults") for said in self.files.values(f"tests/tools/{name}.py", "system: ")]

@@ -15,6 +15,7 @@ import shutil
 import tempfile
 
 from harness import run_test, tell
+from tlxtools import tree
 from tlxtools.crate_list import TOP, below, crates, ways
 
 # How many ways may lead down from crate to crate at the most: each costs the gate some 5 ms, several times.
@@ -85,8 +86,8 @@ class Names:
     def on_pages(self):
         """The names that stand between backticks on the pages."""
         pages = [os.path.join(self.top, "README.md"), os.path.join(self.top, "CONTRIBUTING.md")]
-        docs = os.path.join(self.top, "docs")
-        pages += [os.path.join(docs, page) for page in sorted(os.listdir(docs)) if page.endswith(".md")]
+        pages += [os.path.join(self.top, "docs", page) for page in tree.files(os.path.join(self.top, "docs"), ".md")
+                  if not tree.is_made(f"docs/{page}")]
         return {name for page in pages for text in re.findall(r"`([^`\n]+)`", read(page)) for name in re.findall(r"\w+", text)}
 
     def clashes(self):

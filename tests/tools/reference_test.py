@@ -255,6 +255,10 @@ pub fn of(&self) -> u8
 
 Named here: [`IsSmall`](low.md#issmall).
 """
+# a page that is written by hand, and how the index begins with it
+BY_HAND = "# Formats\n\nFor a reader who writes a\nscript. And more.\n"
+FIRST = ("# Reference\n\n## Formats and rules\n\n- [formats.md](formats.md): For a reader who writes a script.\n"
+         "- [keys.md](keys.md): For a reader who writes a system")
 INDEX = ("## One family\n\n- [`low`](low.md): Low things.\n- [`high`](high.md): High things.\n")
 ANCHORS = "# `low`\n\n## A b\n\n## A b\n\n```\n# none\n```\n\n### x::y_z, [w](v.md)!\n"
 
@@ -291,13 +295,17 @@ def checked(reference, top, texts, bare):
 
 
 def of_check(reference, top):
+    put(top, "docs/reference/formats.md", BY_HAND)
     texts = reference.pages(top, [reference_source.Crate(top, name) for name in ("low", "high", "main")])
     tell("pages", sorted(texts) == [f"docs/reference/{name}.md" for name in ("README", "high", "low")], f"{sorted(texts)}")
-    tell("index", texts["docs/reference/README.md"].endswith(INDEX), texts["docs/reference/README.md"])
+    index = texts["docs/reference/README.md"]
+    tell("index", index.endswith(INDEX), index)
+    tell("index begins", index.startswith(FIRST), index)
     most, run = reference.MOST_BARE, "run it, and commit the pages"
     put(top, "docs/reference/old.md", "")
     reference.write(top, texts)
-    tell("what no crate has is removed", sorted(os.listdir(os.path.join(top, "docs/reference"))) == ["README.md", "high.md", "low.md"])
+    left = sorted(os.listdir(os.path.join(top, "docs/reference")))
+    tell("what no crate has is removed, and what is written by hand is not", left == ["README.md", "formats.md", "high.md", "low.md"], f"{left}")
     tell("fresh pages", checked(reference, top, texts, most) == (0, "4 passed, 0 failed", []))
     tell("a bare definition too many", checked(reference, top, texts, most + 1) == (1, "3 passed, 1 failed", [
         f"definitions without a comment: {most + 1}, of which there may be {most}: tools/reference --bare lists them"]))

@@ -1,6 +1,6 @@
 """Compares the rows of tools/tlxtools/system_keys.py with the sources of the programs (the keys of each table, the limits and the words),
-with the tables of docs/reference/formats.md and docs/reference/captures.md, and with docs/system.schema.json. It tests this comparison: one
-text is changed in each place in turn, and it has to name that place.
+with the tables of docs/reference/keys.md and formats.md, and with docs/system.schema.json. It tests this comparison: one text is changed in
+each place in turn, and it has to name that place.
 
 If python3-jsonschema is there, systems are then compared with the schema: those of examples, and the rows of tests/tools/system_faults.py
 and tests/tools/socket_faults.py. A lawful system has to be valid. In one with a fault the schema has to find the key of the fault, if a schema can
@@ -25,7 +25,8 @@ from tlxtools.crate_list import TOP
 from tlxtools.tree import files, read
 
 HERE = os.path.dirname(os.path.realpath(__file__))
-SCHEMA, FORMATS, CAPTURE, KNOWN = "docs/system.schema.json", "docs/reference/formats.md", "docs/reference/captures.md", "crates/check_keys/src/known.rt"
+SCHEMA, FORMATS, TABLE = "docs/system.schema.json", "docs/reference/formats.md", "docs/reference/keys.md"
+KNOWN = "crates/check_keys/src/known.rt"
 # The tables by the names that the program has for them.
 KINDS = {"Top": "", "Names": "names", "Port": "port", "Master": "master", "Sizes": "sizes", "Orders": "order", "Sources": "sources", "Wires": "wires"}
 LIMITS_FILE = "crates/tl_map/src/limits.rt"
@@ -60,11 +61,11 @@ CHANGES = (
     ("crates/check_description/src/kind.rt", 'b"w1c"', 'b"w1s"'), ("crates/check_keys/src/bus.rt", "bytes == 64", "bytes == 128"),
     ("crates/check_signals/src/keys.rt", "MAX_PARTS: usize = 512", "MAX_PARTS: usize = 511"), ("crates/check_signals/src/clocks.rt", 'b"high"', 'b"up"'),
     ("crates/check_signals/src/keys.rt", "Signal::ACorrupt | Signal::DParam", "Signal::DParam"),
-    (FORMATS, "| `port.length` | integer | 1 to", "| `port.length` | integer | 0 to"), (FORMATS, "| `port.fifo` | boolean", "| `port.fifo` | integer"),
-    (FORMATS, "| `master.stride` |", "| `master.strides` |"), (FORMATS, "| 8 | how many bytes the data buses", "| 4 | how many bytes the data buses"),
-    (FORMATS, "| `same`, `none` | `same` |", "| `same`, `none` | `none` |"), (FORMATS, "| the masters, numbered from 0 |", "| masters |"),
-    (CAPTURE, "| `edge` |", "| `edges` |"), (CAPTURE, "the name of the link's own clock", "the name of a clock"),
-    (CAPTURE, "1 to 64 prefixes", "1 to 65 prefixes"), (CAPTURE, '`"low"` or `"high"` (the default)', '`"low"` (the default) or `"high"`'),
+    (TABLE, "| `port.length` | integer | 1 to", "| `port.length` | integer | 0 to"), (TABLE, "| `port.fifo` | boolean", "| `port.fifo` | integer"),
+    (TABLE, "| `master.stride` |", "| `master.strides` |"), (TABLE, "| 8 | how many bytes the data buses", "| 4 | how many bytes the data buses"),
+    (TABLE, "| `same`, `none` | `same` |", "| `same`, `none` | `none` |"), (TABLE, "| the masters, numbered from 0 |", "| masters |"),
+    (FORMATS, "| `edge` |", "| `edges` |"), (FORMATS, "the name of the link's own clock", "the name of a clock"),
+    (FORMATS, "1 to 64 prefixes", "1 to 65 prefixes"), (FORMATS, '`"low"` or `"high"` (the default)', '`"low"` (the default) or `"high"`'),
     (SCHEMA, '"maxItems": 64', '"maxItems": 65'), (SCHEMA, '"ops"', '"op"'))
 # The faults that no schema finds: the line, and what stands in the text. The first depend on files, or on several values.
 UNSEEN = (
@@ -122,36 +123,36 @@ def of_limits(texts):
 
 
 def table_in(text, title):
-    """The cells of the first table of a section whose first column is called Key."""
-    section = text.partition(f"\n## {title}\n")[2]
+    """The cells of the first table of a section whose first column is called Key, without links."""
+    section = re.sub(r"\[([^\[\]]*)\]\([^()]*\)", r"\1", f"\n{text}".partition(f"# {title}\n")[2])
     lines = section[section.index("| Key |"):].partition("\n\n")[0].splitlines()[2:]
     return [tuple(cell.strip() for cell in line.strip("|").split("|")) for line in lines]
 
 
-def of_formats(texts):
-    """The same of the table of docs/reference/formats.md, cell by cell."""
-    found, wanted = table_in(texts(FORMATS), "The system file"), keys.page_rows()
-    yield "" if len(found) == len(wanted) else f"{FORMATS}: {len(found)} keys, and not {len(wanted)}"
+def of_table(texts):
+    """The same of the table of docs/reference/keys.md, cell by cell."""
+    found, wanted = table_in(texts(TABLE), "Keys of the system file"), keys.page_rows()
+    yield "" if len(found) == len(wanted) else f"{TABLE}: {len(found)} keys, and not {len(wanted)}"
     for said, row in zip(found, wanted):
         for cell, right in zip(said, row):
-            yield "" if cell == right else f"{FORMATS}: {row[0]}: `{cell}`, and not `{right}` (tools/schema --table)"
+            yield "" if cell == right else f"{TABLE}: {row[0]}: `{cell}`, and not `{right}` (tools/reference)"
 
 
 def is_told(row, said):
-    """Whether a cell of docs/reference/captures.md says what a row says: its meaning, the words of a key at the top, and how long an array may be."""
+    """Whether a cell of the table of dumps says what a row says: its meaning, the words of a key at the top, and how long an array may be."""
     words = [f'`"{word}"`' + " (the default)" * (word == row.default) for word in row.value.schema.get("enum", []) if row.table == ""]
     limits = re.findall(r"an array has (.*)", row.value.range)
     return all(part in said for part in [row.meaning, *words, *limits])
 
 
-def of_capture(texts):
-    """The same of the table of docs/reference/captures.md: its keys, and what is said of each."""
-    rows = [(re.findall(r"`([\w.]+)`", said), meaning) for said, meaning in table_in(texts(CAPTURE), "Your own design")]
+def of_dumps(texts):
+    """The same of the keys of dumps there, and what is said of each."""
+    rows = [(re.findall(r"`([\w.]+)`", said), meaning) for said, meaning in table_in(texts(FORMATS), "Dumps")]
     meanings = {name: meaning for names, meaning in rows for name in names}
     paths = {keys.PATHS[row.table] + row.name: row for row in keys.KEYS if row.about == keys.PLACES and row.table in keys.PATHS}
-    yield "" if {*meanings} == {*paths, "resets"} else f"{CAPTURE}: the keys are {', '.join(meanings)}, and not {', '.join(paths)}, resets"
+    yield "" if {*meanings} == {*paths, "resets"} else f"{FORMATS}: the keys are {', '.join(meanings)}, and not {', '.join(paths)}, resets"
     for name, row in paths.items():
-        yield "" if is_told(row, meanings.get(name, "")) else f"{CAPTURE}: `{name}` does not say `{row.meaning}`, `{row.value.range}`"
+        yield "" if is_told(row, meanings.get(name, "")) else f"{FORMATS}: `{name}` does not say `{row.meaning}`, `{row.value.range}`"
 
 
 def of_schema(texts):
@@ -166,7 +167,7 @@ def of_schema(texts):
 
 def compared(texts):
     """What all comparisons say."""
-    return [said for check in (of_keys, of_limits, of_formats, of_capture, of_schema) for said in check(texts)]
+    return [said for check in (of_keys, of_limits, of_table, of_dumps, of_schema) for said in check(texts)]
 
 
 def of_changes():

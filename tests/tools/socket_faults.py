@@ -1,4 +1,4 @@
-"""System files whose ports list masters, by `hosts` or `sources`, with their first fault, worked out by hand from docs/reference/formats.md. The tables are
+"""System files whose ports list masters, by `hosts` or `sources`, with their first fault, worked out by hand from docs/reference/faults.md. The tables are
 those of tests/tools/system_faults.py: a head, and parts with the line that a file of the head and the part has."""
 
 # Two masters, and a port whose table goes on: master 0 has 4 sources, and master 1 has 2.

@@ -1,4 +1,4 @@
-"""System files with their first fault, worked out by hand from docs/reference/formats.md: for each table a head, and parts with the line that a file of
+"""System files with their first fault, worked out by hand from docs/reference/faults.md: for each table a head, and parts with the line that a file of
 the head and the part has. An empty line is that of a file without fault."""
 
 import os

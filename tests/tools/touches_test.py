@@ -26,6 +26,7 @@ TREE = {
     "tlx": "on_reset\n",
     "docs/A.md": "on reset\n",
     "docs/reference/a.md": "on_reset\n",
+    "docs/reference/formats.md": "OnReset\n",
     "README.md": "`on_reset`\n",
     "examples/a.toml": "on_reset = 1\n",
     "hdl/a.v": "on_reset\n",
@@ -43,7 +44,7 @@ FOUND = {
     "tools": [("tlx", 1), ("tools/common.py", 2)],
     "bench": [("bench/run", 1)],
     "reference": [("docs/reference/a.md", 1)],
-    "docs": [("README.md", 1), ("docs/A.md", 1)],
+    "docs": [("README.md", 1), ("docs/A.md", 1), ("docs/reference/formats.md", 1)],
     "examples": [("examples/a.toml", 1)],
     "other": [("crates.txt", 1)],
 }

@@ -1,5 +1,5 @@
 """The links of a crossbar by the names of a dump's signals: the standard's names behind a prefix, Chisel's, or the members of two structs.
-For tools/draft; docs/guide/your_rtl.md has the rules ("A system file to begin with").
+For tools/draft, which has the rules at its top.
 """
 
 import re

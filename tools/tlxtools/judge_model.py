@@ -1,5 +1,5 @@
-"""A judge of captures, written from docs/reference/captures.md and docs/reference/formats.md alone: what tlcheck has to print of a system
-and a capture, byte by byte. It has all rows in memory, and shares no code with the programs."""
+"""A judge of captures, written from captures.md, faults.md and formats.md of docs/reference alone: what tlcheck has to print of a system and a
+capture, byte by byte. It has all rows in memory, and shares no code with the programs."""
 
 import collections
 import re

@@ -140,12 +140,16 @@ def page_of(places, crate):
     return "\n\n".join(said) + "\n"
 
 
-def index_of(families, crates):
-    """The page that lists the pages: by family, as crates.txt has them, each with the first sentence of its own page."""
-    said = ["# Reference",
-            "\n".join(wrapped("Made by `tools/reference` from the sources: each crate's definitions, and the types and calls that it exports, with "
-                              "their contracts. [MODEL.md](../MODEL.md) says what they mean, [PROVED.md](../PROVED.md) has what is promised by which "
-                              "contract."))]
+def index_of(families, crates, first=()):
+    """The page that lists the pages: those that are of no crate, then by family, as crates.txt has them, each with the first sentence of
+    its own page."""
+    said = ["# Reference"]
+    lines = [wrapped(f"[{name}]({name}): {' '.join(sentence.split())}", "- ") for name, sentence in first]
+    if lines:
+        said += ["## Formats and rules", "\n".join("\n".join(line) for line in lines), "## Definitions and calls"]
+    made = ("Made by `tools/reference` from the sources: each crate's definitions, and the types and calls that it exports, with their contracts. "
+            "[model.md](../design/model.md) says what they mean, [proved.md](../design/proved.md) has what is promised by which contract.")
+    said.append("\n".join(wrapped(made)))
     for family, names in families:
         lines = [wrapped(f"[`{name}`]({name}.md): {first_sentence(crates[name].page)}", "- ") for name in names if name in crates]
         if lines:

@@ -1,5 +1,5 @@
 """The keys of a system file: a row for each, with the table that may have it, what it may say, and what it means. The limits of their values stand
-here too. The lists of keys of the other tools, docs/system.schema.json and the table of docs/reference/formats.md, "The system file", come of these
+here too. The lists of keys of the other tools, docs/system.schema.json and the table of docs/reference/keys.md come of these
 rows; tests/tools/schema_test compares them with the sources of the programs."""
 
 from typing import NamedTuple
@@ -130,14 +130,14 @@ SYSTEM_ROWS = (
     Key("", "bus", BUS_OF, "how many bytes the data buses of links have", BUS),
     Key("", "unaligned", flag(), "with `true` the address of a request may be no multiple of its size, and its slave denies it", False),
     Key("", "decode", one_of(DECODES), "a request goes to the port one of whose ranges has all its bytes; with `address`, its first byte", "bytes"),
-    Key("", "resets", flag(), "with `true` a capture may have rows of resets of the whole system (CAPTURE, \"Resets\"), and dumps give them", False),
+    Key("", "resets", flag(), "with `true` a capture may have rows of resets of the whole system (captures.md, \"Resets\"), and dumps give them", False),
     Key("", "period", integer(1, GREATEST),
-        "how many units of the capture's time a clock has. What was covered counts clocks (REGRESSION, \"What was covered\")", 1),
+        "how many units of the capture's time a clock has. What was covered counts clocks (regression.md, \"What was covered\")", 1),
     Key("", "port", tables("port", 0, MAX_PORTS), "the slave ports, numbered from 0; after the last comes the error port, which has no link",
         absent="no ports"),
     Key("port", "name", NAME_OF, "verdicts name the link by it; captures and traces keep `p0`. No two ports or masters have the same", absent="none"),
     Key("port", "kind", one_of(SYSTEM_KINDS),
-        "what the slave serves: the table of kinds in \"What is answered\". A `device` decides for itself", needed=True),
+        "what the slave serves: the table of kinds in formats.md, \"What is answered\". A `device` decides for itself", needed=True),
     Key("port", "base", integer(0, GREATEST), "the first address of its one range", needed=True, instead="ranges"),
     Key("port", "length", integer(1, GREATEST), "how many bytes the range has", needed=True, instead="ranges"),
     Key("port", "ranges", RANGES, "all ranges at which the slave answers; its memory is one memory with all these addresses. With `mirror` it is the "
@@ -148,18 +148,18 @@ SYSTEM_ROWS = (
                               "the first range"), "the first bytes of the first range", absent="none"),
     Key("port", "unknown", flag(), "the bytes that neither `image` nor `reset` gives: zero with `false`, unknown with `true`", False),
     Key("port", "sizes", SIZES, "the sizes that the slave supports. It supports no operation that the table leaves out",
-        absent="the row of its kind in \"What is answered\""),
+        absent="the row of its kind in formats.md, \"What is answered\""),
     Key("port", "order", ORDER, "when requests of this port take effect: with their last beat, with their reply's first beat, or at some moment between "
-        "these. A string says it for both sides, a table for each (CAPTURE, \"The command\")", absent="that of the command line for the side"),
+        "these. A string says it for both sides, a table for each (captures.md, \"The command\")", absent="that of the command line for the side"),
     Key("port", "bus", BUS_OF_LINK, "the data bus of this port's link", absent="`bus`"),
     Key("port", "mirror", flag("with `true` all ranges have one length"),
         "with `true` the ranges are one memory: byte k of each range is byte k of the first", False),
-    Key("port", "volatile", VOLATILE, "these bytes of the first range change by themselves, so they are never known (CAPTURE, \"What a slave may "
+    Key("port", "volatile", VOLATILE, "these bytes of the first range change by themselves, so they are never known (captures.md, \"What a slave may "
         "answer\"). With `mirror` these are the bytes at the same offsets of each range", absent="none"),
     Key("port", "on_reset", one_of(ON_RESETS), "what a reset of the whole system does to the memory: it keeps its bytes, or is as at the beginning",
         absent="`keep` of `ram` and `rom`, `load` of `regs` and `w1c`"),
     Key("port", "hosts", HOSTS, "the masters that reach this port. The k-th, counted from 0, has at this port's link the wide source `k + 2^b * s` for its "
-        "own source s. 2^b is the least power of two that is at least their count (CAPTURE, \"Sockets\")",
+        "own source s. 2^b is the least power of two that is at least their count (captures.md, \"Sockets\")",
         absent="the masters' own wide sources, and their `reach`"),
     Key("port", "sources", tables("sources", 1, MAX_MASTERS, ", no master twice; not beside `hosts`"),
         "the masters that reach this port, each with its wide sources at this port's link", absent="as of `hosts`", apart=("hosts",)),
@@ -167,8 +167,8 @@ SYSTEM_ROWS = (
     Key("sources", "first", integer(0, MAX_WIDE), "the wide source of its source 0 at this port's link", absent="a fault: `wrong type`", needed=True),
     Key("sources", "stride", integer(1, MAX_WIDE), "there its source s has the wide source `first + stride * s`", 1),
     Key("port", "crossing", one_of(CROSSINGS), "with `--links both`, what is compared between the masters' links and this port's: each message, or "
-        "nothing. With `none` this port's link is judged by itself (CAPTURE, \"A crossbar with adapters\")", "same"),
-    Key("port", "fifo", flag(), "with `true` replies at this port's link begin in the order in which their requests began there (CAPTURE, \"Replies in "
+        "nothing. With `none` this port's link is judged by itself (captures.md, \"A crossbar with adapters\")", "same"),
+    Key("port", "fifo", flag(), "with `true` replies at this port's link begin in the order in which their requests began there (captures.md, \"Replies in "
         "order\")", False),
     Key("", "master", tables("master", 1, MAX_MASTERS), "the masters, numbered from 0", needed=True),
     Key("master", "name", NAME_OF._replace(range="as `port.name`"), "as `port.name`", absent="none"),
@@ -218,7 +218,7 @@ RUN_ROWS = (Key("", "slots", ANYTHING, "it is a script's, and is ignored", absen
 TABLES = ("", "names", "port", "master", "sizes", "order", "sources", "wires")
 KEYS = (*SYSTEM_ROWS, *PLACES_ROWS, *RUN_ROWS,
         *(Key(table, "extra", ANYTHING, "it may have any value, and it is ignored", absent="nothing", about=NOTHING) for table in TABLES))
-# The tables whose keys have rows of their own in docs/reference/formats.md, with what stands there before their names.
+# The tables whose keys have rows of their own in docs/reference/keys.md, with what stands there before their names.
 PATHS = {"": "", "port": "port.", "sources": "port.sources.", "master": "master."}
 
 
@@ -252,6 +252,6 @@ def absent_of(row):
 
 
 def page_rows():
-    """The table of docs/reference/formats.md, "The system file": the cells of each row."""
+    """The table of docs/reference/keys.md: the cells of each row."""
     return [(f"`{PATHS[row.table]}{row.name}`", row.value.type, row.value.range, absent_of(row), row.meaning)
             for row in SYSTEM_ROWS if row.table in PATHS]

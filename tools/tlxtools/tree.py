@@ -3,6 +3,8 @@
 import os
 import re
 
+# the pages of docs/reference that are written by hand; tools/reference makes the others
+BY_HAND = ("formats", "captures", "faults")
 # what is built or kept, and no part of the repository
 LEFT_OUT = re.compile(r"^(\.git|\.gate|bench/out)(/|$)|(^|/)(out|__pycache__|build\.log|libtlx\.so)(/|$)")
 
@@ -16,6 +18,12 @@ def files(top, ending=""):
         paths = (os.path.normpath(os.path.join(inside, name)) for name in names if name.endswith(ending))
         found += [path for path in paths if not LEFT_OUT.search(path)]
     return sorted(found)
+
+
+def is_made(path):
+    """Whether a page is one that tools/reference makes."""
+    folder, _, name = path.rpartition("/")
+    return folder == "docs/reference" and name.removesuffix(".md") not in BY_HAND
 
 
 def read(top, path):

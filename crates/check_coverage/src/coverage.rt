@@ -92,7 +92,7 @@ fn own_source(sources: &SourceOwners, wide: u16) -> u16
 }
 
 /// The wide source of a source at a link, if the link has it.
-fn wide_source(sources: &SourceOwners, link: Link, source: u16) -> Option<u16>
+pub fn wide_source_at(sources: &SourceOwners, link: Link, source: u16) -> Option<u16>
     ensures master { (number wide : ℕ) → link ≡ Link.Master number
         → (result ≡ Some wide) ↔ IsWideSource sources.now number source wide }
     ensures port { (number : ℕ) → link ≡ Link.Port number → result ≡ Some source }
@@ -621,7 +621,7 @@ impl Coverage {
             return Ok(());
         }
         let bus = watch.bus(row.link);
-        match wide_source(watch.sources(), row.link, row.beat.source()) {
+        match wide_source_at(watch.sources(), row.link, row.beat.source()) {
             Some(wide) => self.note_beat(watch, wide, row.time, &row.beat, bus, end),
             None => Ok(()),
         }

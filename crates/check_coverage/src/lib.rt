@@ -25,5 +25,5 @@ mod ranges;
 mod times;
 mod waits;
 
-pub use coverage::{Coverage, is_counted};
+pub use coverage::{Coverage, is_counted, wide_source_at};
 pub use mirrors::Mirrors;

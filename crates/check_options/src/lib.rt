@@ -1,4 +1,4 @@
-//! The command line of tlcheck: `tlcheck [--links both|masters|ports|each] [--order ORDER] [--trace]
+//! The command line of tlcheck: `tlcheck [--links both|masters|ports|each] [--order ORDER] [--within N] [--trace]
 //! [--complete] [--quiet] [--coverage FILE] SYSTEM [CAPTURE]`.
 //!
 //! [`read_check_options`] carries the promise: the words are taken or refused just as the command line says, by clap's own

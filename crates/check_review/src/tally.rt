@@ -154,7 +154,10 @@ impl Tally {
         {
             Some(end) => {
                 self.count(row.link, end);
-                self.cover(row, end)?;
+                // in most runs nobody asks what is covered
+                if self.coverage.is_some() {
+                    self.cover(row, end)?;
+                }
                 Ok(true)
             }
             None => Ok(false),

@@ -1,31 +1,17 @@
 //! The requests that wait for their replies.
-ghost use Rattle.std.specs.Prelude.{◌≡◌, ◌↔◌, [], ◌∷◌, ℕ, List, OnOk, Some};
-ghost use Rattle.tl_map.specs.Owner.{IsWideSource};
+ghost use Rattle.std.specs.Prelude.{◌≡◌, [], ◌∷◌, ℕ, List, OnOk};
 ghost use Rattle.check_rows.specs.Row.{SeenRow, beats_of, row_with};
 ghost use Rattle.check_sides.specs.Lawful.{IsLawful};
 ghost use Rattle.check_sides.specs.Plan.{IsPlan, Plan};
 ghost use Rattle.check_review.specs.Waiting.{answers_late, first_late, is_late_reply, waiting_in};
 
 use crate::waiting::{Waiting, first_late, is_late_of, note_beat};
-use check_coverage::is_counted;
+use check_coverage::{is_counted, wide_source_at};
 use check_rows::Row;
 use check_sides::Watch;
-use check_turns::{Beat, Link};
+use check_turns::Beat;
 use std::alloc::{AllocError, Global};
 use std::marker::Model;
-use tl_map::SourceOwners;
-
-/// The wide source of a source at a link, if the link has it.
-fn wide_source(sources: &SourceOwners, link: Link, source: u16) -> Option<u16>
-    ensures master { (number wide : ℕ) → link ≡ Link.Master number
-        → (result ≡ Some wide) ↔ IsWideSource sources.now number source wide }
-    ensures port { (number : ℕ) → link ≡ Link.Port number → result ≡ Some source }
-{
-    match link {
-        Link::Master(master) => sources.widen(master, source),
-        Link::Port(_) => Some(source),
-    }
-}
 
 /// The requests that wait for their replies, and how long one may.
 #[derive(Drop)]
@@ -72,7 +58,7 @@ impl Waits {
         if !is_counted(watch.links(), row.link) {
             return Ok(());
         }
-        match wide_source(watch.sources(), row.link, row.beat.source()) {
+        match wide_source_at(watch.sources(), row.link, row.beat.source()) {
             Some(wide) => note_beat(&mut self.requests, wide, row),
             None => Ok(()),
         }
@@ -104,7 +90,7 @@ impl Waits {
         if !is_counted(watch.links(), row.link) {
             return false;
         }
-        match wide_source(watch.sources(), row.link, row.beat.source()) {
+        match wide_source_at(watch.sources(), row.link, row.beat.source()) {
             Some(wide) => self.answers_late(wide, row),
             None => false,
         }

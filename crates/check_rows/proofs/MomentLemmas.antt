@@ -1,7 +1,7 @@
 -- A row put in at its place among rows that cross one after the other.
-use Rattle.std.proofs.Common.{◌≡◌, ◌∙◌, ℕ, zero, suc, Bool, true, false, ◌+◌, ◌-◌, ◌<◌, ◌≤◌, lit≤, List, [], ◌∷◌, ◌++◌, take, drop, length, map, get_or, All, Contains, arith, refl, sym, subst, ap}
-use Rattle.std.specs.List.{insert}
-use Rattle.std.proofs.lemmas.List.{drop-append-le, drop_at, get_or-map, length-append, length-drop, length-map, length-take-le, take-append-le, take-take}
+use Rattle.std.proofs.Common.{◌≡◌, ◌∙◌, ℕ, zero, suc, Bool, true, false, ◌+◌, ◌-◌, ◌<◌, ◌≤◌, lit≤, List, [], ◌∷◌, ◌++◌, take, drop, length, map, get_or, set, All, Contains, arith, refl, sym, subst, ap}
+use Rattle.std.specs.List.{insert, refill}
+use Rattle.std.proofs.lemmas.List.{drop-append-le, drop_at, get_or-map, length-append, length-drop, length-map, length-take-le, take-append-le, take-take, take_all}
 use Rattle.std.proofs.lemmas.List.Elements.{All-append, All-drop, All-take}
 use Rattle.check_beats.specs.Bus.{bus_bytes}
 use Rattle.check_beats.specs.declared.bus.Bus.{Bus}
@@ -289,6 +289,56 @@ kept-insert time rows lanes buffer row i h =
           (λ k d within. let one = h.kept.inside k d within in omega (arith, one, size)) (omega (arith, size));
       room = omega (arith, size, count, room, small);
     }
+
+-- ---- one row alone
+
+lone-kept : (row : Row) (buffer : List ℕ) → IsLink row.link → bus_bytes row.bus ≤ length buffer
+    → AreLanesKept row.time (added row [] ∷ []) (take (bus_bytes row.bus) buffer)
+lone-kept row buffer link long = kept-insert row.time [] [] buffer row 0 (record {
+  kept = none-kept row.time;
+  link = link;
+  now = refl;
+  long = long;
+  gap = record {
+    inside = omega arith;
+    before = λ k row is. absurd (omega (arith, is));
+    behind = λ row inside. absurd (omega (arith, inside));
+  };
+})
+
+lone-row : (row : Row) (buffer : List ℕ)
+    → map (kept_row (take (bus_bytes row.bus) buffer)) (added row [] ∷ []) ≡ seen_row row buffer ∷ []
+lone-row row buffer = rows-insert [] [] buffer row 0 (λ k d inside. absurd (omega (arith, inside)))
+
+-- a list that is written over, all of it
+renewed : {X : Type 0} → (xs ws : List X) → length ws ≡ length xs → refill (length xs) xs ws ≡ ws
+renewed xs ws same =
+    take-append-le (length xs) ws (drop (length ws) xs) (omega (arith, same)) ∙ take_all (length xs) ws (omega (arith, same))
+
+-- a list of one item after that item is written over
+lone-set : {X : Type 0} → (xs : List X) (x : X) → length xs ≡ 1 → set xs 0 x ≡ x ∷ []
+lone-set [] x one = cc
+lone-set (y ∷ []) x one = refl
+lone-set (y ∷ z ∷ ys) x one = absurd (omega (arith, one))
+
+-- a moment of one row, in the room of another one
+module _ (olds : List Kept) (was buffer : List ℕ) (row : Row)
+    (one : length olds ≡ 1) (wide : length was ≡ bus_bytes row.bus) (long : bus_bytes row.bus ≤ length buffer) where
+  lone-rows : refill (length olds) olds (set olds 0 (added row [])) ≡ added row [] ∷ []
+  lone-rows =
+      let set_is = lone-set olds (added row []) one in
+      rw set_is (renewed olds (added row [] ∷ []) (sym one))
+
+  lone-lanes : refill (length was) was (take (bus_bytes row.bus) buffer) ≡ take (bus_bytes row.bus) buffer
+  lone-lanes = renewed was (take (bus_bytes row.bus) buffer) (length-take-le (bus_bytes row.bus) buffer long ∙ sym wide)
+
+  pub lone-kept-in : IsLink row.link → AreLanesKept row.time (refill (length olds) olds (set olds 0 (added row [])))
+      (refill (length was) was (take (bus_bytes row.bus) buffer))
+  lone-kept-in link = rw (lone-rows, lone-lanes) (lone-kept row buffer link long)
+
+  pub lone-row-in : map (kept_row (refill (length was) was (take (bus_bytes row.bus) buffer)))
+      (refill (length olds) olds (set olds 0 (added row []))) ≡ seen_row row buffer ∷ []
+  lone-row-in = rw (lone-rows, lone-lanes) (lone-row row buffer)
 
 -- ---- what is said of rows that are kept, said of the rows as they are seen
 

@@ -190,6 +190,16 @@ impl Moment {
         ensures { self.new ≡ record { time = row.now.time; rows = seen_row row.now lanes.now ∷ [] } }
     {
         self.time = row.time;
+        let bytes = row.bus.bytes();
+        if self.rows.len() == 1 && self.lanes.len() == bytes {
+            // most rows follow one alone: it is written over, since a vector that is cleared is set to zeros
+            self.rows[0] = Kept {
+                row: *row,
+                first: 0,
+            };
+            self.lanes.as_mut_slice().copy_from_slice(&lanes[..bytes]);
+            return;
+        }
         self.rows.clear();
         self.lanes.clear();
         self.insert(0, row, lanes);

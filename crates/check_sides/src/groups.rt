@@ -12,7 +12,7 @@ fn has_set(flags: &[bool]) -> bool
 }
 
 /// Whether one of these is set.
-fn is_any_set(flags: &[bool]) -> bool
+pub fn is_any_set(flags: &[bool]) -> bool
     ensures { result ≡ is_one_set flags.now }
 {
     has_set(flags)

@@ -28,7 +28,7 @@ mod watch;
 
 pub use check_watch::{
     Beat, Change, Ended, Fault, FifoLinks, Link, Links, Origin, Paths, Reason, Seen, SeenEntry,
-    StepError,
+    StepError, Wiring,
 };
-pub use groups::{is_port_alone, is_some_alone};
+pub use groups::{is_any_set, is_port_alone, is_some_alone};
 pub use watch::Watch;

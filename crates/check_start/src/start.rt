@@ -24,7 +24,7 @@ use check_flight::{PortSlave, SideOrders};
 use check_keys::SystemFault;
 use check_lines::Names;
 use check_rows::PortNumbers;
-use check_turns::{Links, OrderedWatch, Paths, is_some_alone};
+use check_turns::{Links, OrderedWatch, Paths, Wiring, is_some_alone};
 use std::alloc::{AllocError, Global};
 use tl_map::{AddressMap, SourceOwners};
 
@@ -231,20 +231,18 @@ pub fn begin(
     let numbers = numbers_by(alloc, terms.links, &apart, &parts)?;
     let paths = Paths::new(parts.paths);
     let loads = Loads::of(alloc, parts.ports, images)?;
-    let watch = OrderedWatch::new(
-        alloc,
-        terms.links,
+    let wiring = Wiring {
+        links: terms.links,
         apart,
         fifos,
-        parts.rules,
-        parts.addresses,
+        rules: parts.rules,
+        map: parts.addresses,
         paths,
-        parts.sources,
-        buses.masters,
-        buses.ports,
-        slaves.shared,
-        slaves.own,
-    )?;
+        sources: parts.sources,
+        master_buses: buses.masters,
+        port_buses: buses.ports,
+    };
+    let watch = OrderedWatch::new(alloc, wiring, slaves.shared, slaves.own)?;
     Ok(Beginning {
         watch,
         names,

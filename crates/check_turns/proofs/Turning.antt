@@ -4,6 +4,7 @@ use Rattle.std.specs.Prelude.{◌&&◌, ◌==◌, is_some, slice_index_or}
 use Rattle.check_watch.specs.declared.beat.Link.{Link}
 use Rattle.check_watch.specs.Plan.{Plan, Sighting, is_fifo, is_link, link_number, side_of, source_of}
 use Rattle.check_watch.proofs.InFlight.{same_link}
+use Rattle.check_sides.specs.Groups.{is_any_set}
 use Rattle.check_turns.specs.Turns.{IsInTurn, answered_at, asked_at, begins_after, count_if, is_reply, is_request, next, number_of}
 use Rattle.check_turns.specs.View.{IsAfter, IsFresh, IsFreshBy, IsNotedBy, IsTurns, KeepsTurns, LinkTurnsView, TurnsView, number_in, turns_at, turns_in}
 
@@ -14,6 +15,14 @@ some_by true (Some one) is = refl
 some_by true None is = absurd is
 some_by false (Some one) is = absurd is
 some_by false None is = refl
+
+-- nothing is kept of a link of a side on which no link has its replies in order
+pub none_fresh : (flags : List Bool) (number : ℕ) → is_any_set flags ≡ false
+    → IsFreshBy (slice_index_or flags number false) (turns_in [] number)
+none_fresh [] number none = tt
+none_fresh (true ∷ flags) number none = absurd (let wrong : true ≡ false = none in cc)
+none_fresh (false ∷ flags) zero none = tt
+none_fresh (false ∷ flags) (suc number) none = none_fresh flags number none
 
 fresh_by : (flag : Bool) (one : LinkTurnsView) → IsFreshBy flag (Some one) → IsFresh one
 fresh_by true one is = is

@@ -20,6 +20,6 @@ mod watch;
 
 pub use check_sides::{
     Beat, Change, Ended, Fault, FifoLinks, Link, Links, Origin, Paths, Reason, Seen, SeenEntry,
-    StepError, is_port_alone, is_some_alone,
+    StepError, Wiring, is_port_alone, is_some_alone,
 };
 pub use watch::OrderedWatch;

@@ -6,6 +6,7 @@ ghost use Rattle.check_watch.specs.declared.beat.Link.{Link as SeenLink};
 ghost use Rattle.check_turns.specs.View.{IsFreshBy, IsNotedBy, IsTurnOf, turns_at, turns_in};
 
 use crate::link_turns::LinkTurns;
+use check_sides::is_any_set;
 use check_watch::{Beat, FifoLinks, Link};
 use std::alloc::{AllocError, Global};
 use std::marker::Model;
@@ -36,11 +37,14 @@ fn turns_by(alloc: Global, in_order: bool) -> Result<Option<LinkTurns>, AllocErr
     }
 }
 
-/// The same of the links of one side.
+/// The same of the links of one side; nothing of any link if none of them has its replies in order, so that nothing is looked up then.
 fn table_by(alloc: Global, flags: &[bool]) -> Result<Vec<Option<LinkTurns>>, AllocError>
     ensures { IfOk result (λ table. (number : ℕ)
         → IsFreshBy (slice_index_or flags.now number false) (turns_in table.items number)) }
 {
+    if !is_any_set(flags) {
+        return Ok(Vec::new(alloc));
+    }
     let mut table = Vec::with_capacity(alloc, flags.len())?;
     for in_order in flags {
         table.push(turns_by(alloc, *in_order)?)?;

@@ -6,7 +6,7 @@ ghost use Rattle.check_flight.specs.PortSlave.{PortSlave as SeenSlave};
 ghost use Rattle.check_watch.specs.Pending.{IsInLimit};
 ghost use Rattle.check_watch.specs.Plan.{RoutesAt, Sighting, seen_at};
 ghost use Rattle.check_watch.specs.View.{wides_in};
-ghost use Rattle.check_sides.specs.Groups.{are_apart, is_some_alone as is_some_by};
+ghost use Rattle.check_sides.specs.Groups.{are_apart};
 ghost use Rattle.check_sides.specs.Pending.{IsChange};
 ghost use Rattle.check_sides.specs.Plan.{Plan, IsPlan, HasLink, IsWatched, bus_of};
 ghost use Rattle.check_sides.specs.Reset.{IsReset, plan_after_reset};
@@ -14,13 +14,13 @@ ghost use Rattle.check_turns.specs.Lawful.{IsLawfulInOrder};
 ghost use Rattle.check_turns.specs.View.{KeepsOrdered};
 
 use crate::turns::Turns;
-use check_beats::{Bus, LinkRules};
+use check_beats::Bus;
 use check_flight::PortSlave;
 use check_memory::Slave;
-use check_sides::{Beat, Change, FifoLinks, Link, Links, Paths};
+use check_sides::{Beat, Change, Link, Links, Wiring};
 use std::alloc::{AllocError, Global};
 use std::marker::Model;
-use tl_map::{AddressMap, SourceOwners};
+use tl_map::SourceOwners;
 
 /// What a judge keeps of the beats so far.
 #[derive(Drop)]
@@ -40,71 +40,27 @@ impl Model for OrderedWatch {
 }
 
 impl OrderedWatch {
-    /// The judge of a crossbar with these rules, ports, paths and sources, before any beat. There is a slave for each port, the error
-    /// port's last, as it is at reset; a bus for each master's link, and one for each port's. A port that is flagged in `apart` is
-    /// judged by itself if both sides are watched. If some port is, slaves are given a second time, which the ports' links have by
-    /// themselves; otherwise that list is not looked at. `fifos` has the links whose replies come in order.
+    /// The judge of a crossbar that is wired so, before any beat. There is a slave for each port, the error port's last, as it is at
+    /// reset. A port that is flagged is judged by itself if both sides are watched. If some port is, slaves are given a second
+    /// time, which the ports' links have by themselves; otherwise that list is not looked at.
     pub fn new(
         alloc: Global,
-        links: Links,
-        apart: Vec<bool>,
-        fifos: FifoLinks,
-        rules: LinkRules,
-        map: AddressMap,
-        paths: Paths,
-        sources: SourceOwners,
-        master_buses: Vec<Bus>,
-        port_buses: Vec<Bus>,
+        wiring: Wiring,
         slaves: Vec<PortSlave>,
         own: Vec<PortSlave>,
     ) -> Result<OrderedWatch, AllocError>
-        requires slaves { length slaves.items ≡ length map + 1 }
-        requires masters { length master_buses.items ≡ length sources }
-        requires ports { length port_buses.items ≡ length map }
-        requires own { IsTrue (is_some_by links apart.items) → length own.items ≡ length map + 1 }
-        ensures layout { IfOk result (λ watch. watch.layout ≡ record {
-          links = links;
-          apart = apart.items;
-          fifos = fifos;
-          rules = rules;
-          owners = sources;
-          ports = map;
-          paths = paths;
-          master_buses = master_buses.items;
-          port_buses = port_buses.items;
-        }) }
+        requires slaves { length slaves.items ≡ length wiring.ports + 1 }
+        requires masters { length wiring.master_buses ≡ length wiring.owners }
+        requires ports { length wiring.port_buses ≡ length wiring.ports }
+        requires own { IsTrue (are_apart wiring) → length own.items ≡ length wiring.ports + 1 }
+        ensures layout { IfOk result (λ watch. watch.layout ≡ wiring) }
         ensures plan { IfOk result (λ watch.
             (plan : Plan) × (plan.resets ≡ slaves.items) × (plan.own ≡ own.items) × KeepsOrdered plan [] watch) }
-        ensures keeps { (plan : Plan) → IsPlan plan
-            → plan.layout ≡ record {
-              links = links;
-              apart = apart.items;
-              fifos = fifos;
-              rules = rules;
-              owners = sources;
-              ports = map;
-              paths = paths;
-              master_buses = master_buses.items;
-              port_buses = port_buses.items;
-            }
-            → plan.resets ≡ slaves.items → (IsTrue (is_some_by links apart.items) → plan.own ≡ own.items)
-            → IfOk result (KeepsOrdered plan []) }
+        ensures keeps { (plan : Plan) → IsPlan plan → plan.layout ≡ wiring → plan.resets ≡ slaves.items
+            → (IsTrue (are_apart wiring) → plan.own ≡ own.items) → IfOk result (KeepsOrdered plan []) }
     {
-        let turns = Turns::new(alloc, &fifos)?;
-        let beats = check_sides::Watch::new(
-            alloc,
-            links,
-            apart,
-            fifos,
-            rules,
-            map,
-            paths,
-            sources,
-            master_buses,
-            port_buses,
-            slaves,
-            own,
-        )?;
+        let turns = Turns::new(alloc, &wiring.fifos)?;
+        let beats = check_sides::Watch::new(alloc, wiring, slaves, own)?;
         Ok(OrderedWatch { beats, turns })
     }
 

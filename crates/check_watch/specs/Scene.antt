@@ -75,9 +75,9 @@ under_after under (D beat) known lanes = reply_crossed under beat known lanes
 
 -- ---- slaves
 
--- this port's slave accepts and answers requests as they are seen at this link: a port's own if the ports' links are
--- watched, else, and for the error port, all masters'. (What a request leaves and what it is answered does not depend on
--- its source.)
+-- this port's slave accepts and answers requests as they are seen at this link: at each port's link that is judged, and
+-- at the masters' links if requests to the port are not seen again at a port's link of the group. (What a request leaves
+-- and what it is answered does not depend on its source.)
 abbrev pub takes_effect : Layout → Link → ℕ → Bool
 takes_effect layout (Port p) port = true
 takes_effect layout (Master m) port = if crosses_at_port layout port then false else true

@@ -1,8 +1,8 @@
 //! The judge of what crossed the links of a crossbar, anyone's: which beat is the first that no lawful crossbar could
 //! have shown? Links have buses of 1 to 64 bytes; slaves are memories, known or unknown byte by byte, or devices.
 //!
-//! A [`GroupWatch`] is made of a system's address map, its paths ([`Paths`]), its sources, the bus of each link, the slave of each port at
-//! reset, and of which links are watched ([`Links`]). Sources and ports are as `tl_map` has them.
+//! A [`GroupWatch`] is made of how a crossbar is wired ([`Wiring`]), and of the slave of each port at reset. Sources and ports are as
+//! `tl_map` has them.
 //! [`GroupWatch::step`] takes one beat more. For every past that the judge keeps it answers `Ok` exactly if the list
 //! with this beat is lawful, and keeps that list then; an `Err` changes nothing, and is the first [`Fault`] that the
 //! beat has, or want of memory. An `Ok` says what the beat ends ([`Seen`]). [`GroupWatch::take`] takes a lawful beat
@@ -31,6 +31,7 @@ mod reset;
 mod seen;
 mod steps;
 mod watch;
+mod wiring;
 
 pub use beat::{Beat, Link};
 pub use fault::{Fault, Reason, StepError, fault_of};
@@ -41,3 +42,4 @@ pub use pending::{Change, Origin};
 pub use replies::{answer_reason, due_reason};
 pub use seen::{Ended, Seen, SeenEntry};
 pub use watch::GroupWatch;
+pub use wiring::Wiring;

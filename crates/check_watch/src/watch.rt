@@ -17,7 +17,7 @@ ghost use Rattle.check_watch.specs.View.{GroupView, IsSized, wides_in, SuitsGrou
 use crate::beat::{Beat, Link};
 use crate::fifos::FifoLinks;
 use crate::links::Links;
-use crate::paths::Paths;
+use crate::wiring::Wiring;
 use check_beats::{Bus, LinkRules, ReplyHead, UnderWay};
 use check_cells::Pattern;
 use check_flight::{Answer, Crossing, Flight, FlightPlace, Order, PortSlave, Side};
@@ -29,17 +29,7 @@ use tl_types::MAX_SIZE;
 /// What a judge keeps of the beats so far.
 #[derive(Drop)]
 pub struct GroupWatch {
-    links: Links,
-    /// Whether the link of a port is judged by itself.
-    apart: Vec<bool>,
-    /// At which links replies begin in the order of their requests. It is kept for those who judge that.
-    fifos: FifoLinks,
-    rules: LinkRules,
-    map: AddressMap,
-    paths: Paths,
-    sources: SourceOwners,
-    master_buses: Vec<Bus>,
-    port_buses: Vec<Bus>,
+    wiring: Wiring,
     pub(crate) masters: Side,
     pub(crate) ports: Side,
     pub(crate) crossings: Vec<Crossing>,
@@ -52,17 +42,7 @@ impl Model for GroupWatch {
     ghost Value = { GroupView };
 
     ghost view = { λ w. record {
-      layout = record {
-        links = w.links;
-        apart = w.apart.items;
-        fifos = w.fifos;
-        rules = w.rules;
-        owners = w.sources;
-        ports = w.map;
-        paths = w.paths;
-        master_buses = w.master_buses.items;
-        port_buses = w.port_buses.items;
-      };
+      layout = w.wiring;
       masters = w.masters;
       ports = w.ports;
       crossings = w.crossings.items;
@@ -70,17 +50,7 @@ impl Model for GroupWatch {
     } };
 
     ghost invariant = { λ w. IsSized (record {
-      layout = record {
-        links = w.links;
-        apart = w.apart.items;
-        fifos = w.fifos;
-        rules = w.rules;
-        owners = w.sources;
-        ports = w.map;
-        paths = w.paths;
-        master_buses = w.master_buses.items;
-        port_buses = w.port_buses.items;
-      };
+      layout = w.wiring;
       masters = w.masters;
       ports = w.ports;
       crossings = w.crossings.items;
@@ -112,68 +82,31 @@ fn fresh_crossings(alloc: Global, count: usize) -> Result<Vec<Crossing>, AllocEr
 }
 
 impl GroupWatch {
-    /// The judge of a crossbar with these rules, ports, paths and sources, before any beat. There is a slave for each port, the error
-    /// port's last, as it is at reset; a bus for each master's link, and one for each port's. If both sides are watched, ports that
-    /// are flagged are not compared across: their links are none of those that are judged here.
+    /// The judge of a crossbar that is wired so, before any beat. There is a slave for each port, the error port's last, as it is at
+    /// reset. If both sides are watched, ports that are flagged are not compared across: their links are none of those that are
+    /// judged here.
     pub fn new(
         alloc: Global,
-        links: Links,
-        apart: Vec<bool>,
-        fifos: FifoLinks,
-        rules: LinkRules,
-        map: AddressMap,
-        paths: Paths,
-        sources: SourceOwners,
-        master_buses: Vec<Bus>,
-        port_buses: Vec<Bus>,
+        wiring: Wiring,
         slaves: Vec<PortSlave>,
     ) -> Result<GroupWatch, AllocError>
-        requires slaves { length slaves.items ≡ length map + 1 }
-        requires masters { length master_buses.items ≡ length sources }
-        requires ports { length port_buses.items ≡ length map }
-        ensures layout { IfOk result (λ watch. watch.layout ≡ record {
-          links = links;
-          apart = apart.items;
-          fifos = fifos;
-          rules = rules;
-          owners = sources;
-          ports = map;
-          paths = paths;
-          master_buses = master_buses.items;
-          port_buses = port_buses.items;
-        }) }
+        requires slaves { length slaves.items ≡ length wiring.ports + 1 }
+        requires masters { length wiring.master_buses ≡ length wiring.owners }
+        requires ports { length wiring.port_buses ≡ length wiring.ports }
+        ensures layout { IfOk result (λ watch. watch.layout ≡ wiring) }
         ensures plan { IfOk result (λ watch. (plan : Plan) × (plan.resets ≡ slaves.items) × KeepsGroup plan [] watch) }
-        ensures keeps { (plan : Plan) → IsPlan plan
-            → plan.layout ≡ record {
-              links = links;
-              apart = apart.items;
-              fifos = fifos;
-              rules = rules;
-              owners = sources;
-              ports = map;
-              paths = paths;
-              master_buses = master_buses.items;
-              port_buses = port_buses.items;
-            }
-            → plan.resets ≡ slaves.items → IfOk result (KeepsGroup plan []) }
+        ensures keeps { (plan : Plan) → IsPlan plan → plan.layout ≡ wiring → plan.resets ≡ slaves.items
+            → IfOk result (KeepsGroup plan []) }
     {
         // these two are called for their clauses: no two masters share a source, and each request has one port
-        let _owners = sources.masters();
-        let _slots = map.ports();
-        let wides = sources.wides();
-        let masters = Side::new(alloc, &master_buses, wides)?;
-        let ports = Side::new(alloc, &port_buses, wides)?;
+        let _owners = wiring.sources.masters();
+        let _slots = wiring.map.ports();
+        let wides = wiring.sources.wides();
+        let masters = Side::new(alloc, &wiring.master_buses, wides)?;
+        let ports = Side::new(alloc, &wiring.port_buses, wides)?;
         let crossings = fresh_crossings(alloc, wides)?;
         Ok(GroupWatch {
-            links,
-            apart,
-            fifos,
-            rules,
-            map,
-            paths,
-            sources,
-            master_buses,
-            port_buses,
+            wiring,
             masters,
             ports,
             crossings,
@@ -186,12 +119,13 @@ impl GroupWatch {
         ensures { IsTrue result
             ↔ (HasLink self.now.layout link × IsGroupLink self.now.layout link) }
     {
-        match (link, self.links) {
+        match (link, self.wiring.links) {
             (Link::Master(master), Links::Both | Links::Masters | Links::Each) => {
-                master < self.sources.masters()
+                master < self.wiring.sources.masters()
             }
-            (Link::Port(port), Links::Both) => port < self.map.ports() - 1 && !self.is_apart(port),
-            (Link::Port(port), Links::Ports) => port < self.map.ports() - 1,
+            (Link::Port(port), Links::Both) => port < self.wiring.map.ports() - 1
+                && !self.is_apart(port),
+            (Link::Port(port), Links::Ports) => port < self.wiring.map.ports() - 1,
             (Link::Master(_), Links::Ports) | (Link::Port(_), Links::Masters | Links::Each) =>
                 false,
         }
@@ -201,21 +135,21 @@ impl GroupWatch {
     pub fn links(&self) -> Links
         ensures { result ≡ self.now.layout.links }
     {
-        self.links
+        self.wiring.links
     }
 
     /// A flag for each port: whether messages to it are not compared across. A port that is not in the list has none.
     pub fn apart(&self) -> &[bool]
         ensures { result.now ≡ self.now.layout.apart }
     {
-        &self.apart
+        &self.wiring.apart
     }
 
     /// Whether messages to a port are not compared across.
     pub fn is_apart(&self, port: usize) -> bool
         ensures { result ≡ is_apart self.now.layout port }
     {
-        match self.apart.get(port) {
+        match self.wiring.apart.get(port) {
             Some(apart) => *apart,
             None => false,
         }
@@ -225,28 +159,28 @@ impl GroupWatch {
     pub fn fifos(&self) -> &FifoLinks
         ensures { result.now ≡ self.now.layout.fifos }
     {
-        &self.fifos
+        &self.wiring.fifos
     }
 
     /// What the links may do beyond the standard.
     pub fn rules(&self) -> LinkRules
         ensures { result ≡ self.now.layout.rules }
     {
-        self.rules
+        self.wiring.rules
     }
 
     /// The wide sources of the masters.
     pub fn sources(&self) -> &SourceOwners
         ensures { result.now ≡ self.now.layout.owners }
     {
-        &self.sources
+        &self.wiring.sources
     }
 
     /// The address map of the ports.
     pub fn map(&self) -> &AddressMap
         ensures { result.now ≡ self.now.layout.ports }
     {
-        &self.map
+        &self.wiring.map
     }
 
     /// The bus of a link.
@@ -339,8 +273,8 @@ impl GroupWatch {
     {
         self.sized();
         match link {
-            Link::Master(master) => self.sources.widen(master, source),
-            Link::Port(_) => owned(&self.sources, source),
+            Link::Master(master) => self.wiring.sources.widen(master, source),
+            Link::Port(_) => owned(&self.wiring.sources, source),
         }
     }
 
@@ -350,11 +284,14 @@ impl GroupWatch {
         ensures port { (port : ℕ) → (result ≡ port) ↔ RoutesAt self.now.layout master address size port }
         ensures in_ports { result < length self.now.slaves }
     {
-        let found = self.map.route_bytes(address, self.rules.decoded_size(size));
-        if self.paths.has(master, found) {
+        let found = self
+            .wiring
+            .map
+            .route_bytes(address, self.wiring.rules.decoded_size(size));
+        if self.wiring.paths.has(master, found) {
             found
         } else {
-            self.map.ports() - 1
+            self.wiring.map.ports() - 1
         }
     }
 
@@ -395,7 +332,7 @@ impl GroupWatch {
         requires { size ≤ MAX_SIZE }
         ensures { IsTrue result ↔ RoutesWide self.now.layout wide address size port }
     {
-        match self.sources.owner(wide) {
+        match self.wiring.sources.owner(wide) {
             Some((master, _source)) => self.route(master, address, size) == port,
             None => false,
         }
@@ -406,14 +343,16 @@ impl GroupWatch {
         ensures value { result ≡ are_both self.now.layout.links }
         ensures both { IsTrue result ↔ (self.now.layout.links ≡ Links.Both) }
     {
-        matches!(self.links, Links::Both)
+        matches!(self.wiring.links, Links::Both)
     }
 
     /// Whether requests to a port are seen on both sides, and compared.
     fn crosses(&self, port: usize) -> bool
         ensures { result ≡ crosses_at_port self.now.layout port }
     {
-        matches!(self.links, Links::Both) && port < self.map.ports() - 1 && !self.is_apart(port)
+        matches!(self.wiring.links, Links::Both)
+            && port < self.wiring.map.ports() - 1
+            && !self.is_apart(port)
     }
 
     /// Whether the reply that must come at a link is what a port gave.
@@ -526,6 +465,6 @@ impl GroupWatch {
         ensures ports { length self.now.ports.flights ≡ wides_in self.now }
     {
         // an invariant is known once a field is used
-        let _ = &self.links;
+        let _ = &self.wiring.links;
     }
 }

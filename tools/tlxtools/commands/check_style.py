@@ -22,7 +22,7 @@ import urllib.parse
 
 from tlxtools.crate_list import TOP
 from tlxtools.markdown import anchors, headings, prose, rewrapped
-from tlxtools.tree import files, read, shell_of
+from tlxtools.tree import files, is_made, read, shell_of
 
 LINK = re.compile(r"!?\[[^\[\]]*\]\(([^()\s]+)\)(?:, \"([^\"]+)\")?")
 # a page that a text names from the top of the repository, with a heading of it or without
@@ -110,7 +110,7 @@ def paths(top):
     """For each path between backticks in a Markdown file: its place, and whether there is no such file."""
     for path in files(top, ".md"):
         whole, _, _ = page_of(top, path)
-        for found in PATH.finditer("" if path.startswith("docs/reference/") else whole):
+        for found in PATH.finditer("" if is_made(path) else whole):
             name = found.group(1)
             places = (name, os.path.join("crates", name), os.path.join(os.path.dirname(path), name))
             is_there = STANDS_FOR.search(name) or any(os.path.exists(os.path.join(top, place)) for place in places)
@@ -128,12 +128,12 @@ def widths(top):
 
 
 def wrap(top):
-    """Wraps paragraphs that are too wide, ten characters below the width. The pages of docs/reference are made by a tool."""
+    """Wraps paragraphs that are too wide, ten characters below the width, but for pages that a tool makes."""
     most = width_of(top, ".md")
     for path in files(top, ".md"):
         old = read(top, path)
         new = rewrapped(old, most, most - 10)
-        if new != old and not path.startswith("docs/reference/"):
+        if new != old and not is_made(path):
             with open(os.path.join(top, path), "w", encoding="utf-8") as file:
                 file.write(new)
             print(path)

@@ -3,8 +3,34 @@
     tools/draft [--top SCOPE] DUMP >system.toml
 
 DUMP is a file, or standard input if it is `-`. With --top only the links in this scope are taken. What a dump can't tell stands in a line
-that begins with `# TODO`; when all of them are filled in, tlvcd takes the file. docs/guide/your_rtl.md has the rules ("A system file to begin
-with"). Nothing of it is proved: look at what was drafted before you trust a verdict.
+that begins with `# TODO`; when all of them are filled in, tlvcd takes the file. docs/guide/your_rtl.md leads through it. Nothing of it is
+proved: look at what was drafted before you trust a verdict.
+
+What is drafted:
+
+    a link             a prefix, at the top or after a character that is no letter or digit, with a_valid, a_opcode, a_address, d_valid and
+                       d_opcode. Chisel's names count, and d_error for d_denied
+    one of two structs a prefix with a_valid whose replies have _o for _i, _i for _o, d2h for h2d, or rsp for req; the dump has to name
+                       their members
+    an array           an array of signals in `wires`, the highest index first: look whether that one has the highest lanes
+    one in several scopes  the outermost; a comment names the others
+    signals, wires     `signals` if all names are the standard's (d_denied may have another); with `bits = true` if all are Chisel's; else
+                       `wires`
+    a missing signal   "-" for d_corrupt, and in `wires` for a_corrupt and d_param; "0" for a_param and d_denied, and for the two sources if
+                       both are missing. Name the others
+    name               the shortest end of the link's name, by whole scopes, that no other link has
+    bus                from the width of a_data, else of d_data
+    sources            the greatest source that crossed, and one more
+    kind, base, length yours. A comment has the first and the last byte that was asked for, and the least aligned power of two around them
+    clock, reset       the outermost signal of one bit, first in the scopes of links, that is called clk, clock, clk_i or aclk; reset, rst,
+                       rst_n, rst_ni, resetn, reset_n or aresetn. Several nets are listed
+    reset_active       "low" if the name has an n after rst or reset; if its last value is not the other one, choose
+
+A link is a master's if the last part of its name (tb.dut.cpu_), else the scope that it stands in (tb.cpu.link_), has the word host, master,
+client or cpu. It is a port's if that has device, slave, ram, dram, sram or port. With neither it is a master's if the last part has `in`
+(auto_in_1_), and a port's if it has `out`. Words stand between dots, underscores and brackets; case, and digits at their end, do not count.
+If words disagree, or none is there, the link stands there as both, in comments. A draft names one clock: give a link that has another one
+its own `clock`.
 
 DUMP is read once. What crosses is counted at rising edges of the clock, outside the reset; if no clock or several are found, nothing is
 counted. A net that the dump declares bit by bit counts as one vector, and an escaped name of Icarus without its backslash.
@@ -26,7 +52,7 @@ LEFT_OUT = ("a_corrupt", "d_param", "d_corrupt")
 LOW_RESETS = ("rst_n", "rst_ni", "resetn", "reset_n", "aresetn")
 RESETS = ("reset", "rst", *LOW_RESETS)
 HEAD = """\
-# Drafted by tools/draft from the names of a dump. Fill in what begins with "# TODO" (docs/guide/your_rtl.md, "A system file to begin with").
+# Drafted by tools/draft from the names of a dump. Fill in what begins with "# TODO" (docs/guide/your_rtl.md, "Fill in what is left").
 """
 
 
@@ -185,6 +211,9 @@ def parsed(words):
 
 
 def main():
+    if sys.argv[1:] in (["--help"], ["-h"]):
+        print(__doc__.strip())
+        return 0
     found = parsed(sys.argv[1:])
     if found is None:
         print(f"draft: {USAGE}", file=sys.stderr)

@@ -5,7 +5,10 @@
 If the capture is unlawful: the beat, the request that it belongs to, and what should stand where something else stands. Of a wrong reply,
 for each wrong byte: which request wrote what was expected, and where the captured byte comes from. Of a request that has waited for too long:
 for how long, and where. Then on which side the fault lies, what was in flight, and what to look at. If requests are left: all of them, and how
-far each has come. The status is that of tlcheck. With --json the same stands in one object (docs/reference/captures.md).
+far each has come. The status is that of tlcheck. With --json the same stands in one object:
+verdict, line, time, seen, link, channel, why, where, request, other_side, bytes (first, last, expected, captured, expected_from, captured_from,
+writer), orders, in_flight and look_at. `seen` is the time at which the fault shows: that of the beat, and of a request that waits the first
+one after the limit.
 
 CAPTURE is a file, or standard input if it is left out or `-`. A value change dump goes through tlvcd. --html writes one page with a picture
 of the beats before the fault. --gtkw writes a save file of GTKWave for a fault in a dump.

@@ -107,13 +107,17 @@ def parsed():
     """The words of the command line."""
     parser = argparse.ArgumentParser(description="Measures what the links of a capture carried, and how long replies took.")
     parser.add_argument("system", metavar="SYSTEM")
-    parser.add_argument("capture", metavar="CAPTURE", nargs="?", default="-", help="a capture or a dump; - is standard input")
-    parser.add_argument("--period", type=period_of, default=1, metavar="N", help="units of the capture's time that a clock has (1)")
-    parser.add_argument("--links", choices=sorted(SIDES), default="each", help="the links that were watched, as tlcheck has them (each)")
+    parser.add_argument("capture", metavar="CAPTURE", nargs="?", default="-", help="a capture, or a dump, which begins with $; - is standard input")
+    parser.add_argument("--period", type=period_of, default=1, metavar="N", help="units of the capture's time that a clock has (1). "
+                        "Two beats of a channel that are nearer are a mistake")
+    parser.add_argument("--links", choices=sorted(SIDES), default="each", help="the links that were watched, as tlcheck has them (each). "
+                        "Others are not measured")
     parser.add_argument("--order", choices=ORDER_WORDS, default="any", metavar="ORDER", help="when requests take effect, as tlcheck has it (any)")
-    parser.add_argument("--csv", metavar="FILE", help="also the figures as CSV")
-    parser.add_argument("--json", action="store_true", help="one object in place of the table")
-    parser.add_argument("--html", metavar="PAGE", help="also one HTML page with plots over time")
+    parser.add_argument("--csv", metavar="FILE", help="also the figures, with a line of heads")
+    parser.add_argument("--json", action="store_true", help="one object in place of the table: verdict, rows, period, first, "
+                        "last, clocks and measures")
+    parser.add_argument("--html", metavar="PAGE", help="also one page with no script: for each link the table, and plots over time "
+                        "in 200 steps of bytes a clock, latency, requests in flight and busy clocks")
     return parser.parse_args()
 
 

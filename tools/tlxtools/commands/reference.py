@@ -1,5 +1,7 @@
 """Writes docs/reference: a page for each crate, with what its lib.rt says, each definition of its specs/ with the comment above it, and each
-public type and call of its src/ with its doc comment, its signature and its clauses: tools/reference [--check | --bare].
+public type and call of its src/ with its doc comment, its signature and its clauses: tools/reference [--check | --bare]. keys.md and causes.md
+are made of tools/tlxtools/system_keys.py and tools/tlxtools/causes.py (tools/tlxtools/reference_tables.py). The pages of BY_HAND
+(tools/tlxtools/tree.py) are left as they are.
 
 --check  writes nothing, and compares the pages with what would be written; it also fails if there are more definitions without a
          comment than MOST_BARE. The last line is 'N passed, M failed'. The gate does so.
@@ -7,12 +9,14 @@ public type and call of its src/ with its doc comment, its signature and its cla
 """
 
 import os
+import re
 import sys
 
 from tlxtools.crate_list import TOP, crates
 from tlxtools.reference_page import Places, index_of, page_of
 from tlxtools.reference_source import Crate
-from tlxtools.tree import read
+from tlxtools.reference_tables import tables
+from tlxtools.tree import BY_HAND, is_made, read
 
 # How many definitions may have no comment: none, so a new one needs its own.
 MOST_BARE = 0
@@ -30,20 +34,28 @@ def families(top):
     return found
 
 
+def first_pages(top):
+    """The pages that are of no crate, each with its first sentence below the heading, which says who its reader is."""
+    texts = {name: read(top, f"{PAGES}/{name}.md") for name in BY_HAND if os.path.exists(os.path.join(top, PAGES, f"{name}.md"))} | tables()
+    for name in ("formats", "keys", "captures", "faults", "causes"):
+        if name in texts:
+            yield f"{name}.md", re.split(r"(?<=\.)\s", texts[name].partition("\n\n")[2], maxsplit=1)[0]
+
+
 def pages(top, read_crates):
     """The text of each page by its path."""
     # programs and crates of tests offer nothing
     offering = {crate.name: crate for crate in read_crates if crate.items or crate.definitions()}
     places = Places(offering.values())
     texts = {f"{PAGES}/{name}.md": page_of(places, crate) for name, crate in offering.items()}
-    return {f"{PAGES}/README.md": index_of(families(top), offering), **texts}
+    return {f"{PAGES}/README.md": index_of(families(top), offering, first_pages(top)), **texts}
 
 
 def write(top, texts):
     """Writes the pages, and removes those that are not among them."""
     os.makedirs(os.path.join(top, PAGES), exist_ok=True)
     for name in os.listdir(os.path.join(top, PAGES)):
-        if f"{PAGES}/{name}" not in texts:
+        if is_made(f"{PAGES}/{name}") and f"{PAGES}/{name}" not in texts:
             os.remove(os.path.join(top, PAGES, name))
     for path, text in texts.items():
         with open(os.path.join(top, path), "w", encoding="utf-8") as file:
@@ -53,7 +65,7 @@ def write(top, texts):
 def stale(top, texts):
     """For each page that is there or should be: what is wrong with it, nothing if it is right."""
     folder = os.path.join(top, PAGES)
-    there = {f"{PAGES}/{name}" for name in os.listdir(folder)} if os.path.isdir(folder) else set()
+    there = {f"{PAGES}/{name}" for name in os.listdir(folder) if is_made(f"{PAGES}/{name}")} if os.path.isdir(folder) else set()
     for path in sorted(there | set(texts)):
         if path not in texts:
             yield f"{path}: no crate has this page"
@@ -88,7 +100,7 @@ def main(words, top=TOP):
         for line in bare:
             print(line)
         return 0
-    texts = pages(top, read_crates)
+    texts = pages(top, read_crates) | {f"{PAGES}/{name}.md": text for name, text in tables().items()}
     if words:
         return check(top, texts, len(bare))
     write(top, texts)

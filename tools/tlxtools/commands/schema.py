@@ -1,7 +1,7 @@
-"""Prints the JSON Schema (draft 2020-12) of system files, by the rows of tools/tlxtools/system_keys.py: tools/schema [--table].
+"""Prints the JSON Schema (draft 2020-12) of system files, by the rows of tools/tlxtools/system_keys.py: tools/schema.
 
 docs/system.schema.json holds what it prints. With this file an editor completes and checks a system file while it is written (docs/reference/formats.md,
-"In an editor"). With --table it prints the table of docs/reference/formats.md, "The system file".
+"In an editor"). The table of docs/reference/keys.md is made of the same rows (tools/reference).
 
 The schema has the keys of each table, with their types, ranges and words. It says which keys have to be there, and which do not stand beside others.
 It says of signals what is right for a dump. What depends on another value is left to ./tlcheck --lint, as whether a name of `reach` is that of a port.
@@ -73,19 +73,12 @@ def schema_text():
     return json.dumps(schema(), indent=2) + "\n"
 
 
-def page_text():
-    """The table of docs/reference/formats.md."""
-    rows = [("Key", "Type", "Range", "Absent", "Meaning"), *page_rows()]
-    lines = ["|" + "".join(f" {said} |" if said else " |" for said in row) for row in rows]
-    return "\n".join([lines[0], "|---" * len(rows[0]) + "|", *lines[1:]]) + "\n"
-
-
 def main(words):
     if words in (["--help"], ["-h"]):
         print(__doc__.strip())
-    elif words in ([], ["--table"]):
-        sys.stdout.write(page_text() if words else schema_text())
+    elif not words:
+        sys.stdout.write(schema_text())
     else:
-        print("usage: tools/schema [--table]", file=sys.stderr)
+        print("usage: tools/schema", file=sys.stderr)
         return 64
     return 0

@@ -295,12 +295,15 @@ def up_to(most):
 def main():
     parser = argparse.ArgumentParser(prog="tools/stimulate", description="Writes a script of random operations for a system.", allow_abbrev=False)
     parser.add_argument("system", metavar="SYSTEM")
-    parser.add_argument("--seed", type=number, required=True, help="the same seed gives the same script")
+    parser.add_argument("--seed", type=number, required=True, help="below 2^64; the same words give the same script on any machine")
     parser.add_argument("--ops", type=number, required=True, help="how many operations, of all masters together")
-    parser.add_argument("--mix", metavar="FILE", help="weights, as a TOML document")
-    parser.add_argument("--limits", choices=("tlx", "judge"), default="tlx", help="whose limits the script keeps")
-    parser.add_argument("--max-size", type=up_to(MAX_SIZE), default=MAX_SIZE, metavar="N", help="the greatest size: messages of 2^N bytes")
-    parser.add_argument("--address-bits", type=up_to(64), default=64, metavar="N", help="addresses lie below 2^N")
+    parser.add_argument("--mix", metavar="FILE", help="other weights, as a TOML document")
+    parser.add_argument("--limits", choices=("tlx", "judge"), default="tlx", help="tlx: 15 ports of one range and 65,536 bytes, 16 masters of 256 "
+                        "sources and 4,096 lines, 1,048,576 bytes of text. A script that passes one of them is refused, and so is a system with images, "
+                        "unknown or volatile bytes, tables of sizes or devices. judge: no limits: a system file with operations, for a testbench; "
+                        "tlcheck reads it too. It names the images that SYSTEM names, so it belongs in the folder of SYSTEM. Default: tlx")
+    parser.add_argument("--max-size", type=up_to(MAX_SIZE), default=MAX_SIZE, metavar="N", help="messages have 2^N bytes at most (8)")
+    parser.add_argument("--address-bits", type=up_to(64), default=64, metavar="N", help="addresses lie below 2^N (64)")
     words = parser.parse_args()
     try:
         mix = read_mix(words.mix) if words.mix else MIX

@@ -9,7 +9,7 @@ import re
 import sys
 
 from tlxtools.crate_list import TOP
-from tlxtools.tree import files, read
+from tlxtools.tree import BY_HAND, files, read
 
 # The kinds, each with what the path of a file begins with or has; the first that fits counts.
 KINDS = (
@@ -21,7 +21,7 @@ KINDS = (
     ("header, Python, hdl", r"include/|python/|hdl/"),
     ("tools", r"tools/|\.ci/|[^/.]*$"),
     ("bench", r"bench/"),
-    ("reference", r"docs/reference/"),
+    ("reference", rf"docs/reference/(?!(?:{'|'.join(BY_HAND)})\.md$)"),
     ("docs", r"docs/|[^/]*\.md$"),
     ("examples", r"examples/"),
     ("other", r""),

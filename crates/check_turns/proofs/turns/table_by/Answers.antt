@@ -1,10 +1,15 @@
--- One link more.
-use Rattle.std.proofs.Common.{◌≡◌, ◌++◌, [], ◌∷◌, get_or, Bool, List, Option, false, length, take, sym, subst, arith}
+-- No link, or one link more.
+use Rattle.std.proofs.Common.{◌≡◌, ◌∙◌, ◌++◌, [], ◌∷◌, get_or, Bool, List, Option, false, length, take, sym, subst, arith}
 use Rattle.std.specs.Prelude.{slice_index_or}
 use Rattle.std.proofs.lemmas.List.{length-take-le, take_more}
 use Rattle.check_turns.specs.View.{IsFreshBy, LinkTurnsView, turns_in}
-use Rattle.check_turns.proofs.Turning.{more_fresh}
+use Rattle.check_turns.proofs.Turning.{more_fresh, none_fresh}
 use Rattle.check_turns.proofs.turns.table_by.Goals as goal
+
+pub returns-then-not-is_any_set : goal.returns-then-not-is_any_set
+returns-then-not-is_any_set c number =
+    subst (λ (l : List (Option LinkTurnsView)). IsFreshBy (slice_index_or c.args.flags.now number false) (turns_in l number))
+    (sym c.new.ensures.items) (none_fresh c.args.flags.now number (sym c.is_any_set.ensures ∙ c.if-not-is_any_set.true))
 
 pub loop-in_order-preserved : goal.loop-in_order-preserved
 loop-in_order-preserved c =

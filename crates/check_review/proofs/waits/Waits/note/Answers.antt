@@ -30,11 +30,11 @@ returns-in-Some-clause-noted c = λ plan rows lanes layout is_plan lawful same.
     let owners : c.sources.result.now ≡ plan.layout.owners = c.sources.ensures ∙ ap (λ (l : Layout). l.owners) layout in
     let counted : is_counted plan.layout.links link ≡ true =
     ap (λ (l : Links). is_counted l link) (sym links) ∙ sym c.is_counted.ensures ∙ c.if-not-is_counted.false in
-    let found : c.wide_source.result ≡ Some (wide_at plan row.sighting) =
-    found_wide plan (beats_of rows) row.sighting is_plan lawful counted c.sources.result.now c.wide_source.result owners
-    (λ number wide is. subst (λ (s : ℕ). (c.wide_source.result ≡ Some wide) ↔ IsWideSource c.sources.result.now number s wide)
-    c.source.ensures (c.wide_source.ensures.master number wide is))
-    (λ number is. c.wide_source.ensures.port number is ∙ ap (λ (s : ℕ). Some s) c.source.ensures) in
+    let found : c.wide_source_at.result ≡ Some (wide_at plan row.sighting) =
+    found_wide plan (beats_of rows) row.sighting is_plan lawful counted c.sources.result.now c.wide_source_at.result owners
+    (λ number wide is. subst (λ (s : ℕ). (c.wide_source_at.result ≡ Some wide) ↔ IsWideSource c.sources.result.now number s wide)
+    c.source.ensures (c.wide_source_at.ensures.master number wide is))
+    (λ number is. c.wide_source_at.ensures.port number is ∙ ap (λ (s : ℕ). Some s) c.source.ensures) in
     let wide : c.in-Some.wide ≡ wide_at plan row.sighting =
     same_Some c.in-Some.wide (wide_at plan row.sighting) (sym c.in-Some.is ∙ found) in
     let after : List Waiting → List Waiting =
@@ -53,9 +53,9 @@ returns-in-None-clause-noted c = λ plan rows lanes layout is_plan lawful same.
     let owners : c.sources.result.now ≡ plan.layout.owners = c.sources.ensures ∙ ap (λ (l : Layout). l.owners) layout in
     let counted : is_counted plan.layout.links link ≡ true =
     ap (λ (l : Links). is_counted l link) (sym links) ∙ sym c.is_counted.ensures ∙ c.if-not-is_counted.false in
-    let found : c.wide_source.result ≡ Some (wide_at plan row.sighting) =
-    found_wide plan (beats_of rows) row.sighting is_plan lawful counted c.sources.result.now c.wide_source.result owners
-    (λ number wide is. subst (λ (s : ℕ). (c.wide_source.result ≡ Some wide) ↔ IsWideSource c.sources.result.now number s wide)
-    c.source.ensures (c.wide_source.ensures.master number wide is))
-    (λ number is. c.wide_source.ensures.port number is ∙ ap (λ (s : ℕ). Some s) c.source.ensures) in
+    let found : c.wide_source_at.result ≡ Some (wide_at plan row.sighting) =
+    found_wide plan (beats_of rows) row.sighting is_plan lawful counted c.sources.result.now c.wide_source_at.result owners
+    (λ number wide is. subst (λ (s : ℕ). (c.wide_source_at.result ≡ Some wide) ↔ IsWideSource c.sources.result.now number s wide)
+    c.source.ensures (c.wide_source_at.ensures.master number wide is))
+    (λ number is. c.wide_source_at.ensures.port number is ∙ ap (λ (s : ℕ). Some s) c.source.ensures) in
     absurd (none-some (wide_at plan row.sighting) (sym c.in-None.is ∙ found))

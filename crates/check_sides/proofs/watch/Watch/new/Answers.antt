@@ -3,29 +3,31 @@ use Rattle.std.specs.Prelude.{IsTrue}
 use Rattle.check_beats.specs.declared.bus.Bus.{Bus}
 use Rattle.check_flight.specs.PortSlave.{PortSlave}
 use Rattle.check_watch.specs.Plan.{IsPlan, Layout, Plan}
-use Rattle.check_sides.specs.Groups.{are_apart, is_some_alone}
+use Rattle.check_sides.specs.Groups.{are_apart}
 use Rattle.check_sides.specs.View.{HaveBuses, Keeps, PortView, View, fresh_links}
 use Rattle.check_sides.proofs.Fresh.{fresh_buses, fresh_keeps, length-fresh_links}
 use Rattle.check_sides.proofs.watch.Watch.new.Goals as goal
 
 -- the links that were made
 made : (c : goal.In_ok-shared)
-    → c.in_ok-ports.ports.items ≡ fresh_links c.args.port_buses.items c.args.own.items
-made c = c.in_ok-ports.ensures ∙ ap (λ (b : List Bus). fresh_links b c.args.own.items) c.deref.ensures.value
+    → c.in_ok-ports.ports.items ≡ fresh_links c.args.wiring.port_buses c.args.own.items
+made c =
+    let buses = c.deref.ensures.value ∙ ap (λ (l : Layout). l.port_buses) c.wiring.view_is in
+    c.in_ok-ports.ensures ∙ ap (λ (b : List Bus). fresh_links b c.args.own.items) buses
 
 pub invariant_of-result : goal.invariant_of-result
 invariant_of-result c = record {
   ports = λ apart.
       let own = c.requires.own (subst (λ (l : Layout). IsTrue (are_apart l)) c.in_ok-shared.ensures.layout apart) in
-      let fits : length c.args.port_buses.items ≤ length c.args.own.items =
+      let fits : length c.args.wiring.port_buses ≤ length c.args.own.items =
       omega (arith, own, c.requires.ports) in
       let links = ap (λ (l : List PortView). length l) (made c)
-      ∙ length-fresh_links c.args.port_buses.items c.args.own.items fits in
+      ∙ length-fresh_links c.args.wiring.port_buses c.args.own.items fits in
       let ports = ap (λ (l : Layout). length l.ports) c.in_ok-shared.ensures.layout in
       omega (arith, links, ports, c.requires.ports);
   buses = subst (λ (l : List PortView). HaveBuses l c.in_ok-shared.shared.layout.port_buses) (sym (made c))
-      (subst (λ (l : Layout). HaveBuses (fresh_links c.args.port_buses.items c.args.own.items) l.port_buses)
-      (sym c.in_ok-shared.ensures.layout) (fresh_buses c.args.port_buses.items c.args.own.items));
+      (subst (λ (l : Layout). HaveBuses (fresh_links c.args.wiring.port_buses c.args.own.items) l.port_buses)
+      (sym c.in_ok-shared.ensures.layout) (fresh_buses c.args.wiring.port_buses c.args.own.items));
 }
 
 abbrev made_of : goal.In_ok-shared → View
@@ -35,25 +37,14 @@ made_of c = record {
   ports = c.in_ok-ports.ports.items;
 }
 
-keeps_by : (c : goal.In_ok-shared) (plan : Plan) → IsPlan plan
-    → plan.layout ≡ record {
-      links = c.args.links;
-      apart = c.args.apart.items;
-      fifos = c.args.fifos;
-      rules = c.args.rules;
-      owners = c.args.sources;
-      ports = c.args.map;
-      paths = c.args.paths;
-      master_buses = c.args.master_buses.items;
-      port_buses = c.args.port_buses.items;
-    }
-    → plan.resets ≡ c.args.slaves.items → (IsTrue (is_some_alone c.args.links c.args.apart.items) → plan.own ≡ c.args.own.items)
+keeps_by : (c : goal.In_ok-shared) (plan : Plan) → IsPlan plan → plan.layout ≡ c.args.wiring
+    → plan.resets ≡ c.args.slaves.items → (IsTrue (are_apart c.args.wiring) → plan.own ≡ c.args.own.items)
     → Keeps plan [] (made_of c)
 keeps_by c plan lawful layout resets own =
     fresh_keeps plan (made_of c) lawful (c.in_ok-shared.ensures.layout ∙ sym layout)
     (c.in_ok-shared.ensures.keeps plan lawful layout resets)
     (λ apart. made c
-    ∙ ap (λ (s : List PortSlave). fresh_links c.args.port_buses.items s)
+    ∙ ap (λ (s : List PortSlave). fresh_links c.args.wiring.port_buses s)
     (sym (own (subst (λ (l : Layout). IsTrue (are_apart l)) layout apart)))
     ∙ ap (λ (l : Layout). fresh_links l.port_buses plan.own) (sym layout))
 

@@ -8,7 +8,7 @@ use Rattle.check_turns.proofs.Turning.{fresh_turns}
 use Rattle.check_turns.proofs.watch.OrderedWatch.new.Goals as goal
 
 -- the judge of beats keeps them, and no message has begun
-kept : (c : goal.In_ok-beats) (plan : Plan) → c.in_ok-beats.beats.layout ≡ plan.layout → c.args.fifos ≡ plan.layout.fifos
+kept : (c : goal.In_ok-beats) (plan : Plan) → c.in_ok-beats.beats.layout ≡ plan.layout → c.args.wiring.fifos ≡ plan.layout.fifos
     → sides.Keeps plan [] c.in_ok-beats.beats
     → KeepsOrdered plan [] (record {
       layout = c.in_ok-beats.beats.layout;
@@ -20,8 +20,8 @@ kept c plan layout fifos beats = record {
   lawful = record { beats = beats.lawful; turns = tt };
   beats = beats;
   turns = fresh_turns plan c.in_ok-turns.turns
-      (λ link. subst (λ (f : FifoFlags). IsFreshBy (is_fifo_by f link) (turns_at c.in_ok-turns.turns link)) fifos
-      (c.in_ok-turns.ensures link));
+      (λ link. subst (λ (f : FifoFlags). IsFreshBy (is_fifo_by f link) (turns_at c.in_ok-turns.turns link))
+      (ap (λ (l : Layout). l.fifos) c.wiring.view_is ∙ fifos) (c.in_ok-turns.ensures link));
 }
 
 pub returns-clause-keeps : goal.returns-clause-keeps

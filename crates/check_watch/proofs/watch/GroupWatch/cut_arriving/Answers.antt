@@ -29,7 +29,7 @@ returns-clause-cut c = λ plan suits.
     let view = c.args.self.now in
     all_numbers (λ n. IsCutUnderWay plan (state_in view) (Port n)) view.slaves c.loop-port.self.slaves c.loop-port.port
     (λ number port ask is.
-    let known : number < length c.self.inside.map =
+    let known : number < length c.self.inside.wiring.ports =
     subst (λ (l : Layout). number < length l.ports) (sym (ap (λ (v : GroupView). v.layout) c.self.view_is ∙ suits.layout))
     is.0.known in
     omega (arith, known, c.self.invariant.ports, c.links-port-end.ensures, c.loop-port-test.false))

@@ -29,7 +29,7 @@ returns-clause-cut c = λ plan suits.
     let view = c.args.self.now in
     all_numbers (λ n. IsCutUnderWay plan (state_in view) (Master n)) view.slaves c.loop-master.self.slaves c.loop-master.master
     (λ number port ask is.
-    let known : number < length c.self.inside.sources =
+    let known : number < length c.self.inside.wiring.owners =
     subst (λ (l : Layout). number < length l.owners) (sym (ap (λ (v : GroupView). v.layout) c.self.view_is ∙ suits.layout))
     is.0.known in
     omega (arith, known, c.self.invariant.masters, c.links-master-end.ensures, c.loop-master-test.false))

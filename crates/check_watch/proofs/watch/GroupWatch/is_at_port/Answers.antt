@@ -3,6 +3,7 @@ use Rattle.std.proofs.Common.{◌≡◌, ◌∙◌, ℕ, List, Option, None, Som
 use Rattle.tl_map.specs.Owner.{IsWideSource}
 use Rattle.tl_map.specs.declared.owners.Owner.{Owner}
 use Rattle.check_watch.specs.Plan.{RoutesAt}
+use Rattle.check_watch.specs.declared.watch.GroupWatch.TheInside.{Inside}
 use Rattle.check_watch.specs.View.{GroupView}
 use Rattle.check_watch.proofs.watch.GroupWatch.is_at_port.Goals as goal
 
@@ -13,7 +14,8 @@ master_in (Some owner) = owner.0
 pub returns-in-Some : goal.returns-in-Some
 returns-in-Some c =
     let layout = c.args.self.now.layout in
-    let owners : c.self.inside.sources ≡ layout.owners = ap (λ (v : GroupView). v.layout.owners) c.self.view_is in (
+    let owners = ap (λ (i : Inside). i.wiring.owners) c.self-inside.view_is
+    ∙ ap (λ (v : GroupView). v.layout.owners) c.self.view_is in (
       λ yes. record {
         master = c.in-Some.master;
         owns = (
