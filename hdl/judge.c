@@ -109,7 +109,7 @@ static uint32_t make_judge(struct tlx_judge *judge, const char *path, const char
                            char *why, size_t room) {
   struct tlx_system system;
   memset(&system, 0, sizeof system);
-  uint32_t fault = tlx_system_describe(&system, file, length, why, room);
+  uint32_t fault = tlx_system_read(&system, file, length, why, room);
   if (fault == TLX_OK) fault = read_images(&system, path, why, room);
   if (fault == TLX_OK) fault = tlx_judge_make(judge, &system, view, orders.masters, orders.ports, why, room);
   tlx_system_free(&system);

@@ -1,17 +1,19 @@
-/* tlx as a library: a system read from a script with the model of its crossbar, and the judge of what crosses the links of a crossbar that
- * a system file describes.
+/* tlx as a library: a system that a system file describes, the model of its crossbar, and the judge of what crosses the links.
  *
- * A handle is a struct that the caller owns and the library fills: `struct tlx_judge judge = {0};` holds nothing. What a `_make`, `_read`
- * or `_describe` call has put into a handle is given back by the `_free` call, once. The fields of a handle are the library's: never read,
+ * A script of tlx is a system file. Any number of models and judges is made of one system, which stays as it is.
+ *
+ * A handle is a struct that the caller owns and the library fills: `struct tlx_judge judge = {0};` holds nothing. What a `_make` or
+ * `_read` call has put into a handle is given back by the `_free` call, once. The fields of a handle are the library's: never read,
  * write or copy them. A handle is used by one thread at a time; several handles may be used by several threads at once. The library
  * starts no thread, takes no lock, writes nothing, opens no file and keeps no pointer that it is given. No call may be made from a signal
  * handler.
  *
- * Memory is taken by malloc, realloc and free. The calls that fill a handle take it, and tlx_system_image. Of the others only tlx_judge_step
- * does, if the beat is lawful: with one by which a request takes effect, for the bytes that are written; with the last beat of a request
- * to a port of TLX_ANY_ORDER, for the request; and with TLX_EACH_LINK also with the first beat of a source at a port's link. If that is
- * refused the call answers TLX_MEMORY and has changed nothing. The same beat may be given again. tlx_judge_reset takes memory too, for what
- * the reset loads and for bytes that nobody knows after it. If that is refused the judge is gone: its handle holds nothing.
+ * Memory is taken by malloc, realloc and free. The calls that fill a handle take it, and tlx_system_image. Of the others these may:
+ * tlx_model_serve and tlx_model_poke for bytes that are written, tlx_model_reset for what it loads, and tlx_judge_step if the beat is
+ * lawful: with one by which a request takes effect, for the bytes that are written; with the last beat of a request to a port of
+ * TLX_ANY_ORDER, for the request; and with TLX_EACH_LINK also with the first beat of a source at a port's link. If that is refused the
+ * call answers TLX_MEMORY and has changed nothing. The same call may be made again. tlx_judge_reset takes memory too, for what the reset
+ * loads and for bytes that nobody knows after it. If that is refused the judge is gone: its handle holds nothing.
  *
  * Each call that reads, makes, serves or judges answers a fault, TLX_OK (0) if there is none; its faults are listed in the order in
  * which they are tried. A call that answers another fault has changed nothing of what a handle holds, unless it says so. A null pointer is
@@ -33,7 +35,7 @@ extern "C" {
 
 /* The version of this header. It rises when a struct, a number or a call changes; a call that reads a text answers TLX_OTHER_VERSION if the
  * library was built for another one. */
-#define TLX_VERSION 6
+#define TLX_VERSION 7
 
 /* The room of a message's bytes in the structs below. The largest size that a call takes is the library's own: tlx_largest_size. */
 #define TLX_ROOM 256
@@ -45,31 +47,30 @@ enum tlx_fault {
   TLX_OK = 0,
   /* of any call */
   TLX_NULL = 1,           /* a pointer is null */
-  TLX_EMPTY = 2,          /* the handle holds nothing, or a system of the other kind */
+  TLX_EMPTY = 2,          /* the handle holds nothing */
   TLX_FULL = 3,           /* the handle holds something already: free it first */
   TLX_MEMORY = 4,         /* memory was refused */
   TLX_BAD_ARGUMENT = 5,   /* a number that has no meaning where it stands: links, order; of a beat side, channel, `denied`, `corrupt` */
   TLX_OTHER_VERSION = 6,  /* the library was built for a header of another version */
-  /* of a script or a system file (tlx_system_read, tlx_system_describe, tlx_judge_make, tlx_judge_read, which have their order) */
+  /* of a system file (tlx_system_read, tlx_model_make, tlx_judge_make, tlx_judge_read, which have their order) */
   TLX_NOT_TOML = 10,
   TLX_MISSING = 11,       /* a key is missing */
   TLX_WRONG_TYPE = 12,    /* a value has another type than its key wants */
   TLX_OUT_OF_RANGE = 13,  /* a value is out of its key's range */
-  TLX_BAD_OPERATION = 14, /* a line of a master's operations spells none */
   TLX_BAD_PORTS = 15,     /* too many ports, or address ranges that are empty, too long or overlap */
   TLX_BAD_SOURCES = 16,   /* too many masters or sources, a master without one, or two masters that share one */
   TLX_TOO_LONG = 17,      /* longer than 1048576 bytes */
   TLX_TWO_CALLED = 18,    /* two masters or ports have the same name */
-  TLX_UNKNOWN_KEY = 19,   /* of a system file: a key that no table of its kind has */
-  /* of a request (tlx_model_serve, tlx_model_byte) */
+  TLX_UNKNOWN_KEY = 19,   /* a key that no table of its kind has */
+  /* of a request or a byte (tlx_model_serve, tlx_model_peek, tlx_model_poke) */
   TLX_NO_OPERATION = 20,  /* opcode and param name no operation of TL-UL or TL-UH */
   TLX_SIZE = 21,          /* the size is above tlx_largest_size() */
   TLX_NO_MASTER = 22,     /* there is no such master */
   TLX_NO_SOURCE = 23,     /* the master has no such source */
-  TLX_UNCOUNTABLE = 24,   /* the port has served as many requests as can be counted */
-  TLX_NO_BYTE = 25,       /* no slave holds a byte at this address */
+  TLX_NO_BYTE = 25,       /* no port has this address */
+  TLX_DEVICE = 26,        /* a device: what it answers, and what it holds, is for the caller to say */
   /* of a beat (tlx_judge_step), in the order in which they are tried; the first that applies is answered */
-  TLX_NO_LINK = 30,       /* there is no such link, or it is not watched; of tlx_judge_reset: the system has no resets */
+  TLX_NO_LINK = 30,       /* there is no such link, or it is not watched; of a reset: the system has no resets */
   TLX_FIELD_CHANGED = 31,
   TLX_UNKNOWN_OPCODE = 32,
   TLX_WRONG_PARAM = 33,
@@ -93,7 +94,7 @@ enum tlx_fault {
   TLX_INCOMPLETE = 50,    /* requests are left without a whole reply */
   /* of a beat, at a link with `fifo` */
   TLX_OUT_OF_ORDER = 51,
-  /* of an image (tlx_system_image; the last one of tlx_judge_make and tlx_judge_read) */
+  /* of an image (tlx_system_image; the last one of tlx_model_make, tlx_judge_make and tlx_judge_read) */
   TLX_NO_PORT = 60,       /* the file names no such port */
   TLX_NO_IMAGE = 61,      /* the file names no image for the port */
   TLX_LONG_IMAGE = 62,    /* the image is longer than the port's first range */
@@ -106,7 +107,7 @@ enum tlx_links { TLX_BOTH_LINKS = 0, TLX_MASTER_LINKS = 1, TLX_PORT_LINKS = 2, T
 /* When a request takes effect: with its last beat, with its reply's first beat, or at some moment between these. */
 enum tlx_order { TLX_ACCEPT_ORDER = 0, TLX_REPLY_ORDER = 1, TLX_ANY_ORDER = 2 };
 
-/* The handles. That of a system holds one for a model (tlx_system_read) or one for a judge (tlx_system_describe). */
+/* The handles. */
 struct tlx_system { void *at; uint8_t live; };
 struct tlx_model { void *at; uint8_t live; };
 struct tlx_judge { void *at; uint8_t live; };
@@ -123,16 +124,18 @@ struct tlx_request {
   uint8_t set[TLX_ROOM];
 };
 
-/* What a request is answered. `bytes` holds `count` bytes, zero in those of a denied reply; after them it is as it was. */
+/* What a request is answered. `bytes` holds `count` bytes, and `known` as many flags: 1 if the byte is known, else 0, and then the byte is 0
+ * as well. The bytes of a denied reply are known, and zero. After them both are as they were. */
 struct tlx_answer {
-  uint64_t port;   /* the port that served it */
-  uint64_t place;  /* how many requests that port had served before */
+  uint64_t port;   /* the port that served it; the error port has the number after the last */
+  uint64_t place;  /* how many requests that port had served before, modulo 2^64 */
   uint64_t count;  /* 2^size of opcode 1, else 0 */
   uint16_t source; /* the request's */
   uint8_t opcode;  /* the numbers of channel D: 0 to 2 */
   uint8_t size;
   uint8_t denied;  /* 0 or 1 */
   uint8_t bytes[TLX_ROOM];
+  uint8_t known[TLX_ROOM];
 };
 
 /* A beat that crossed a link, valid and ready. The bus of its link says how many lanes are read: `lanes` and `known` have the first for lane 0,
@@ -159,19 +162,19 @@ struct tlx_beat {
 };
 
 /* The exports, which take no null pointer. Call the inline functions below, which do. */
-uint32_t tlx_system_read_at(struct tlx_system *system, const uint8_t *script, size_t length, uint32_t version, char *text, size_t room,
+uint32_t tlx_system_read_at(struct tlx_system *system, const uint8_t *file, size_t length, uint32_t version, char *text, size_t room,
                             size_t *written);
-uint32_t tlx_system_describe_at(struct tlx_system *system, const uint8_t *file, size_t length, uint32_t version, char *text, size_t room,
-                                size_t *written);
 uint64_t tlx_system_ports_at(struct tlx_system *system);
 size_t tlx_system_image_name_at(struct tlx_system *system, uint64_t port, char *text, size_t room);
 uint32_t tlx_system_image_at(struct tlx_system *system, uint64_t port, const uint8_t *bytes, size_t length, char *text, size_t room,
                              size_t *written);
 void tlx_system_free_at(struct tlx_system *system);
-uint32_t tlx_model_make_at(struct tlx_model *model, struct tlx_system *system);
+uint32_t tlx_model_make_at(struct tlx_model *model, struct tlx_system *system, char *text, size_t room, size_t *written);
 void tlx_model_free_at(struct tlx_model *model);
 uint32_t tlx_model_serve_at(struct tlx_model *model, uint64_t master, const struct tlx_request *request, struct tlx_answer *answer);
-uint32_t tlx_model_byte_at(struct tlx_model *model, uint64_t address, uint8_t *byte);
+uint32_t tlx_model_peek_at(struct tlx_model *model, uint64_t address, uint8_t *byte, uint8_t *known);
+uint32_t tlx_model_poke_at(struct tlx_model *model, uint64_t address, uint8_t byte, uint8_t known);
+uint32_t tlx_model_reset_at(struct tlx_model *model);
 uint64_t tlx_model_masters_at(struct tlx_model *model);
 uint64_t tlx_model_ports_at(struct tlx_model *model);
 uint32_t tlx_judge_make_at(struct tlx_judge *judge, struct tlx_system *system, uint8_t links, uint8_t masters, uint8_t ports, char *text,
@@ -202,35 +205,22 @@ static inline size_t tlx_fault_text(uint32_t fault, char *text, size_t room) {
   return text && room ? tlx_fault_text_at(fault, text, room) : 0;
 }
 
-/* Reads the system that the bytes of a script describe into an empty handle, for a model, and writes the text of a fault of the script (which also
- * names the key, master or port) into `text`, an empty one if there is none, or no memory for it. `text` may be null.
- * Faults: TLX_NULL, TLX_OTHER_VERSION, TLX_FULL, TLX_TOO_LONG, TLX_NOT_TOML; then key by key, in the order that docs/reference/faults.md has, TLX_MISSING,
- * TLX_WRONG_TYPE, TLX_OUT_OF_RANGE; then TLX_BAD_PORTS, TLX_BAD_SOURCES, TLX_BAD_OPERATION. After TLX_TOO_LONG, TLX_MEMORY may come at
- * any point. */
-static inline uint32_t tlx_system_read(struct tlx_system *system, const void *script, size_t length, char *text, size_t room) {
-  char none;
-  size_t written;
-  if (text && room) *text = 0;
-  if (!system || !script) return (uint32_t)TLX_NULL;
-  if (!text || !room) { text = &none; room = 1; }
-  return tlx_system_read_at(system, (const uint8_t *)script, length, TLX_VERSION, text, room, &written);
-}
-
-/* Reads what the bytes of a system file name into an empty handle, for a judge, and writes the text of a fault as tlx_system_read does. A
- * script of tlx is a system file; its slots and operations are not looked at. A key that no table of its kind has is a fault.
+/* Reads what the bytes of a system file name into an empty handle, and writes the text of a fault of the file (which also names the key,
+ * master or port) into `text`, an empty one if there is none, or no memory for it. `text` may be null. A script of tlx is a system file;
+ * its slots and operations are not looked at. A key that no table of its kind has is a fault.
  * Faults: TLX_NULL, TLX_OTHER_VERSION, TLX_FULL, TLX_TOO_LONG, TLX_NOT_TOML, TLX_UNKNOWN_KEY; then key by key, in the order that
  * docs/reference/faults.md has, TLX_MISSING, TLX_WRONG_TYPE, TLX_OUT_OF_RANGE; then TLX_TWO_CALLED. After TLX_TOO_LONG, TLX_MEMORY may come at any
  * point. */
-static inline uint32_t tlx_system_describe(struct tlx_system *system, const void *file, size_t length, char *text, size_t room) {
+static inline uint32_t tlx_system_read(struct tlx_system *system, const void *file, size_t length, char *text, size_t room) {
   char none;
   size_t written;
   if (text && room) *text = 0;
   if (!system || !file) return (uint32_t)TLX_NULL;
   if (!text || !room) { text = &none; room = 1; }
-  return tlx_system_describe_at(system, (const uint8_t *)file, length, TLX_VERSION, text, room, &written);
+  return tlx_system_read_at(system, (const uint8_t *)file, length, TLX_VERSION, text, room, &written);
 }
 
-/* How many ports a system file names, which tlx_system_describe has read; 0 of another handle. The error port is none of them. */
+/* How many ports a system has; 0 of an empty handle. The error port is none of them. */
 static inline uint64_t tlx_system_ports(struct tlx_system *system) { return system ? tlx_system_ports_at(system) : 0; }
 
 /* The file of a port's image, as the system file names it (from its own folder on); an empty text if it names none for that port. A name that
@@ -255,37 +245,57 @@ static inline uint32_t tlx_system_image(struct tlx_system *system, uint64_t port
 /* Gives back what a system's handle holds, if anything. */
 static inline void tlx_system_free(struct tlx_system *system) { if (system) tlx_system_free_at(system); }
 
-/* Makes the model of a system at reset in an empty handle. It takes what the system's handle holds, which is empty from then on, also
- * after TLX_MEMORY: read the script again for another one.
- * Faults: TLX_NULL, TLX_FULL (the model's handle), TLX_EMPTY (the system's), TLX_MEMORY. */
-static inline uint32_t tlx_model_make(struct tlx_model *model, struct tlx_system *system) {
-  return model && system ? tlx_model_make_at(model, system) : (uint32_t)TLX_NULL;
+/* Makes the model of a system, before any request, in an empty handle. The system stays as it is. The text of a fault is written as
+ * tlx_system_read does.
+ * Faults: TLX_NULL, TLX_FULL (the model's handle), TLX_EMPTY (the system's), TLX_IMAGE_UNREADABLE (of the first port whose image was not
+ * handed in), TLX_BAD_PORTS, TLX_BAD_SOURCES. After TLX_IMAGE_UNREADABLE, TLX_MEMORY may come at any point. */
+static inline uint32_t tlx_model_make(struct tlx_model *model, struct tlx_system *system, char *text, size_t room) {
+  char none;
+  size_t written;
+  if (text && room) *text = 0;
+  if (!model || !system) return (uint32_t)TLX_NULL;
+  if (!text || !room) { text = &none; room = 1; }
+  return tlx_model_make_at(model, system, text, room, &written);
 }
 
 static inline void tlx_model_free(struct tlx_model *model) { if (model) tlx_model_free_at(model); }
 
-/* Serves a request of a master at once, and says what it is answered. A request that the crossbar denies is served too: its answer says
- * `denied`. After a fault the answer is as it was.
- * Faults: TLX_NULL, TLX_EMPTY, TLX_NO_OPERATION, TLX_SIZE, TLX_NO_MASTER, TLX_NO_SOURCE, TLX_UNCOUNTABLE. */
+/* Serves a request of a master at once, and says what it is answered: what a judge of the masters' links expects. A request that the
+ * crossbar denies is served too: its answer says `denied`. TLX_DEVICE says that the request has gone to a device, and is counted there: all of
+ * the answer is written, but what the device answers is for the caller to say, so `denied` is 0 and no byte is known. After another
+ * fault the answer is as it was, and nothing is served.
+ * Faults: TLX_NULL, TLX_EMPTY, TLX_NO_OPERATION, TLX_SIZE, TLX_NO_MASTER, TLX_NO_SOURCE, TLX_MEMORY, TLX_DEVICE. */
 static inline uint32_t tlx_model_serve(struct tlx_model *model, uint64_t master, const struct tlx_request *request, struct tlx_answer *answer) {
   return model && request && answer ? tlx_model_serve_at(model, master, request, answer) : (uint32_t)TLX_NULL;
 }
 
-/* The byte that the slave of an address holds there. After a fault `byte` is as it was.
- * Faults: TLX_NULL, TLX_EMPTY, TLX_NO_BYTE. */
-static inline uint32_t tlx_model_byte(struct tlx_model *model, uint64_t address, uint8_t *byte) {
-  return model && byte ? tlx_model_byte_at(model, address, byte) : (uint32_t)TLX_NULL;
+/* Looks at the byte at an address, of whatever size its port serves requests, and whichever master has a path there: `known` is 1 if it is
+ * known, else 0, and then `byte` is 0. A byte that changes by itself (`volatile`) is never known. After a fault both are as they were.
+ * Faults: TLX_NULL, TLX_EMPTY, TLX_NO_BYTE, TLX_DEVICE. */
+static inline uint32_t tlx_model_peek(struct tlx_model *model, uint64_t address, uint8_t *byte, uint8_t *known) {
+  return model && byte && known ? tlx_model_peek_at(model, address, byte, known) : (uint32_t)TLX_NULL;
 }
+
+/* Puts a byte at an address, at a ROM too; an unknown one if `known` is 0. No request is counted.
+ * Faults: TLX_NULL, TLX_EMPTY, TLX_NO_BYTE, TLX_DEVICE, TLX_MEMORY. */
+static inline uint32_t tlx_model_poke(struct tlx_model *model, uint64_t address, uint8_t byte, uint8_t known) {
+  return model ? tlx_model_poke_at(model, address, byte, known) : (uint32_t)TLX_NULL;
+}
+
+/* Resets the whole system. The system file must say `resets = true`. A port with `on_reset = "load"` (registers, unless the file says
+ * otherwise) holds again what it held before any request, and any other port keeps its bytes. The places of requests go on. For a model
+ * as at the beginning make another one of the system.
+ * Faults: TLX_NULL, TLX_EMPTY, TLX_NO_LINK (the system file does not say `resets = true`), TLX_MEMORY. */
+static inline uint32_t tlx_model_reset(struct tlx_model *model) { return model ? tlx_model_reset_at(model) : (uint32_t)TLX_NULL; }
 
 /* How many masters there are, and how many ports, the error port among them as the last; 0 of an empty handle. */
 static inline uint64_t tlx_model_masters(struct tlx_model *model) { return model ? tlx_model_masters_at(model) : 0; }
 static inline uint64_t tlx_model_ports(struct tlx_model *model) { return model ? tlx_model_ports_at(model) : 0; }
 
-/* Makes the judge of what a system's handle holds for one (tlx_system_describe), before any beat, in an empty handle: `links` are the links
- * that are watched (enum tlx_links). `masters` and `ports` say when a request takes effect at a port for which the file does not say it, as
- * it is judged at the masters' links and at the ports' (enum tlx_order): give the same twice if both sides agree.
- * It takes what the system's handle holds, which is empty from then on: after TLX_OK, TLX_BAD_PORTS, TLX_BAD_SOURCES and TLX_MEMORY. After
- * another fault the system's handle is as it was. The text of a fault is written as tlx_system_read does.
+/* Makes the judge of a system, before any beat, in an empty handle: `links` are the links that are watched (enum tlx_links). `masters` and
+ * `ports` say when a request takes effect at a port for which the file does not say it, as it is judged at the masters' links and at the
+ * ports' (enum tlx_order): give the same twice if both sides agree. The system stays as it is. The text of a fault is written as
+ * tlx_system_read does.
  * Faults: TLX_NULL, TLX_BAD_ARGUMENT, TLX_FULL (the judge's handle), TLX_EMPTY (the system's), TLX_IMAGE_UNREADABLE (of the first port whose
  * image was not handed in), TLX_BAD_PORTS, TLX_BAD_SOURCES. After TLX_IMAGE_UNREADABLE, TLX_MEMORY may come at any point. */
 static inline uint32_t tlx_judge_make(struct tlx_judge *judge, struct tlx_system *system, uint8_t links, uint8_t masters, uint8_t ports, char *text,
@@ -298,7 +308,7 @@ static inline uint32_t tlx_judge_make(struct tlx_judge *judge, struct tlx_system
   return tlx_judge_make_at(judge, system, links, masters, ports, text, room, &written);
 }
 
-/* Makes the judge of a file that names no image in one call, as tlx_system_describe and then tlx_judge_make.
+/* Makes the judge of a file that names no image in one call, as tlx_system_read and then tlx_judge_make.
  * Faults: TLX_NULL, TLX_OTHER_VERSION, TLX_BAD_ARGUMENT, TLX_FULL, TLX_TOO_LONG, TLX_NOT_TOML, TLX_UNKNOWN_KEY; then key by key
  * TLX_MISSING, TLX_WRONG_TYPE, TLX_OUT_OF_RANGE; then TLX_TWO_CALLED, TLX_IMAGE_UNREADABLE (of the first port that names an image),
  * TLX_BAD_PORTS, TLX_BAD_SOURCES. After TLX_TOO_LONG, TLX_MEMORY may come at any point. */

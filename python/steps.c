@@ -7,7 +7,7 @@ const uint32_t tlx_layout[] = {
     TLX_VERSION,
     sizeof(struct tlx_judge), offsetof(struct tlx_judge, live),
     sizeof(struct tlx_request), offsetof(struct tlx_request, set),
-    sizeof(struct tlx_answer), offsetof(struct tlx_answer, bytes),
+    sizeof(struct tlx_answer), offsetof(struct tlx_answer, known),
     sizeof(struct tlx_beat), offsetof(struct tlx_beat, lanes),
 };
 

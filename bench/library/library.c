@@ -37,7 +37,7 @@ static void judge(const char *script, size_t length, const struct tlx_beat *beat
 }
 
 static void serve(const char *name, int opcode, int param, int size, int holes) {
-  static const char script[] = "slots = 1\n[[port]]\nkind = \"ram\"\nbase = 0x1000\nlength = 1024\n[[master]]\nsources = 4\nops = []\n";
+  static const char file[] = "[[port]]\nkind = \"ram\"\nbase = 0x1000\nlength = 1024\n[[master]]\nsources = 4\n";
   struct tlx_system system = {0};
   struct tlx_model model = {0};
   struct tlx_request asks[2] = {{.address = 0x1000, .source = 1}, {.address = 0x1100, .source = 2}};
@@ -48,7 +48,8 @@ static void serve(const char *name, int opcode, int param, int size, int holes) 
     memset(asks[which].bytes, 7, sizeof asks[which].bytes);
     for (size_t k = 0; k < sizeof asks[which].set; k++) asks[which].set[k] = !holes || k % 2 == 0;
   }
-  if (tlx_system_read(&system, script, sizeof script - 1, NULL, 0) || tlx_model_make(&model, &system)) exit(1);
+  if (tlx_system_read(&system, file, sizeof file - 1, NULL, 0) || tlx_model_make(&model, &system, NULL, 0)) exit(1);
+  tlx_system_free(&system);
   double start = now();
   for (int turn = 0; turn < TURNS; turn++)
     for (int which = 0; which < 2; which++) {

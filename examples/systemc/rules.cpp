@@ -295,7 +295,7 @@ class bench : public sc_core::sc_module {
     tell("bytes at reset", debug(READ, 0x1000, data) == 18 && data == bytes_of("00112233445566778899aabbccddeeff0000"));
   }
 
-  // Debugging reads what lies there, of any length, and changes nothing: the next request has the place after the last one's.
+  // Debugging reads and writes what lies there, of any length, and counts nothing: the next request has the place after the last one's.
   void check_debug() {
     bytes three(3, 0xee), four(4, 0xee), none;
     tell("three bytes", debug(READ, 0x1001, three) == 3 && three == bytes_of("11cc33"));
@@ -304,8 +304,13 @@ class bench : public sc_core::sc_module {
     tell("bytes that nobody has", debug(READ, 0x9000, four) == 0 && four == bytes_of("0000eeee"));
     tell("bytes past the last address", debug(READ, 0xffffffffffffffff, four) == 0);
     tell("no bytes", debug(READ, 0x1000, none) == 0);
-    tell("nothing is written", debug(WRITE, 0x1000, three) == 0 && debug(READ, 0x1000, four) == 4 && four == bytes_of("aa11cc33"));
-    tell("nothing is ignored", debug(IGNORE, 0x1000, three) == 0);
+    tell("nothing is ignored", debug(IGNORE, 0x1000, three) == 0 && debug(READ, 0x1000, four) == 4 && four == bytes_of("aa11cc33"));
+    bytes given = bytes_of("a8a9aaab");
+    three = bytes_of("0b0c0d");
+    tell("bytes that are written", debug(WRITE, 0x3005, three) == 3 && debug(READ, 0x3004, four) == 4 && four == bytes_of("010b0c0d"));
+    tell("bytes of a ROM that are written", debug(WRITE, 0x2008, given) == 4 && debug(READ, 0x2008, four) == 4 && four == given);
+    four = bytes(4, 0xee);
+    tell("bytes that are written up to the end", debug(WRITE, 0x5016, given) == 2 && debug(READ, 0x5016, four) == 2 && four == bytes_of("a8a9eeee"));
     check_row({"a request after it", READ, 0x1000, "ee", nullptr, PLAIN, "", OK, RAM, "aa"});
   }
 
@@ -335,10 +340,10 @@ class bench : public sc_core::sc_module {
   }
 };
 
-// A script that is none makes no target.
-bool is_refused(const char *script, std::uint32_t fault, const char *text) {
+// A text that is no system file makes no target.
+bool is_refused(const char *file, std::uint32_t fault, const char *text) {
   try {
-    tlx::target none("none", script);
+    tlx::target none("none", file);
   } catch (const tlx::error &problem) {
     return problem.fault == fault && std::string(problem.what()) == text;
   }
@@ -348,8 +353,8 @@ bool is_refused(const char *script, std::uint32_t fault, const char *text) {
 }  // namespace
 
 int sc_main(int, char **) {
-  unsigned refused = is_refused("=", TLX_NOT_TOML, "script: not TOML");
-  refused += is_refused("slots = 257", TLX_OUT_OF_RANGE, "script: slots out of range");
+  unsigned refused = is_refused("=", TLX_NOT_TOML, "system: not TOML");
+  refused += is_refused("bus = 3", TLX_OUT_OF_RANGE, "system: bus out of range");
   tlx::target crossbar("crossbar", SYSTEM);
   bench tests("tests");
   tests.first.bind(crossbar.masters[0]);

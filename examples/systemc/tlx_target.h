@@ -1,5 +1,5 @@
-// A crossbar of tlx as the target of TLM-2.0 sockets, one for each master: `tlx::target crossbar("crossbar", script)`. Each payload is
-// one request, answered at once by the proved model; README.md has the table of what becomes of what.
+// A crossbar of tlx as the target of TLM-2.0 sockets, one for each master: `tlx::target crossbar("crossbar", system)`, where `system` is the text
+// of a system file. Each payload is one request, answered at once by the proved model; README.md has the table of what becomes of what.
 //
 // The target is untimed: it never waits, and leaves the delay as it is. A request is served in the order of the calls.
 #ifndef TLX_TARGET_H
@@ -7,7 +7,8 @@
 
 #include <algorithm>
 #include <cstdint>
-#include <cstring>
+#include <functional>
+#include <sstream>
 #include <stdexcept>
 #include <string>
 #include <vector>
@@ -30,30 +31,40 @@ struct extension : tlm::tlm_extension<extension> {
   bool served = false;                 // set by the target: a port served the request, even if it denied it
   std::uint64_t port = 0;              // which one, if served
   std::uint64_t place = 0;             // how many requests that port had served before
+  std::uint64_t unknown = 0;           // how many of the bytes that were read nobody knows; they are read as 0
 
   tlm::tlm_extension_base *clone() const override { return new extension(*this); }
   void copy_from(const tlm::tlm_extension_base &other) override { *this = static_cast<const extension &>(other); }
 };
 
-// A script that describes no crossbar, or want of memory: enum tlx_fault, and its text.
+// A text that is no system file, an image that was not handed in, or want of memory: enum tlx_fault, and its text.
 struct error : std::runtime_error {
   std::uint32_t fault;
   error(std::uint32_t number, const std::string &text) : std::runtime_error(text), fault(number) {}
 };
 
-// The model of a script's crossbar at reset; it owns what the handles of C hold.
+// The bytes of the file of an image, by its name in the system file.
+using images = std::function<std::string(const std::string &)>;
+
+// What a device answers a payload that went to its port: it fills the data in, and says the status.
+using device = std::function<tlm::tlm_response_status(std::uint64_t port, tlm::tlm_generic_payload &)>;
+
+// The model of a system file before any request; it owns what the handles of C hold.
 class model {
  public:
-  explicit model(const std::string &script) {
+  explicit model(const std::string &file, const images &read_image = nullptr) {
     tlx_system system = {};
     char text[2048] = "";
-    std::uint32_t fault = tlx_system_read(&system, script.data(), script.size(), text, sizeof text);
-    if (fault == TLX_OK) {
-      fault = tlx_model_make(&handle_, &system);
+    std::uint32_t fault = tlx_system_read(&system, file.data(), file.size(), text, sizeof text);
+    try {
+      if (fault == TLX_OK && read_image) fault = hand_in(system, read_image, text, sizeof text);
+    } catch (...) {
       tlx_system_free(&system);
+      throw;
     }
-    if (fault != TLX_OK && !text[0]) tlx_fault_text(fault, text, sizeof text);
-    if (fault != TLX_OK) throw error(fault, text);
+    if (fault == TLX_OK) fault = tlx_model_make(&handle_, &system, text, sizeof text);
+    tlx_system_free(&system);
+    check(fault, text);
   }
   ~model() { tlx_model_free(&handle_); }
   model(const model &) = delete;
@@ -62,28 +73,55 @@ class model {
   std::uint32_t serve(std::uint64_t master, const tlx_request &request, tlx_answer &answer) {
     return tlx_model_serve(&handle_, master, &request, &answer);
   }
-  std::uint32_t byte(std::uint64_t address, unsigned char &value) { return tlx_model_byte(&handle_, address, &value); }
+  std::uint32_t peek(std::uint64_t address, unsigned char &byte, unsigned char &known) { return tlx_model_peek(&handle_, address, &byte, &known); }
+  std::uint32_t poke(std::uint64_t address, unsigned char byte) { return tlx_model_poke(&handle_, address, byte, 1); }
+  void reset() { check(tlx_model_reset(&handle_), ""); }
   std::uint64_t masters() { return tlx_model_masters(&handle_); }
   std::uint64_t ports() { return tlx_model_ports(&handle_); }
 
  private:
   tlx_model handle_ = {};
+
+  static void check(std::uint32_t fault, const char *text) {
+    char words[128] = "";
+    if (!text[0]) tlx_fault_text(fault, words, sizeof words);
+    if (fault != TLX_OK) throw error(fault, text[0] ? text : words);
+  }
+
+  static std::uint32_t hand_in(tlx_system &system, const images &read_image, char *text, std::size_t room) {
+    std::uint32_t fault = TLX_OK;
+    for (std::uint64_t port = 0; port < tlx_system_ports(&system) && fault == TLX_OK; port++) {
+      char name[4096];
+      if (!tlx_system_image_name(&system, port, name, sizeof name)) continue;
+      const std::string image = read_image(name);
+      fault = tlx_system_image(&system, port, image.data(), image.size(), text, room);
+    }
+    return fault;
+  }
 };
 
 class target : public sc_core::sc_module {
   model model_;
 
  public:
-  // masters[m] is where master m of the script is bound.
+  // masters[m] is where master m of the system is bound.
   sc_core::sc_vector<tlm_utils::simple_target_socket_tagged<target>> masters;
+  // Answers for the devices of the system. Without it what goes to a device is TLM_ADDRESS_ERROR_RESPONSE.
+  device answer_device;
+  // How many bytes were read that nobody knows. Each such read is a warning of this type, too.
+  std::uint64_t unknown = 0;
+  static const char *unknown_type() { return "/tlx/unknown bytes"; }
 
-  target(const sc_core::sc_module_name &name, const std::string &script)
-      : sc_core::sc_module(name), model_(script), masters("master", model_.masters()) {
+  target(const sc_core::sc_module_name &name, const std::string &file, const images &read_image = nullptr)
+      : sc_core::sc_module(name), model_(file, read_image), masters("master", model_.masters()) {
     for (unsigned m = 0; m < masters.size(); m++) {
       masters[m].register_b_transport(this, &target::b_transport, static_cast<int>(m));
       masters[m].register_transport_dbg(this, &target::transport_dbg, static_cast<int>(m));
     }
   }
+
+  // Resets the whole system; an error with TLX_NO_LINK if its file does not say `resets = true`.
+  void reset() { model_.reset(); }
 
  private:
   using payload = tlm::tlm_generic_payload;
@@ -96,30 +134,59 @@ class target : public sc_core::sc_module {
     trans.set_response_status(transport(static_cast<std::uint64_t>(master), trans, rest ? *rest : plain));
   }
 
-  // Reads bytes where they lie, one after the other up to the first that no slave has; the model counts no request. Nothing can be
-  // written but by requests.
+  // Reads or writes bytes where they lie, of a ROM too, one after the other up to the first that no memory has; the model counts no request.
+  // An unknown byte is read as 0.
   unsigned transport_dbg(int, payload &trans) {
-    const std::uint64_t address = trans.get_address();
-    unsigned count = 0;
-    if (!trans.is_read() || !trans.get_data_ptr()) return 0;
-    while (count < trans.get_data_length() && model_.byte(address + count, trans.get_data_ptr()[count]) == TLX_OK) count++;
-    return count;
+    extension *rest = trans.get_extension<extension>();
+    std::uint64_t count = 0, unknowns = 0;
+    if ((!trans.is_read() && !trans.is_write()) || !trans.get_data_ptr()) return 0;
+    for (; count < trans.get_data_length(); count++) {
+      const std::uint64_t address = trans.get_address() + count;
+      unsigned char &byte = trans.get_data_ptr()[count], known = 1;
+      if ((trans.is_read() ? model_.peek(address, byte, known) : model_.poke(address, byte)) != TLX_OK) break;
+      unknowns += !known;
+    }
+    tell_unknown(unknowns, trans.get_address(), rest);
+    return static_cast<unsigned>(count);
+  }
+
+  // Counts bytes that were read though nobody knows them, and reports them.
+  void tell_unknown(std::uint64_t count, std::uint64_t address, extension *rest) {
+    if (rest) rest->unknown = count;
+    unknown += count;
+    if (count == 0) return;
+    std::ostringstream text;
+    text << count << " bytes from 0x" << std::hex << address << " on are not known";
+    SC_REPORT_WARNING(unknown_type(), text.str().c_str());
   }
 
   status transport(std::uint64_t master, payload &trans, extension &rest) {
     rest.served = false;
+    rest.unknown = 0;
     const status refused = refusal(trans, rest);
     if (refused != tlm::TLM_OK_RESPONSE || is_idle(trans, rest)) return refused;
     tlx_answer answer;
-    if (model_.serve(master, request_of(trans, rest), answer) != TLX_OK) return tlm::TLM_GENERIC_ERROR_RESPONSE;
+    const std::uint32_t fault = model_.serve(master, request_of(trans, rest), answer);
+    if (fault != TLX_OK && fault != TLX_DEVICE) return tlm::TLM_GENERIC_ERROR_RESPONSE;
     rest.served = true;
     rest.port = answer.port;
     rest.place = answer.place;
+    if (fault == TLX_DEVICE) return answer_device ? answer_device(answer.port, trans) : tlm::TLM_ADDRESS_ERROR_RESPONSE;
     // the error port is the last
     if (answer.denied) return answer.port + 1 == model_.ports() ? tlm::TLM_ADDRESS_ERROR_RESPONSE : tlm::TLM_GENERIC_ERROR_RESPONSE;
-    for (unsigned k = 0; k < answer.count; k++)
-      if (is_enabled(trans, k)) trans.get_data_ptr()[k] = answer.bytes[k];
+    copy_bytes(trans, answer, rest);
     return tlm::TLM_OK_RESPONSE;
+  }
+
+  // Copies the bytes of an answer that the payload asks for.
+  void copy_bytes(payload &trans, const tlx_answer &answer, extension &rest) {
+    std::uint64_t unknowns = 0;
+    for (unsigned k = 0; k < answer.count; k++) {
+      if (!is_enabled(trans, k)) continue;
+      trans.get_data_ptr()[k] = answer.bytes[k];
+      unknowns += !answer.known[k];
+    }
+    tell_unknown(unknowns, trans.get_address(), &rest);
   }
 
   // The error of a payload that no request of TileLink can say, found before anything is asked.

@@ -1,13 +1,17 @@
 """tlx in Python: the model of a TileLink crossbar, and the judge of what crosses the links of any crossbar.
 
+A system is what a system file describes, with its images; any number of models and judges is made of one:
+
+    system = tlx.System.read("system.toml")
+
 The model answers each request at once, as a proved crossbar must:
 
-    model = tlx.Model(tlx.System(script))
+    model = tlx.Model(system)
     answer = model.serve(0, tlx.Request.get(0x1000, size=2))
 
 The judge takes the beats of a crossbar, and raises Unlawful at the first that is wrong:
 
-    judge = tlx.Judge(tlx.System(system))
+    judge = tlx.Judge(system)
     judge.step(tlx.Beat.ask("m0", tlx.Ask.GET, size=2, source=1, address=0x1000, mask=0x0F))
 
 Monitor makes beats of a design's signals. All of it is the library of C behind `include/tlx.h`: this package has no rule of its own.

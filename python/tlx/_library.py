@@ -9,7 +9,7 @@ import os
 import struct
 
 # The version of the header that the structs below are those of.
-HEADER_VERSION = 6
+HEADER_VERSION = 7
 # The room for a message's bytes, the lanes of the widest bus, and the room for the longest text.
 ROOM = 256
 LANES = 64
@@ -52,7 +52,8 @@ class AnswerStruct(ctypes.Structure):
     """`struct tlx_answer`."""
 
     _fields_ = [("port", ctypes.c_uint64), ("place", ctypes.c_uint64), ("count", ctypes.c_uint64), ("source", ctypes.c_uint16),
-                ("opcode", ctypes.c_uint8), ("size", ctypes.c_uint8), ("denied", ctypes.c_uint8), ("bytes", ctypes.c_uint8 * ROOM)]
+                ("opcode", ctypes.c_uint8), ("size", ctypes.c_uint8), ("denied", ctypes.c_uint8), ("bytes", ctypes.c_uint8 * ROOM),
+                ("known", ctypes.c_uint8 * ROOM)]
 
 
 # `struct tlx_beat`: line, time, number, address, mask, known, source, side, channel, opcode, param, size, denied and corrupt, and the lanes.
@@ -60,7 +61,7 @@ _HEAD = "<QQQQQQHBBBBBBB"
 BEAT = struct.Struct(f"{_HEAD}{LANES}s7x")
 
 _LAYOUT = (HEADER_VERSION, ctypes.sizeof(_Handle), _Handle.live.offset, ctypes.sizeof(RequestStruct), RequestStruct.set.offset,
-           ctypes.sizeof(AnswerStruct), AnswerStruct.bytes.offset, BEAT.size, struct.calcsize(_HEAD))
+           ctypes.sizeof(AnswerStruct), AnswerStruct.known.offset, BEAT.size, struct.calcsize(_HEAD))
 
 
 def _open() -> ctypes.PyDLL:
@@ -90,15 +91,16 @@ def _call(name: str, result, *arguments):
 _AT, _U8, _U32, _U64, _SIZE = ctypes.c_void_p, ctypes.c_uint8, ctypes.c_uint32, ctypes.c_uint64, ctypes.c_size_t
 _fault_text = _call("tlx_fault_text_at", _SIZE, _U32, _AT, _SIZE)
 _system_read = _call("tlx_system_read_at", _U32, _AT, _AT, _SIZE, _U32, _AT, _SIZE, _AT)
-_system_describe = _call("tlx_system_describe_at", _U32, _AT, _AT, _SIZE, _U32, _AT, _SIZE, _AT)
 _system_ports = _call("tlx_system_ports_at", _U64, _AT)
 _system_image = _call("tlx_system_image_at", _U32, _AT, _U64, _AT, _SIZE, _AT, _SIZE, _AT)
 _system_image_name = _call("tlx_system_image_name_at", _SIZE, _AT, _U64, _AT, _SIZE)
 _judge_make = _call("tlx_judge_make_at", _U32, _AT, _AT, _U8, _U8, _U8, _AT, _SIZE, _AT)
 _judge_text = _call("tlx_judge_text_at", _SIZE, _AT, _AT, _SIZE)
-model_make = _call("tlx_model_make_at", _U32, _AT, _AT)
+_model_make = _call("tlx_model_make_at", _U32, _AT, _AT, _AT, _SIZE, _AT)
 model_serve = _call("tlx_model_serve_at", _U32, _AT, _U64, _AT, _AT)
-model_byte = _call("tlx_model_byte_at", _U32, _AT, _U64, _AT)
+model_peek = _call("tlx_model_peek_at", _U32, _AT, _U64, _AT, _AT)
+model_poke = _call("tlx_model_poke_at", _U32, _AT, _U64, _U8, _U8)
+model_reset = _call("tlx_model_reset_at", _U32, _AT)
 model_masters = _call("tlx_model_masters_at", _U64, _AT)
 model_ports = _call("tlx_model_ports_at", _U64, _AT)
 judge_step = _call("tlx_judge_step_at", _U32, _AT, _AT)
@@ -121,16 +123,9 @@ def words_of(number: int) -> str:
 
 
 def read_system(text: bytes) -> tuple[SystemHandle, int, str]:
-    """The system of a script, for a model; a fault, and its text."""
+    """What a system file names; a fault, and its text."""
     handle, why, written = SystemHandle(), ctypes.create_string_buffer(TEXT_ROOM), ctypes.c_size_t()
     fault = _system_read(ctypes.byref(handle), text, len(text), HEADER_VERSION, why, TEXT_ROOM, ctypes.byref(written))
-    return handle, fault, why.value.decode()
-
-
-def describe(text: bytes) -> tuple[SystemHandle, int, str]:
-    """What a system file names, for a judge; a fault, and its text."""
-    handle, why, written = SystemHandle(), ctypes.create_string_buffer(TEXT_ROOM), ctypes.c_size_t()
-    fault = _system_describe(ctypes.byref(handle), text, len(text), HEADER_VERSION, why, TEXT_ROOM, ctypes.byref(written))
     return handle, fault, why.value.decode()
 
 
@@ -156,6 +151,13 @@ def put_image(handle: SystemHandle, port: int, image: bytes) -> tuple[int, str]:
     why, written = ctypes.create_string_buffer(TEXT_ROOM), ctypes.c_size_t()
     fault = _system_image(ctypes.byref(handle), port, image, len(image), why, TEXT_ROOM, ctypes.byref(written))
     return fault, why.value.decode()
+
+
+def make_model(system: SystemHandle) -> tuple[ModelHandle, int, str]:
+    """The model of what a system file names; a fault, and its text."""
+    handle, why, written = ModelHandle(), ctypes.create_string_buffer(TEXT_ROOM), ctypes.c_size_t()
+    fault = _model_make(ctypes.byref(handle), ctypes.byref(system), why, TEXT_ROOM, ctypes.byref(written))
+    return handle, fault, why.value.decode()
 
 
 def make_judge(system: SystemHandle, links: int, orders: tuple[int, int]) -> tuple[JudgeHandle, int, str]:

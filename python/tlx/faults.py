@@ -19,7 +19,6 @@ class Fault(enum.IntEnum):
     MISSING = 11
     WRONG_TYPE = 12
     OUT_OF_RANGE = 13
-    BAD_OPERATION = 14
     BAD_PORTS = 15
     BAD_SOURCES = 16
     TOO_LONG = 17
@@ -29,8 +28,8 @@ class Fault(enum.IntEnum):
     SIZE = 21
     NO_MASTER = 22
     NO_SOURCE = 23
-    UNCOUNTABLE = 24
     NO_BYTE = 25
+    DEVICE = 26
     NO_LINK = 30
     FIELD_CHANGED = 31
     UNKNOWN_OPCODE = 32
@@ -68,7 +67,8 @@ class Refused(ValueError):
     """A call that the library did not do, and that changed nothing: an argument has no meaning there.
 
     `fault` says why: a link that there is not or that is not watched, a reset of a system without resets, an opcode that names no
-    operation, a master, a source or a byte that there is not, a flag that is neither 0 nor 1. `index` is the place of the beat in the array of `Judge.steps`.
+    operation, a master, a source or a byte that there is not, a byte of a device, a flag that is neither 0 nor 1. `index` is the place of the
+    beat in the array of `Judge.steps`.
     """
 
     index = 0
@@ -79,8 +79,7 @@ class Refused(ValueError):
 
 
 class InvalidSystem(Refused):
-    """A text that is no system file, or no script where a model is made of it: `system: missing master`. Or an image that is not given, is too
-    long, or is of a port that names none."""
+    """A text that is no system file: `system: missing master`. Or an image that is not given, is too long, or is of a port that names none."""
 
 
 class Unlawful(Exception):

@@ -83,8 +83,9 @@ class Answer:
     """What a request is answered.
 
     opcode: Reply. size and source: the request's. denied: whether the slave or the crossbar refused it. data: the 2^size bytes of
-    ACCESS_ACK_DATA, zeros if it is denied; empty else. port: the port that served it; the error port has the last number.
-    place: how many requests that port had served before.
+    ACCESS_ACK_DATA, zero where one is unknown, and zeros if it is denied; empty else. port: the port that served it; the error port has
+    the last number. place: how many requests that port had served before. known: bit k is 1 if data[k] is known; those of a denied
+    answer are. device: whether it went to a device, whose answer is for the caller to say.
     """
 
     opcode: Reply
@@ -94,6 +95,8 @@ class Answer:
     data: bytes
     port: int
     place: int
+    known: int = 0
+    device: bool = False
 
 
 _LINK = re.compile(r"([mp])([0-9]+)")

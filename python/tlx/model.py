@@ -4,43 +4,44 @@ import ctypes
 import struct
 
 from . import _library
-from .faults import fault_of
+from .faults import Fault, fault_of
 from .messages import Answer, Ask, Reply, Request, check_number
-from .system import System, check_system, read
+from .system import System, check_system, make_model
 
 _FRONT = struct.Struct("<QHBBB")
+# The flags 0 and 1 as digits.
+_DIGITS = b"01" + bytes(254)
 
 
 class Model:
-    """The model of a crossbar at reset: it answers each request at once. A context manager, which gives its memory back.
+    """The model of a system, before any request: it answers each request at once. A context manager, which gives its memory back.
 
-    system: one that is a script, with `slots` and `ops`; InvalidSystem if it is none. One thread at a time uses a model.
+    system: the system, which stays as it is. One thread at a time uses a model.
     """
 
     def __init__(self, system: System) -> None:
-        made = read(_library.read_system, check_system(system).text)
-        self._handle = _library.ModelHandle()
+        self._handle = make_model(check_system(system))
         self._at = ctypes.byref(self._handle)
-        fault = _library.model_make(self._at, ctypes.byref(made))
-        if fault:
-            raise fault_of(fault)
         self._request, self._answer = _library.RequestStruct(), _library.AnswerStruct()
         self._request_at, self._answer_at = ctypes.byref(self._request), ctypes.byref(self._answer)
 
     def serve(self, master: int, request: Request) -> Answer:
-        """Serves a request of a master at once, and says what it is answered; one that is denied is served too.
+        """Serves a request of a master at once, and says what it is answered; one that is denied is served too. One that goes to a device is
+        counted there, and what the device answers is for the caller to say: the answer says `device`, is not denied, and no byte is known.
 
-        Refused, a ValueError, with the fault NO_OPERATION, SIZE, NO_MASTER, NO_SOURCE or UNCOUNTABLE, if it is not served;
-        ValueError if data has not as many bytes as the request carries, or after `close`.
+        Refused, a ValueError, with the fault NO_OPERATION, SIZE, NO_MASTER or NO_SOURCE, if it is not served; ValueError if data has not
+        as many bytes as the request carries, or after `close`; MemoryError if there is no memory for the bytes that are written. After
+        each of them nothing was served.
         """
         number = check_number("master", master, 64)
         self._fill(request)
         fault = _library.model_serve(self._at, number, self._request_at, self._answer_at)
-        if fault:
+        if fault and fault != Fault.DEVICE:
             raise fault_of(fault)
-        answer = self._answer
-        data = bytes(memoryview(answer.bytes)[:answer.count])
-        return Answer(Reply(answer.opcode), answer.size, answer.source, bool(answer.denied), data, answer.port, answer.place)
+        answer, count = self._answer, self._answer.count
+        data = bytes(memoryview(answer.bytes)[:count])
+        known = _mask(bytes(memoryview(answer.known)[:count]))
+        return Answer(Reply(answer.opcode), answer.size, answer.source, bool(answer.denied), data, answer.port, answer.place, known, bool(fault))
 
     def _fill(self, request: Request) -> None:
         """Writes a request into the struct."""
@@ -61,13 +62,37 @@ class Model:
         if opcode == Ask.PUT_PARTIAL:
             self._request.set[:count] = _flags(request.mask, count)
 
-    def byte(self, address: int) -> int:
-        """The byte that the slave of an address holds there; Refused with NO_BYTE if no slave does."""
-        found = ctypes.c_uint8()
-        fault = _library.model_byte(self._at, check_number("address", address, 64), ctypes.byref(found))
+    def peek(self, address: int) -> int | None:
+        """The byte at an address, None if it is unknown. Which master reaches it, and which sizes its port serves, is not looked at.
+
+        Refused, a ValueError, with NO_BYTE if no port has the address, or with DEVICE if a device has it; ValueError after `close`.
+        """
+        byte, known = ctypes.c_uint8(), ctypes.c_uint8()
+        fault = _library.model_peek(self._at, check_number("address", address, 64), ctypes.byref(byte), ctypes.byref(known))
         if fault:
             raise fault_of(fault)
-        return found.value
+        return byte.value if known.value else None
+
+    def poke(self, address: int, byte: int | None) -> None:
+        """Puts a byte at an address, of a ROM too; None puts an unknown one. No request is counted.
+
+        Refused as of `peek`; MemoryError if there is no memory for it, and then the model is as it was.
+        """
+        value = 0 if byte is None else check_number("byte", byte, 8)
+        fault = _library.model_poke(self._at, check_number("address", address, 64), value, byte is not None)
+        if fault:
+            raise fault_of(fault)
+
+    def reset(self) -> None:
+        """Resets the whole system, which must say `resets = true`. A port with `on_reset = "load"` holds what it held before any request, and
+        any other keeps its bytes. The places of requests go on.
+
+        Refused, a ValueError, with NO_LINK if the system does not say `resets = true`; MemoryError if there is no memory for what is
+        loaded; ValueError after `close`. After the first two the model is as it was.
+        """
+        fault = _library.model_reset(self._at)
+        if fault:
+            raise fault_of(fault)
 
     @property
     def masters(self) -> int:
@@ -91,6 +116,12 @@ class Model:
 
     def __reduce__(self):
         raise TypeError("a tlx.Model can't be copied or pickled")
+
+
+def _mask(flags: bytes) -> int:
+    """The number whose bit k is the flag k."""
+    count = len(flags)
+    return (1 << count) - 1 if flags.count(1) == count else int(flags[::-1].translate(_DIGITS), 2)
 
 
 def _flags(mask: int | None, count: int) -> bytes:

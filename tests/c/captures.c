@@ -201,7 +201,7 @@ static void check_rows(const char *folder, const char *name, judging *judges, co
   struct tlx_judge judge = {0};
   struct asked asked = read_words(folder, name);
   size_t length = read_system_file(folder, name, file);
-  int made = tlx_system_describe(&system, file, length, 0, 0) == TLX_OK && hand_in(&system, folder) &&
+  int made = tlx_system_read(&system, file, length, 0, 0) == TLX_OK && hand_in(&system, folder) &&
              tlx_judge_make(&judge, &system, asked.links, asked.masters, asked.ports, 0, 0) == TLX_OK;
   judge_rows(&judge, judges, rows, count, &asked, verdict, sizeof verdict);
   tell(name, made && !strcmp(verdict, expected));

@@ -1,6 +1,7 @@
 /* Walks every call of the library with right and wrong arguments, refuses each request for memory in turn, and judges the captures beside
- * by calls (captures.c). Its argument is the folder of the examples; it ends in 'N passed, M failed'. What it expects was worked out by
- * hand, or is the captures' own verdict. It is linked with --wrap for malloc, realloc and free. */
+ * by calls (captures.c). The calls of models are in models.c, those of judges in judges.c, resets in resets.c. Its argument is the folder of
+ * the examples; it ends in 'N passed, M failed'. What it expects was worked out by hand, or is the captures' own verdict. It is linked with
+ * --wrap for malloc, realloc and free. */
 #include "check.h"
 
 #include <malloc.h>
@@ -84,7 +85,6 @@ const char *words_of(enum tlx_fault fault) {
     case TLX_MISSING: return "missing key";
     case TLX_WRONG_TYPE: return "wrong type";
     case TLX_OUT_OF_RANGE: return "out of range";
-    case TLX_BAD_OPERATION: return "bad operation";
     case TLX_BAD_PORTS: return "bad ports";
     case TLX_BAD_SOURCES: return "bad sources";
     case TLX_TOO_LONG: return "longer than 1048576 bytes";
@@ -94,8 +94,8 @@ const char *words_of(enum tlx_fault fault) {
     case TLX_SIZE: return "size over the limit";
     case TLX_NO_MASTER: return "no such master";
     case TLX_NO_SOURCE: return "no such source";
-    case TLX_UNCOUNTABLE: return "the port has served as many requests as can be counted";
     case TLX_NO_BYTE: return "no byte at this address";
+    case TLX_DEVICE: return "a device";
     case TLX_NO_LINK: return "no such link";
     case TLX_FIELD_CHANGED: return "field changed";
     case TLX_UNKNOWN_OPCODE: return "unknown opcode";
@@ -160,45 +160,13 @@ const char SYSTEM[] =
     "[[port]]\nkind = \"ram\"\nbase = 0x2000\nlength = 64\n"
     "[[master]]\nsources = 2\nops = []\n";
 
-/* Scripts with faults, most with a later one as well, which is not told. */
-#define MASTER(sources, operation) "[[master]]\nsources = " sources "\nops = [\"" operation "\"]\n"
-#define PORT(base, length) "[[port]]\nkind = \"ram\"\nbase = " base "\nlength = " length "\n"
-static const struct { const char *script; uint32_t fault; const char *text; } SCRIPTS[] = {
-    {"slots = 257\n=", TLX_NOT_TOML, "script: not TOML"},
-    {"slots = 1 # \xff", TLX_NOT_TOML, "script: not TOML"},
-    {"", TLX_MISSING, "script: missing slots"},
-    {"port = 1", TLX_MISSING, "script: missing slots"},
-    {"slots = \"4\"\nport = 1", TLX_WRONG_TYPE, "script: wrong type of slots"},
-    {"slots = 257\nport = 1", TLX_OUT_OF_RANGE, "script: slots out of range"},
-    {"slots = 1\n" PORT("0x1000", "0"), TLX_MISSING, "script: missing master"},
-    {"slots = 1\n" PORT("0x1000", "0") MASTER("257", "get"), TLX_BAD_PORTS, "script: port 0: empty range"},
-    {"slots = 1\n" PORT("0x1000", "64") PORT("0x103f", "1") MASTER("0", "get"), TLX_BAD_PORTS, "script: ports 0 and 1 overlap"},
-    {"slots = 1\n" MASTER("257", "get"), TLX_BAD_SOURCES, "script: too many masters or sources"},
-    {"slots = 1\n" MASTER("0", "get"), TLX_BAD_SOURCES, "script: master 0: no source"},
-    {"slots = 1\n" MASTER("1", "1 get 0x1000 2"), TLX_BAD_OPERATION, "script: master 0 operation 0: bad operation"},
-};
-
-static void check_scripts(void) {
-  static char longest[(1 << 20) + 1];
-  struct tlx_system system = {0};
-  char text[128];
-  for (size_t k = 0; k < sizeof SCRIPTS / sizeof *SCRIPTS; k++)
-    tell(SCRIPTS[k].text, tlx_system_read(&system, SCRIPTS[k].script, strlen(SCRIPTS[k].script), text, sizeof text) == SCRIPTS[k].fault &&
-         !strcmp(text, SCRIPTS[k].text));
-  memset(longest, '#', sizeof longest);
-  tell("a script too long", tlx_system_read(&system, longest, sizeof longest, text, sizeof text) == TLX_TOO_LONG &&
-       !strcmp(text, "script: longer than 1048576 bytes"));
-  tell("a script as long as it may be", tlx_system_read(&system, longest, sizeof longest - 1, text, sizeof text) == TLX_MISSING);
-  tell("a text that is cut off", tlx_system_read(&system, "slots = 257", 11, text, 8) == TLX_OUT_OF_RANGE && !strcmp(text, "script:"));
-}
-
 static void check_systems(void) {
   struct tlx_system system = {0};
   char text[128];
   memset(text, 'a', sizeof text);
   tell("a null system", tlx_system_read(0, SYSTEM, strlen(SYSTEM), text, sizeof text) == TLX_NULL && !text[0] && text[1] == 'a');
   memset(text, 'a', sizeof text);
-  tell("a null script", tlx_system_read(&system, 0, 0, text, sizeof text) == TLX_NULL && !text[0]);
+  tell("a null file", tlx_system_read(&system, 0, 0, text, sizeof text) == TLX_NULL && !text[0]);
   tell("no text", tlx_system_read(0, SYSTEM, strlen(SYSTEM), 0, 9) == TLX_NULL && tlx_system_read(&system, 0, 0, text, 0) == TLX_NULL);
   tell("a system", tlx_system_read(&system, SYSTEM, strlen(SYSTEM), text, sizeof text) == TLX_OK && !text[0]);
   memset(text, 'a', sizeof text);
@@ -210,84 +178,6 @@ static void check_systems(void) {
   tlx_system_free(&system);
 }
 
-static struct tlx_request request(uint8_t opcode, uint8_t param, uint8_t size, uint16_t source, uint64_t address) {
-  struct tlx_request made = {0};
-  made.opcode = opcode;
-  made.param = param;
-  made.size = size;
-  made.source = source;
-  made.address = address;
-  return made;
-}
-
-static void check_serving(struct tlx_model *model) {
-  static const uint8_t zeros[TLX_ROOM];
-  struct tlx_answer answer, before;
-  struct tlx_request ask = request(4, 0, 2, 1, 0x1000);
-  size_t so_far = requests;
-  memset(&answer, 0xa5, sizeof answer);
-  tell("a get", tlx_model_serve(model, 0, &ask, &answer) == TLX_OK && answer.port == 0 && answer.place == 0 && answer.count == 4 &&
-       answer.opcode == 1 && answer.size == 2 && answer.source == 1 && !answer.denied && !memcmp(answer.bytes, "\x00\x11\x22\x33\xa5", 5));
-  ask = request(1, 0, 2, 0, 0x1000);
-  memcpy(ask.bytes, "\xaa\xbb\xcc\xdd", 4);
-  ask.set[1] = 1;
-  ask.set[3] = 255;
-  tell("a partial put", tlx_model_serve(model, 0, &ask, &answer) == TLX_OK && answer.place == 1 && answer.opcode == 0 && answer.count == 0);
-  uint8_t byte = 7;
-  tell("a byte that was left unset", tlx_model_byte(model, 0x1002, &byte) == TLX_OK && byte == 0x22);
-  tell("a byte that was put", tlx_model_byte(model, 0x1003, &byte) == TLX_OK && byte == 0xdd);
-  ask = request(0, 0, 0, 0, 0x2000);
-  ask.bytes[0] = 0x5a;
-  tell("a put to the other port", tlx_model_serve(model, 0, &ask, &answer) == TLX_OK && answer.port == 1 && answer.place == 0 &&
-       tlx_model_byte(model, 0x2000, &byte) == TLX_OK && byte == 0x5a && tlx_model_byte(model, 0x1000, &byte) == TLX_OK && byte == 0);
-  ask = request(4, 0, 0, 0, 0x9000);
-  tell("an address that no port has", tlx_model_serve(model, 0, &ask, &answer) == TLX_OK && answer.port == 2 && answer.denied && !answer.bytes[0]);
-  ask = request(4, 0, 8, 0, 0x1000);
-  memset(&answer, 0xa5, sizeof answer);
-  tell("a get of 256 bytes", tlx_model_serve(model, 0, &ask, &answer) == TLX_OK && answer.port == 2 && answer.place == 1 && answer.denied &&
-       answer.count == TLX_ROOM && !memcmp(answer.bytes, zeros, TLX_ROOM));
-  ask = request(4, 0, 0, 0, 0x9000);
-  byte = 7;
-  tell("a byte that no slave has", tlx_model_byte(model, 0x9000, &byte) == TLX_NO_BYTE && byte == 7);
-  before = answer;
-  tell("no such master", tlx_model_serve(model, 1, &ask, &answer) == TLX_NO_MASTER && !memcmp(&before, &answer, sizeof answer));
-  ask.source = 2;
-  tell("no such source", tlx_model_serve(model, 0, &ask, &answer) == TLX_NO_SOURCE && !memcmp(&before, &answer, sizeof answer));
-  ask = request(6, 0, 0, 0, 0x1000);
-  tell("a cached operation", tlx_model_serve(model, 0, &ask, &answer) == TLX_NO_OPERATION);
-  ask = request(2, 5, 0, 0, 0x1000);
-  tell("no such parameter", tlx_model_serve(model, 0, &ask, &answer) == TLX_NO_OPERATION);
-  ask = request(4, 0, 9, 0, 0x1000);
-  tell("a size too large", tlx_model_serve(model, 0, &ask, &answer) == TLX_SIZE);
-  tell("null arguments", tlx_model_serve(model, 0, 0, &answer) == TLX_NULL && tlx_model_serve(model, 0, &ask, 0) == TLX_NULL &&
-       tlx_model_serve(0, 0, &ask, &answer) == TLX_NULL && tlx_model_byte(model, 0, 0) == TLX_NULL && tlx_model_byte(0, 0, &byte) == TLX_NULL);
-  tell("the same model", tlx_model_masters(model) == 1 && tlx_model_ports(model) == 3);
-  tell("a model in use takes no memory", requests == so_far);
-}
-
-static void check_models(void) {
-  struct tlx_system system = {0};
-  struct tlx_model model = {0}, second = {0};
-  struct tlx_request ask = request(4, 0, 0, 0, 0x1000);
-  struct tlx_answer answer;
-  uint8_t byte;
-  tell("a model of no system", tlx_model_make(&model, &system) == TLX_EMPTY && tlx_model_make(0, &system) == TLX_NULL && tlx_model_make(&model, 0) == TLX_NULL);
-  tell("an empty model", tlx_model_serve(&model, 0, &ask, &answer) == TLX_EMPTY && tlx_model_byte(&model, 0, &byte) == TLX_EMPTY &&
-       tlx_model_masters(&model) == 0 && tlx_model_ports(&model) == 0 && tlx_model_masters(0) == 0 && tlx_model_ports(0) == 0);
-  tlx_system_read(&system, SYSTEM, strlen(SYSTEM), 0, 0);
-  tell("a model", tlx_model_make(&model, &system) == TLX_OK && tlx_model_masters(&model) == 1 && tlx_model_ports(&model) == 3);
-  tell("a system that was taken", tlx_model_make(&second, &system) == TLX_EMPTY);
-  tlx_system_read(&system, SYSTEM, strlen(SYSTEM), 0, 0);
-  tell("a second model in one handle", tlx_model_make(&model, &system) == TLX_FULL && tlx_model_make(&second, &system) == TLX_OK);
-  check_serving(&model);
-  tell("a model beside it", tlx_model_byte(&second, 0x2000, &byte) == TLX_OK && byte == 0);
-  tlx_model_free(&model);
-  tlx_model_free(&model);
-  tlx_model_free(&second);
-  tlx_model_free(0);
-  tlx_system_free(&system);
-}
-
 /* ---- calls that are refused memory */
 
 struct handles {
@@ -296,28 +186,24 @@ struct handles {
   struct tlx_judge judge;
 };
 
-typedef uint32_t call(struct handles *handles, const char *script);
+typedef uint32_t call(struct handles *handles, const char *file);
 
-static uint32_t read_system(struct handles *handles, const char *script) {
-  return tlx_system_read(&handles->system, script, strlen(script), 0, 0);
+static uint32_t read_system(struct handles *handles, const char *file) {
+  return tlx_system_read(&handles->system, file, strlen(file), 0, 0);
 }
 
-static uint32_t make_model(struct handles *handles, const char *script) {
-  (void)script;
-  return tlx_model_make(&handles->model, &handles->system);
+static uint32_t read_with_image(struct handles *handles, const char *file) {
+  uint32_t fault = read_system(handles, file);
+  return fault == TLX_OK ? tlx_system_image(&handles->system, 0, "1234", 4, 0, 0) : fault;
+}
+
+static uint32_t make_model(struct handles *handles, const char *file) {
+  (void)file;
+  return tlx_model_make(&handles->model, &handles->system, 0, 0);
 }
 
 static uint32_t read_judge(struct handles *handles, const char *file) {
   return tlx_judge_read(&handles->judge, file, strlen(file), TLX_BOTH_LINKS, TLX_ACCEPT_ORDER, TLX_ACCEPT_ORDER, 0, 0);
-}
-
-static uint32_t describe(struct handles *handles, const char *file) {
-  return tlx_system_describe(&handles->system, file, strlen(file), 0, 0);
-}
-
-static uint32_t describe_with_image(struct handles *handles, const char *file) {
-  uint32_t fault = describe(handles, file);
-  return fault == TLX_OK ? tlx_system_image(&handles->system, 0, "1234", 4, 0, 0) : fault;
 }
 
 static uint32_t make_judge(struct handles *handles, const char *file) {
@@ -334,44 +220,146 @@ static uint32_t begin_puts(struct handles *handles, const char *file) {
   return fault;
 }
 
-static uint32_t reset(struct handles *handles, const char *file) {
+static uint32_t reset_judge(struct handles *handles, const char *file) {
   (void)file;
   return tlx_judge_reset(&handles->judge);
 }
 
-static int are_empty(struct handles *handles) {
-  struct tlx_model none = {0};
+/* Nothing but the system that was there before holds something. */
+static int are_empty(struct handles *handles, int has_system) {
   struct tlx_beat beat = {0};
-  return tlx_model_make(&none, &handles->system) == TLX_EMPTY && tlx_system_ports(&handles->system) == 0 &&
-         tlx_model_ports(&handles->model) == 0 && tlx_judge_step(&handles->judge, &beat) == TLX_EMPTY;
+  return (tlx_system_ports(&handles->system) > 0) == has_system && tlx_model_ports(&handles->model) == 0 &&
+         tlx_judge_step(&handles->judge, &beat) == TLX_EMPTY;
 }
 
-/* Refuses each request of a call in turn: it must say so, hold nothing and have given back all, also what was prepared for it. A request
- * that gives up room of a block may be refused, and the block stays as it is. */
-static void refuse_each(const char *name, call *prepare, call *asked, const char *script) {
+static void free_all(struct handles *handles) {
+  tlx_system_free(&handles->system);
+  tlx_model_free(&handles->model);
+  tlx_judge_free(&handles->judge);
+}
+
+/* Refuses each request of a call in turn: it must say so, make nothing, and give back all that it took. A system that was prepared for it stays, and
+ * the call may be made again; a judge that was is gone. A request that gives up room of a block may be refused, and the block stays as it is. */
+static void refuse_each(const char *name, call *prepare, call *asked, const char *file) {
   int is_well = 1, was_refused = 1;
   size_t number = 0;
   while (was_refused) {
     struct handles handles = {0};
-    long before = blocks;
-    if (prepare) is_well &= prepare(&handles, script) == TLX_OK;
+    long before = blocks, prepared;
+    if (prepare) is_well &= prepare(&handles, file) == TLX_OK;
+    int has_system = tlx_system_ports(&handles.system) > 0;
+    prepared = has_system ? blocks : before;
     requests = 0;
     asked_less = 0;
     refused = ++number;
-    uint32_t fault = asked(&handles, script);
+    uint32_t fault = asked(&handles, file);
     was_refused = requests >= number;
     refused = 0;
     is_well &= fault == (was_refused && !asked_less ? TLX_MEMORY : TLX_OK);
-    if (fault == TLX_MEMORY) is_well &= blocks == before && are_empty(&handles);
-    tlx_system_free(&handles.system);
-    tlx_model_free(&handles.model);
-    tlx_judge_free(&handles.judge);
+    if (fault == TLX_MEMORY) {
+      is_well &= blocks == prepared && are_empty(&handles, has_system);
+      if (has_system) is_well &= asked(&handles, file) == TLX_OK;
+    }
+    free_all(&handles);
     is_well &= blocks == before;
   }
   tell(name, is_well && number > 1);
 }
 
-/* Refuses each request of a call that reads a script with a fault: want of memory is told, or the fault, whose text is left out. */
+/* ---- models that are refused memory: a call on a model answers TLX_MEMORY, has changed nothing, and may be made again */
+
+/* A memory that nobody has written, one that is seen at two places and is unknown, and registers that a reset loads. */
+static const char WRITTEN[] =
+    "resets = true\n"
+    "[[port]]\nkind = \"ram\"\nbase = 0x1000\nlength = 0x10000\n"
+    "[[port]]\nkind = \"ram\"\nranges = [[0x200fc, 16], [0x300fc, 16]]\nmirror = true\nunknown = true\n"
+    "[[port]]\nkind = \"regs\"\nbase = 0x40000\nlength = 8\nreset = \"a0a1a2a3\"\n"
+    "[[master]]\nsources = 1\n";
+
+/* Whether a byte is what it was; -1 is an unknown one. */
+static int holds(struct tlx_model *model, uint64_t address, int expected) {
+  uint8_t byte = 0, known = 0;
+  return tlx_model_peek(model, address, &byte, &known) == TLX_OK && (known ? byte : -1) == expected;
+}
+
+static uint32_t serve_put(struct tlx_model *model, uint64_t address, struct tlx_answer *answer) {
+  struct tlx_request put = {.size = 2, .address = address, .bytes = {9, 9, 9, 9}};
+  return tlx_model_serve(model, 0, &put, answer);
+}
+
+static uint32_t put_apart(struct tlx_model *model, struct tlx_answer *answer) { return serve_put(model, 0x1100, answer); }
+static uint32_t put_mirrored(struct tlx_model *model, struct tlx_answer *answer) { return serve_put(model, 0x30100, answer); }
+static uint32_t poke_known(struct tlx_model *model, struct tlx_answer *answer) {
+  (void)answer;
+  return tlx_model_poke(model, 0x1100, 9, 1);
+}
+static uint32_t poke_unknown(struct tlx_model *model, struct tlx_answer *answer) {
+  (void)answer;
+  return tlx_model_poke(model, 0x1100, 9, 0);
+}
+static uint32_t reset_model(struct tlx_model *model, struct tlx_answer *answer) {
+  (void)answer;
+  return tlx_model_reset(model);
+}
+
+/* The calls, each with the byte that it changes, before and after. */
+static const struct written {
+  const char *name;
+  uint32_t (*asked)(struct tlx_model *model, struct tlx_answer *answer);
+  uint64_t address;
+  int before, after;
+} WRITES[] = {
+    {"a put that is refused memory", put_apart, 0x1101, 0, 9},
+    {"a put to a mirror that is refused memory", put_mirrored, 0x20100, -1, 9},
+    {"a known byte that is refused memory", poke_known, 0x1100, 0, 9},
+    {"an unknown byte that is refused memory", poke_unknown, 0x1100, 0, -1},
+    {"a reset of a model that is refused memory", reset_model, 0x40001, 0x7f, 0xa1},
+};
+
+/* A model in which a register has been changed. */
+static int make_written(struct handles *handles) {
+  return read_system(handles, WRITTEN) == TLX_OK && make_model(handles, WRITTEN) == TLX_OK &&
+         tlx_model_poke(&handles->model, 0x40001, 0x7f, 1) == TLX_OK;
+}
+
+/* Refuses a request of a call on a model; whether there was such a request. */
+static int refuse_write(const struct written *write, size_t number, int *is_well) {
+  struct handles handles = {0};
+  struct tlx_answer answer, before;
+  memset(&answer, 0xa5, sizeof answer);
+  before = answer;
+  *is_well &= make_written(&handles) && holds(&handles.model, write->address, write->before);
+  requests = 0;
+  asked_less = 0;
+  refused = number;
+  uint32_t fault = write->asked(&handles.model, &answer);
+  int was_refused = requests >= number;
+  refused = 0;
+  *is_well &= fault == (was_refused && !asked_less ? TLX_MEMORY : TLX_OK);
+  if (fault == TLX_MEMORY) {
+    *is_well &= holds(&handles.model, write->address, write->before) && !memcmp(&answer, &before, sizeof answer) &&
+                holds(&handles.model, 0x40001, 0x7f) && write->asked(&handles.model, &answer) == TLX_OK;
+  }
+  *is_well &= holds(&handles.model, write->address, write->after);
+  /* a put that was refused has not been counted */
+  if (memcmp(&answer, &before, sizeof answer)) *is_well &= answer.place == 0;
+  free_all(&handles);
+  return was_refused;
+}
+
+static void refuse_writes(void) {
+  for (size_t k = 0; k < sizeof WRITES / sizeof *WRITES; k++) {
+    long before = blocks;
+    size_t number = 1;
+    int is_well = 1;
+    while (refuse_write(&WRITES[k], number, &is_well)) number++;
+    tell(WRITES[k].name, is_well && number > 1 && blocks == before);
+  }
+}
+
+/* ---- beats, images and texts that are refused memory */
+
+/* Refuses each request of a call that reads a file with a fault: want of memory is told, or the fault, whose text is left out. */
 static void refuse_text(void) {
   struct tlx_system system = {0};
   char text[128];
@@ -382,7 +370,7 @@ static void refuse_text(void) {
   do {
     requests = 0;
     refused = ++number;
-    fault = tlx_system_read(&system, "slots = 257", 11, text, sizeof text);
+    fault = tlx_system_read(&system, "bus = 3", 7, text, sizeof text);
     if (fault == TLX_OUT_OF_RANGE && requests >= number) without_text++;
     is_well &= fault == TLX_MEMORY || (fault == TLX_OUT_OF_RANGE && !text[0] == (requests >= number));
   } while (requests >= number);
@@ -390,11 +378,11 @@ static void refuse_text(void) {
   tell("a fault without memory for its text", is_well && without_text > 0 && number > without_text + 1 && blocks == before);
 }
 
-/* The memory for an image is refused: the one before it stays, so that a judge is made of it. */
+/* The memory for an image is refused: the one before it stays, so that a judge and a model are made of it. */
 static void refuse_image(const char *file) {
   struct handles handles = {0};
   long before = blocks;
-  int is_well = describe(&handles, file) == TLX_OK;
+  int is_well = read_system(&handles, file) == TLX_OK;
   long without = blocks;
   refused = 1;
   requests = 0;
@@ -405,8 +393,8 @@ static void refuse_image(const char *file) {
   requests = 0;
   is_well &= tlx_system_image(&handles.system, 0, "34", 2, 0, 0) == TLX_MEMORY;
   refused = 0;
-  is_well &= make_judge(&handles, file) == TLX_OK;
-  tlx_judge_free(&handles.judge);
+  is_well &= make_judge(&handles, file) == TLX_OK && make_model(&handles, file) == TLX_OK && holds(&handles.model, 1, '2');
+  free_all(&handles);
   tell("an image that is refused memory", is_well && blocks == before);
 }
 
@@ -434,28 +422,26 @@ static void refuse_steps(void) {
   tell("beats that are refused memory", is_well && blocks == before);
 }
 
-static void check_memory(const char *script) {
+static void check_memory(const char *file) {
   static const char IMAGE[] = "[[port]]\nname = \"rom\"\nkind = \"rom\"\nbase = 0\nlength = 64\nimage = \"a\"\nreset = \"00\"\n[[master]]\nsources = 3\n";
-  static const char OPERATIONS[] =
-      "slots = 1\n" PORT("0x1000", "64") MASTER("2", "0 putfull 0x1000 2 11223344\", \"wait\", \"1 putpart 0x1000 2 --556677")
-      MASTER("1", "0 get 0x1000 2");
-  refuse_each("a system that is refused memory", NULL, read_system, script);
-  refuse_each("one with operations", NULL, read_system, OPERATIONS);
-  refuse_each("a model that is refused memory", read_system, make_model, script);
-  refuse_each("a judge that is refused memory", NULL, read_judge, script);
-  refuse_each("a file that is refused memory", NULL, describe, IMAGE);
-  refuse_each("a judge with an image that is refused memory", describe_with_image, make_judge, IMAGE);
-  refuse_each("a reset that is refused memory", begin_puts, reset, RESETS);
+  refuse_each("a system that is refused memory", NULL, read_system, file);
+  refuse_each("a model that is refused memory", read_system, make_model, file);
+  refuse_each("a judge that is refused memory", NULL, read_judge, file);
+  refuse_each("a file with an image that is refused memory", NULL, read_system, IMAGE);
+  refuse_each("a judge with an image that is refused memory", read_with_image, make_judge, IMAGE);
+  refuse_each("a model with an image that is refused memory", read_with_image, make_model, IMAGE);
+  refuse_each("a model with resets that is refused memory", read_system, make_model, WRITTEN);
+  refuse_each("a reset that is refused memory", begin_puts, reset_judge, RESETS);
+  refuse_writes();
   refuse_image(IMAGE);
   refuse_text();
   refuse_steps();
 }
 
 int main(int count, char **words) {
-  static char script[MAX_TEXT];
+  static char file[MAX_TEXT];
   char folder[1024];
   check_words();
-  check_scripts();
   check_systems();
   check_models();
   check_files();
@@ -466,9 +452,9 @@ int main(int count, char **words) {
   check_slaves();
   check_resets();
   snprintf(folder, sizeof folder, "%s/captures", count > 1 ? words[1] : "..");
-  read_file(folder, "system.toml", script);
+  read_file(folder, "system.toml", file);
   check_captures(folder);
-  check_memory(script);
+  check_memory(file);
   tell("beats that were refused memory", wants > 0);
   tell("all memory was given back", blocks == 0);
   printf("%d passed, %d failed\n", passed, failed);

@@ -23,7 +23,7 @@ extern long blocks;     /* that were taken and not given back */
 /* Judges a beat, with each request for memory refused in turn: want of memory changes nothing, so the beat is given again. */
 uint32_t step_refused(struct tlx_judge *judge, const struct tlx_beat *beat);
 
-/* A script, which is a system file too: two RAMs of 64 bytes, and a master with two sources. */
+/* A script, which is a system file: two RAMs of 64 bytes, and a master with two sources. */
 extern const char SYSTEM[];
 
 /* A system file with resets: a memory that keeps its bytes, and registers that are loaded. */
@@ -31,6 +31,9 @@ extern const char RESETS[];
 
 /* captures.c: judges each capture of a folder by calls */
 void check_captures(const char *folder);
+
+/* models.c: the calls of models */
+void check_models(void);
 
 /* judges.c: the calls of judges and of the systems that they are made of */
 void check_files(void);

@@ -1,4 +1,4 @@
-/* The calls of judges, and of the systems that they are made of, with right and wrong arguments. */
+/* The calls of judges, and of the systems that they and models are made of, with right and wrong arguments. */
 #include "check.h"
 
 #include <inttypes.h>
@@ -12,6 +12,7 @@
 static const struct { const char *file; uint32_t fault; const char *text; } FILES[] = {
     {"port = 1\n=", TLX_NOT_TOML, "system: not TOML"},
     {"port = 1 # \xff", TLX_NOT_TOML, "system: not TOML"},
+    {"slots = 257\n[[master]]\nsources = \"2\"\nops = [\"get\"]\n", TLX_WRONG_TYPE, "system: wrong type of sources"},
     {"prot = 1\nport = 1", TLX_UNKNOWN_KEY, "system: unknown key prot (near: port)"},
     {"", TLX_MISSING, "system: missing master"},
     {"port = 1", TLX_WRONG_TYPE, "system: wrong type of port"},
@@ -31,27 +32,51 @@ static uint32_t read_file_of(struct tlx_judge *judge, const char *file, char *te
 /* The same in two calls. */
 static uint32_t make_of(struct tlx_judge *judge, const char *file, char *text, size_t room) {
   struct tlx_system system = {0};
-  uint32_t fault = tlx_system_describe(&system, file, strlen(file), text, room);
+  uint32_t fault = tlx_system_read(&system, file, strlen(file), text, room);
   if (fault == TLX_OK) fault = tlx_judge_make(judge, &system, TLX_MASTER_LINKS, TLX_ACCEPT_ORDER, TLX_ACCEPT_ORDER, text, room);
   tlx_system_free(&system);
   return fault;
 }
 
-void check_files(void) {
+/* A model of it, in two calls. */
+static uint32_t make_model_of(const char *file, char *text, size_t room) {
+  struct tlx_system system = {0};
+  struct tlx_model model = {0};
+  uint32_t fault = tlx_system_read(&system, file, strlen(file), text, room);
+  if (fault == TLX_OK) fault = tlx_model_make(&model, &system, text, room);
+  tlx_system_free(&system);
+  tlx_model_free(&model);
+  return fault;
+}
+
+static void check_lengths(void) {
   static char longest[(1 << 20) + 1];
   struct tlx_judge judge = {0};
+  struct tlx_system system = {0};
+  char text[128];
+  memset(longest, '#', sizeof longest);
+  tell("a file too long", tlx_judge_read(&judge, longest, sizeof longest, 0, 0, 0, text, sizeof text) == TLX_TOO_LONG &&
+       !strcmp(text, "system: longer than 1048576 bytes") && tlx_system_read(&system, longest, sizeof longest, text, sizeof text) == TLX_TOO_LONG &&
+       !strcmp(text, "system: longer than 1048576 bytes"));
+  tell("a file as long as it may be", tlx_judge_read(&judge, longest, sizeof longest - 1, 0, 0, 0, text, sizeof text) == TLX_MISSING &&
+       tlx_system_read(&system, longest, sizeof longest - 1, text, sizeof text) == TLX_MISSING);
+  tell("a text that is cut off", tlx_system_read(&system, "bus = 3", 7, text, 8) == TLX_OUT_OF_RANGE && !strcmp(text, "system:"));
+}
+
+void check_files(void) {
+  struct tlx_judge judge = {0};
+  struct tlx_system system = {0};
   char text[128];
   for (size_t k = 0; k < sizeof FILES / sizeof *FILES; k++)
     tell(FILES[k].text, read_file_of(&judge, FILES[k].file, text, sizeof text) == FILES[k].fault && !strcmp(text, FILES[k].text) &&
-         make_of(&judge, FILES[k].file, text, sizeof text) == FILES[k].fault && !strcmp(text, FILES[k].text));
-  memset(longest, '#', sizeof longest);
-  tell("a file too long", tlx_judge_read(&judge, longest, sizeof longest, 0, 0, 0, text, sizeof text) == TLX_TOO_LONG &&
-       !strcmp(text, "system: longer than 1048576 bytes"));
-  tell("a file as long as it may be", tlx_judge_read(&judge, longest, sizeof longest - 1, 0, 0, 0, text, sizeof text) == TLX_MISSING);
-  struct tlx_system system = {0};
+         make_of(&judge, FILES[k].file, text, sizeof text) == FILES[k].fault && !strcmp(text, FILES[k].text) &&
+         make_model_of(FILES[k].file, text, sizeof text) == FILES[k].fault && !strcmp(text, FILES[k].text));
+  check_lengths();
+  tell("slots and operations that are wrong",
+       make_model_of("slots = 257\n[[master]]\nsources = 1\nops = [\"1 get 0x1000 2\"]\n", text, sizeof text) == TLX_OK && !text[0]);
   tell("a header of another version", tlx_version() == TLX_VERSION &&
        tlx_judge_read_at(&judge, (const uint8_t *)"", 0, 9, 9, 9, TLX_VERSION + 1, text, sizeof text, &(size_t){0}) == TLX_OTHER_VERSION &&
-       tlx_system_describe_at(&system, (const uint8_t *)"", 0, TLX_VERSION - 1, text, sizeof text, &(size_t){0}) == TLX_OTHER_VERSION);
+       tlx_system_read_at(&system, (const uint8_t *)"", 0, TLX_VERSION - 1, text, sizeof text, &(size_t){0}) == TLX_OTHER_VERSION);
 }
 
 /* ---- images */
@@ -103,18 +128,53 @@ static void check_image_read(struct tlx_judge *judge) {
   tell("the bytes of an image", is_well && tlx_judge_step(judge, &beat) == TLX_OK);
 }
 
-void check_images(void) {
-  struct tlx_system system = {0}, script = {0};
+/* A judge and a model are made once all images were handed in, and the system stays. */
+static void check_made(struct tlx_system *system) {
   struct tlx_judge judge = {0}, second = {0};
   struct tlx_model model = {0};
   char text[128];
+  tell("wrong words", tlx_judge_make(&judge, system, 4, 0, 0, 0, 0) == TLX_BAD_ARGUMENT && tlx_judge_make(&judge, system, 0, 3, 0, 0, 0) == TLX_BAD_ARGUMENT &&
+       tlx_judge_make(&judge, system, 0, 0, 3, 0, 0) == TLX_BAD_ARGUMENT &&
+       tlx_judge_make(0, system, 0, 0, 0, text, sizeof text) == TLX_NULL && tlx_judge_make(&judge, 0, 0, 0, 0, 0, 9) == TLX_NULL);
+  tell("a judge with images", make(&judge, system, text, sizeof text) == TLX_OK && !text[0] && tlx_system_ports(system) == 3);
+  tell("a second judge of a system", make(&judge, system, 0, 0) == TLX_FULL && make(&second, system, 0, 0) == TLX_OK);
+  tell("a model beside them", tlx_model_make(&model, system, 0, 0) == TLX_OK && tlx_model_ports(&model) == 4);
+  tell("wrong words before a full handle", tlx_judge_make(&judge, system, 4, 0, 0, 0, 0) == TLX_BAD_ARGUMENT);
+  check_image_read(&judge);
+  tlx_judge_free(&judge);
+  check_image_read(&second);
+  tlx_judge_free(&second);
+  tlx_model_free(&model);
+}
+
+/* A system without images, and one of which nothing can be made. */
+static void check_without_images(void) {
+  struct tlx_system script = {0}, system = {0};
+  struct tlx_judge judge = {0}, second = {0};
+  struct tlx_model model = {0};
+  char text[128];
+  tlx_system_read(&script, SYSTEM, strlen(SYSTEM), 0, 0);
+  tell("a script's system", tlx_system_ports(&script) == 2 && tlx_system_image_name(&script, 0, text, sizeof text) == 0 &&
+       tlx_system_image(&script, 0, "", 0, 0, 0) == TLX_NO_IMAGE && make(&judge, &script, 0, 0) == TLX_OK && tlx_model_make(&model, &script, 0, 0) == TLX_OK);
+  tell("a full judge before an empty system", make(&judge, &system, 0, 0) == TLX_FULL);
+  tlx_system_read(&system, TOO_MANY_SOURCES, strlen(TOO_MANY_SOURCES), 0, 0);
+  tell("a system that stays after a fault", make(&second, &system, 0, 0) == TLX_BAD_SOURCES && make(&second, &system, 0, 0) == TLX_BAD_SOURCES);
+  tlx_system_free(&system);
+  tlx_system_free(&script);
+  tlx_judge_free(&judge);
+  tlx_model_free(&model);
+}
+
+void check_images(void) {
+  struct tlx_system system = {0};
+  struct tlx_judge judge = {0};
+  char text[128];
   memset(text, 'a', sizeof text);
-  tell("null files", tlx_system_describe(0, IMAGES, 1, text, sizeof text) == TLX_NULL && !text[0] && tlx_system_describe(&system, 0, 0, 0, 9) == TLX_NULL);
+  tell("null files", tlx_system_read(0, IMAGES, 1, text, sizeof text) == TLX_NULL && !text[0] && tlx_system_read(&system, 0, 0, 0, 9) == TLX_NULL);
   tell("what is empty", tlx_system_ports(&system) == 0 && tlx_system_image(&system, 0, "", 0, 0, 0) == TLX_EMPTY &&
        make(&judge, &system, text, sizeof text) == TLX_EMPTY && !text[0]);
-  tell("a file with images", tlx_system_describe(&system, IMAGES, strlen(IMAGES), text, sizeof text) == TLX_OK && !text[0]);
-  tell("a second file in one handle", tlx_system_describe(&system, IMAGES, strlen(IMAGES), 0, 0) == TLX_FULL);
-  tell("a model of it", tlx_model_make(&model, &system) == TLX_EMPTY);
+  tell("a file with images", tlx_system_read(&system, IMAGES, strlen(IMAGES), text, sizeof text) == TLX_OK && !text[0]);
+  tell("a second file in one handle", tlx_system_read(&system, IMAGES, strlen(IMAGES), 0, 0) == TLX_FULL);
   check_names(&system);
   tell("a judge without its first image", make(&judge, &system, text, sizeof text) == TLX_IMAGE_UNREADABLE &&
        !strcmp(text, "system: port 0: image can't be read"));
@@ -122,20 +182,9 @@ void check_images(void) {
   tell("a judge without its second image", make(&judge, &system, text, sizeof text) == TLX_IMAGE_UNREADABLE &&
        !strcmp(text, "system: port 2: image can't be read"));
   check_handing_in(&system);
-  tell("wrong words", tlx_judge_make(&judge, &system, 4, 0, 0, 0, 0) == TLX_BAD_ARGUMENT && tlx_judge_make(&judge, &system, 0, 3, 0, 0, 0) == TLX_BAD_ARGUMENT &&
-       tlx_judge_make(&judge, &system, 0, 0, 3, 0, 0) == TLX_BAD_ARGUMENT &&
-       tlx_judge_make(0, &system, 0, 0, 0, text, sizeof text) == TLX_NULL && tlx_judge_make(&judge, 0, 0, 0, 0, 0, 9) == TLX_NULL);
-  tell("a judge with images", make(&judge, &system, text, sizeof text) == TLX_OK && !text[0] && tlx_system_ports(&system) == 0);
-  tell("a judge of what was taken", make(&judge, &system, 0, 0) == TLX_FULL && make(&second, &system, 0, 0) == TLX_EMPTY);
-  check_image_read(&judge);
-  tlx_system_read(&script, SYSTEM, strlen(SYSTEM), 0, 0);
-  tell("a script's system", tlx_system_ports(&script) == 0 && tlx_system_image_name(&script, 0, text, sizeof text) == 0 &&
-       tlx_system_image(&script, 0, "", 0, 0, 0) == TLX_EMPTY && make(&second, &script, 0, 0) == TLX_EMPTY && tlx_model_make(&model, &script) == TLX_OK);
-  tlx_system_describe(&system, TOO_MANY_SOURCES, strlen(TOO_MANY_SOURCES), 0, 0);
-  tell("a system that is taken after a fault", make(&second, &system, 0, 0) == TLX_BAD_SOURCES && make(&second, &system, 0, 0) == TLX_EMPTY);
+  check_made(&system);
+  check_without_images();
   tlx_system_free(&system);
-  tlx_judge_free(&judge);
-  tlx_model_free(&model);
 }
 
 /* ---- beats */

@@ -38,8 +38,17 @@ port = [{kind = "ram", base = 0x1000, length = 64, reset = "0011223344556677"},
         {kind = "regs", base = 0x2000, length = 16, reset = "a0a1a2a3", on_reset = "load"}]
 master = [{sources = 2}]
 """
-# A system file that is no script.
-FILE = 'master = [{sources = 2}]\nport = [{kind = "ram", base = 0x1000, length = 64}]'
+# A system file that is no script: a memory that nobody cleared, registers that are cleared by ones, a memory that is seen at two ranges with a byte
+# that changes by itself, a device, and a ROM with a table of sizes that the second master does not reach.
+FILE = """
+resets = true
+port = [{kind = "ram", base = 0x1000, length = 64, unknown = true, reset = "a0a1a2"},
+        {kind = "w1c", base = 0x2000, length = 8, reset = "ff0f"},
+        {kind = "ram", ranges = [[0x3000, 16], [0x4004, 16]], mirror = true, reset = "c0c1c2c3", volatile = [[3, 1]]},
+        {kind = "device", base = 0x5000, length = 8},
+        {kind = "rom", base = 0x6000, length = 8, reset = "0102", sizes = {get = [0, 1]}}]
+master = [{sources = 2}, {sources = 1, reach = [0, 1, 2, 3]}]
+"""
 HUGE = 1 << 600
 GET = tlx.Request.get(0x1000, 2, 1)
 
@@ -79,25 +88,39 @@ def check_systems(tally):
                               ("#" * 1048577, "TOO_LONG", "system: longer than 1048576 bytes")):
         found = raises(f"a system with {fault}", tlx.InvalidSystem, tlx.System, text)
         tally.tell(f"its line {line}", str(found) == line and found.fault is tlx.Fault[fault] and isinstance(found, ValueError))
-    found = raises("a model of a file that is no script", tlx.InvalidSystem, tlx.Model, tlx.System(FILE))
-    tally.tell("its line", str(found) == "script: missing slots")
+    overlap = 'port = [{kind = "ram", base = 0, length = 2}, {kind = "ram", base = 1, length = 1}]\nmaster = [{sources = 1}]'
+    found = raises("ports that overlap", tlx.InvalidSystem, tlx.System, overlap)
+    tally.tell("their line", str(found) == "system: ports 0 and 1 overlap" and found.fault is tlx.Fault.BAD_PORTS)
     tally.tell("a system of bytes", tlx.System(SYSTEM.encode()).text == tlx.System(SYSTEM).text)
-    tally.tell("two models of one system", all(tlx.Model(system).masters == 1 for system in [tlx.System(SYSTEM)] * 2))
+    check_sharing(tally, tlx.System(SYSTEM))
+    again = pickle.loads(pickle.dumps(tlx.System(IMAGES, {0: b"\x11", 2: b""})))
+    tally.tell("a system that was pickled", again.images == {0: b"\x11", 2: b""} and tlx.Model(again).ports == 4)
     raises("a model of a text", TypeError, tlx.Model, SYSTEM)
     raises("a model of none", TypeError, tlx.Model, None)
+
+
+def check_sharing(tally, system):
+    """Two models and a judge of one system, none of which changes another."""
+    models, judge = [tlx.Model(system), tlx.Model(system)], tlx.Judge(system, "masters")
+    models[0].serve(0, tlx.Request.put(0x1000, b"\x77"))
+    judge.step(get_beat())
+    third = tlx.Model(system)
+    tally.tell("models of one system", [model.peek(0x1000) for model in (*models, third)] == [0x77, 0, 0])
+    del system, models[1]
+    tally.tell("a model after its system", models[0].serve(0, GET).place == 1 and judge.requests == 1)
 
 
 def check_model(tally):
     model = tlx.Model(tlx.System(SYSTEM))
     tally.tell("masters and ports", (model.masters, model.ports) == (1, 3))
-    tally.tell("a get", model.serve(0, GET) == tlx.Answer(tlx.Reply.ACCESS_ACK_DATA, 2, 1, False, b"\x00\x11\x22\x33", 0, 0))
+    tally.tell("a get", model.serve(0, GET) == tlx.Answer(tlx.Reply.ACCESS_ACK_DATA, 2, 1, False, b"\x00\x11\x22\x33", 0, 0, 0b1111, False))
     half = tlx.Request(tlx.Ask.PUT_PARTIAL, 0x1000, 2, data=b"\xaa\xbb\xcc\xdd", mask=0b1010)
     tally.tell("a partial put", model.serve(0, half) == tlx.Answer(tlx.Reply.ACCESS_ACK, 2, 0, False, b"", 0, 1))
-    tally.tell("bytes after it", [model.byte(0x1000 + k) for k in range(5)] == [0, 0xBB, 0x22, 0xDD, 0x44])
+    tally.tell("bytes after it", [model.peek(0x1000 + k) for k in range(5)] == [0, 0xBB, 0x22, 0xDD, 0x44])
     model.serve(0, changed(half, mask=None))
-    tally.tell("a partial put of all", model.byte(0x1000) == 0xAA)
-    tally.tell("a put", model.serve(0, tlx.Request.put(0x2000, b"\x5a")).port == 1 and model.byte(0x2000) == 0x5A)
-    denied = tlx.Answer(tlx.Reply.ACCESS_ACK_DATA, 8, 0, True, bytes(256), 2, 0)
+    tally.tell("a partial put of all", model.peek(0x1000) == 0xAA)
+    tally.tell("a put", model.serve(0, tlx.Request.put(0x2000, b"\x5a")).port == 1 and model.peek(0x2000) == 0x5A)
+    denied = tlx.Answer(tlx.Reply.ACCESS_ACK_DATA, 8, 0, True, bytes(256), 2, 0, (1 << 256) - 1)
     tally.tell("a denied get of 256 bytes", model.serve(0, tlx.Request.get(0x1000, 8)) == denied)
     swap = tlx.Request(tlx.Ask.LOGICAL, 0x2000, 2, 0, b"abcd", 3)
     tally.tell("a swap", model.serve(0, swap).data == b"\x5a\0\0\0" and model.serve(0, tlx.Request.get(0x2000, 2)).data == b"abcd")
@@ -107,7 +130,8 @@ def check_model(tally):
         tally.tell("a model in a with statement", same is model)
     tally.tell("a closed model", (model.masters, model.ports) == (0, 0))
     tally.raises("a request of a closed model", ValueError, model.serve, 0, GET)
-    tally.raises("a byte of a closed model", ValueError, model.byte, 0x1000)
+    for name, call in (("a byte", lambda: model.peek(0x1000)), ("a poke", lambda: model.poke(0x1000, 1)), ("a reset", model.reset)):
+        tally.raises(f"{name} of a closed model", ValueError, call)
     model.close()
 
 
@@ -119,7 +143,9 @@ def check_refused_requests(tally, model):
                                ("no such parameter", "NO_OPERATION", (0, changed(GET, opcode=2, param=5, data=bytes(4)))),
                                ("a size too large", "SIZE", (0, changed(GET, size=9)))):
         tally.tell(f"the fault of {name}", tally.raises(name, tlx.Refused, model.serve, *words).fault is tlx.Fault[fault])
-    tally.tell("a byte that no slave has", tally.raises("no byte", tlx.Refused, model.byte, 0x9000).fault is tlx.Fault.NO_BYTE)
+    tally.tell("a byte that no slave has", tally.raises("no byte", tlx.Refused, model.peek, 0x9000).fault is tlx.Fault.NO_BYTE)
+    tally.tell("a poke where no slave is", tally.raises("no byte there", tlx.Refused, model.poke, 0x9000, 1).fault is tlx.Fault.NO_BYTE)
+    tally.tell("a reset without resets", tally.raises("no resets", tlx.Refused, model.reset).fault is tlx.Fault.NO_LINK)
     put = tlx.Request.put(0x1000, b"abcd")
     for name, kind, words in (
             ("a master by its name", TypeError, ("0", GET)), ("master -1", OverflowError, (-1, GET)), ("master 2^70", OverflowError, (HUGE, GET)),
@@ -135,10 +161,58 @@ def check_refused_requests(tally, model):
             ("a mask of text", TypeError, (0, changed(put, opcode=1, mask="1111")))):
         tally.raises(name, kind, model.serve, *words)
     for address, kind in ((-1, OverflowError), (1 << 64, OverflowError), ("0x1000", TypeError), (None, TypeError)):
-        tally.raises(f"the byte at {address}", kind, model.byte, address)
+        tally.raises(f"the byte at {address}", kind, model.peek, address)
+        tally.raises(f"a poke at {address}", kind, model.poke, address, 0)
+    for byte, kind in ((-1, OverflowError), (256, OverflowError), ("0", TypeError), (b"0", TypeError), (0.5, TypeError)):
+        tally.raises(f"a poke of {byte}", kind, model.poke, 0x1000, byte)
     tally.tell("the next request", model.serve(0, GET).place == before + 1)
     for data in (b"", b"abc"):
         tally.raises(f"a put of {len(data)} bytes", ValueError, tlx.Request.put, 0, data)
+
+
+def answer_of(model, *words, master=0):
+    """What a request is answered: the port, the place, the bytes with None for each that is unknown, and `denied` or `device`."""
+    answer = model.serve(master, tlx.Request(*words))
+    data = [byte if answer.known >> k & 1 else None for k, byte in enumerate(answer.data)]
+    is_well = all(byte is not None or answer.data[k] == 0 for k, byte in enumerate(data)) and answer.known >> len(data) == 0
+    return answer.port, answer.place, data, *["denied"] * answer.denied, *["device"] * answer.device, *["wrong"] * (not is_well)
+
+
+def bytes_of(model, address, count):
+    return [model.peek(at) for at in range(address, address + count)]
+
+
+def check_described(tally):
+    """A model of bytes that are known or not, and of a device."""
+    model, ask = tlx.Model(tlx.System(FILE)), tlx.Ask
+    for name, words, wanted in (
+            ("bytes that nobody cleared", (ask.GET, 0x1000, 2), (0, 0, [0xA0, 0xA1, 0xA2, None])),
+            ("a put of some", (ask.PUT_PARTIAL, 0x1004, 2, 0, b"abcd", 0, 0b0101), (0, 1, [])),
+            ("a sum over unknown bytes", (ask.ARITHMETIC, 0x1004, 2, 0, b"\1\0\0\0", 4), (0, 2, [97, None, 99, None])),
+            ("what it leaves", (ask.GET, 0x1004, 2), (0, 3, [None] * 4)),
+            ("a swap", (ask.LOGICAL, 0x1004, 2, 0, b"abcd", 3), (0, 4, [None] * 4)), ("what a swap leaves", (ask.GET, 0x1004, 2), (0, 5, [*b"abcd"])),
+            ("a put of ones", (ask.PUT_FULL, 0x2000, 2, 0, b"\x0f\x01\xff\0"), (1, 0, [])), ("what they clear", (ask.GET, 0x2000, 2), (1, 1, [0xF0, 0x0E, 0, 0])),
+            ("a second range", (ask.GET, 0x4004, 2), (2, 0, [0xC0, 0xC1, 0xC2, None])), ("a put there", (ask.PUT_FULL, 0x4005, 0, 0, b"a"), (2, 1, [])),
+            ("the first range", (ask.GET, 0x3000, 1), (2, 2, [0xC0, 97])), ("a device", (ask.GET, 0x5000, 1), (3, 0, [None, None], "device")),
+            ("a put to a device", (ask.PUT_FULL, 0x5000, 0, 0, b"a"), (3, 1, [], "device")), ("a ROM", (ask.GET, 0x6000, 1), (4, 0, [1, 2])),
+            ("a size that it has not", (ask.GET, 0x6000, 2), (4, 1, [0] * 4, "denied")), ("no port", (ask.GET, 0x9000, 0), (5, 0, [0], "denied"))):
+        found = answer_of(model, *words)
+        tally.tell(name, found == wanted, f"{found}, and not {wanted}")
+    tally.tell("a port that is not reached", answer_of(model, ask.GET, 0x6000, 0, master=1) == (5, 1, [0], "denied"))
+    check_pokes(tally, model)
+    tally.tell("the next request", answer_of(model, ask.GET, 0x2000, 2) == (1, 2, [0xFF, 0x0F, 0, 0]))
+
+
+def check_pokes(tally, model):
+    """Bytes that are put without a request, and a reset, which loads registers and keeps a memory."""
+    for address, byte in ((0x1003, 7), (0x1000, None), (0x6001, 0xEE), (0x4004, 0xDD), (0x3003, 1), (0x2000, 0x3C)):
+        model.poke(address, byte)
+    tally.tell("bytes that were put", [bytes_of(model, *where) for where in ((0x1000, 4), (0x6000, 2), (0x3000, 4), (0x2000, 2))] == [
+        [None, 0xA1, 0xA2, 7], [1, 0xEE], [0xDD, 97, 0xC2, None], [0x3C, 0x0E]])
+    for name, call in (("a look", lambda: model.peek(0x5000)), ("a byte", lambda: model.poke(0x5000, 1)), ("no byte", lambda: model.poke(0x5007, None))):
+        tally.tell(f"{name} at a device", tally.raises(f"{name}, refused", tlx.Refused, call).fault is tlx.Fault.DEVICE)
+    tally.tell("a reset", model.reset() is None)
+    tally.tell("what it loads and keeps", (bytes_of(model, 0x2000, 2), bytes_of(model, 0x1000, 4)) == ([0xFF, 0x0F], [None, 0xA1, 0xA2, 7]))
 
 
 def check_judge(tally):
@@ -271,8 +345,9 @@ def check_images(tally):
     raises("an image of a port below 0", OverflowError, tlx.System, IMAGES, {-1: b""})
     long = "n" * 5000
     tally.tell("a file with a long name", tlx.System(IMAGES.replace("boot.bin", long), {long: b"", "none": b""}.get).images == {0: b"", 2: b""})
-    model = tlx.Model(tlx.System(f"slots = 1\n{IMAGES}".replace("device", "ram").replace("sources = 1", "sources = 1, ops = []"), {0: b"", 2: b""}))
-    tally.tell("a model looks at no image", model.byte(0x1001) == 0)
+    for name, system in (("a function", named), ("a folder", read)):
+        with tlx.Model(system) as model:
+            tally.tell(f"a model with images by {name}", bytes_of(model, 0x1000, 3) == [0xAA, 0x22, 0])
 
 
 def check_buses(tally):
@@ -379,7 +454,7 @@ def check_wild(tally):
     """20,000 calls with arguments at random: each does what it should or raises one of Python's own exceptions."""
     rng, kinds = random.Random(1), (TypeError, ValueError, OverflowError, tlx.Unlawful)
     values = [0, 1, 2, 3, 4, 5, 7, 8, 9, 255, 256, 65535, 65536, 0x1000, 0x2000, (1 << 64) - 1, 1 << 64, -1, HUGE, None, "1", 1.5, b"", b"ab", True]
-    model, judges = tlx.Model(tlx.System(SYSTEM)), [tlx.Judge(tlx.System(SYSTEM), links) for links in tlx.LINKS]
+    models, judges = [tlx.Model(tlx.System(text)) for text in (SYSTEM, FILE)], [tlx.Judge(tlx.System(SYSTEM), links) for links in tlx.LINKS]
 
     def request():
         made = copy.copy(GET)
@@ -393,7 +468,8 @@ def check_wild(tally):
             setattr(made, field, rng.choice(values if rng.random() < 0.2 else values[:12]))
         return rng.choice([made] * 20 + values)
 
-    calls = (lambda: model.serve(rng.choice([0] * 100 + values), request()), lambda: model.byte(rng.choice(values)),
+    calls = (lambda: rng.choice(models).serve(rng.choice([0] * 100 + values), request()), lambda: rng.choice(models).peek(rng.choice(values)),
+             lambda: rng.choice(models).poke(rng.choice(values), rng.choice(values)), lambda: rng.choice(models).reset(),
              lambda: rng.choice(judges).step(beat()), lambda: rng.choice(judges).step(beat()),
              lambda: rng.choice(judges).steps(rng.choice([rng.randbytes(128 * rng.randrange(4)), rng.randbytes(rng.randrange(400)), *values])))
     done = raised = 0
@@ -432,9 +508,9 @@ def check_memory(tally):
         except tlx.Unlawful:
             pass
 
-    def no_script():
+    def no_system():
         try:
-            tlx.Model(tlx.System(FILE))
+            tlx.System(SYSTEM.replace("0x2000", "0x1001"))
         except tlx.InvalidSystem:
             pass
 
@@ -444,7 +520,7 @@ def check_memory(tally):
             judge.steps(b"")
 
     for name, make in (("models", lambda: tlx.Model(system)), ("judges", lambda: tlx.Judge(system)), ("judges that fail", failing),
-                       ("models that fail", no_script), ("models and judges that are closed", closed)):
+                       ("systems that fail", no_system), ("systems", lambda: tlx.System(SYSTEM)), ("models and judges that are closed", closed)):
         for _ in range(100):
             make()
         before = bytes_in_use()
@@ -457,20 +533,44 @@ def check_memory(tally):
     tally.tell("a judge takes memory that is seen", bytes_in_use() - one > 4096 and kept.requests == 0)
 
 
-def check_want(tally):
-    """A judge of which each put takes a page, until there is no memory: that beat is lawful, and is taken once there is."""
-    pages = 160_000
-    judge = tlx.Judge(tlx.System('port = [{kind = "ram", base = 0, length = 0x1000000000}]\nmaster = [{sources = 1}]'), "masters")
-    put, done = tlx.Beat.ask("m0", tlx.Ask.PUT_FULL, 0, 0, 0, 1, 0x5A), tlx.Beat.reply("m0", tlx.Reply.ACCESS_ACK, 0, 0)
-    beats = tlx.Beats(beat for page in range(pages) for beat in (changed(put, address=page << 16), done))
+# A memory with room for more pages than there is memory for.
+LARGE = 'port = [{kind = "ram", base = 0, length = 0x1000000000}]\nmaster = [{sources = 1}]'
+
+
+def with_little(call):
+    """Makes a call while there are only 8 MiB more of memory."""
     limits = resource.getrlimit(resource.RLIMIT_AS)
     with open("/proc/self/statm", encoding="ascii") as file:
         in_use = int(file.read().split()[0]) * resource.getpagesize()
     resource.setrlimit(resource.RLIMIT_AS, (in_use + (8 << 20), limits[1]))
     try:
-        found = tally.raises("want of memory", MemoryError, judge.steps, beats)
+        return call()
     finally:
         resource.setrlimit(resource.RLIMIT_AS, limits)
+
+
+def check_want_of_model(tally):
+    """A model of which each put takes a page, until there is no memory: that put is not served, and is once there is."""
+    model, put = tlx.Model(tlx.System(LARGE)), tlx.Request.put(0, b"\x5a")
+
+    def put_all():
+        for page in range(160_000):
+            put.address = page << 16
+            model.serve(0, put)
+
+    found = with_little(lambda: tally.raises("want of memory of a model", MemoryError, put_all))
+    tally.tell("the byte of a put that is not served", str(found) == "memory refused" and model.peek(put.address) == 0)
+    answer = model.serve(0, put)
+    tally.tell(f"its place, {answer.place}", answer.place << 16 == put.address > 0 and model.peek(put.address) == 0x5A)
+
+
+def check_want(tally):
+    """A judge of which each put takes a page, until there is no memory: that beat is lawful, and is taken once there is."""
+    pages = 160_000
+    judge = tlx.Judge(tlx.System(LARGE), "masters")
+    put, done = tlx.Beat.ask("m0", tlx.Ask.PUT_FULL, 0, 0, 0, 1, 0x5A), tlx.Beat.reply("m0", tlx.Reply.ACCESS_ACK, 0, 0)
+    beats = tlx.Beats(beat for page in range(pages) for beat in (changed(put, address=page << 16), done))
+    found = with_little(lambda: tally.raises("want of memory", MemoryError, judge.steps, beats))
     place = found.index
     tally.tell(f"its place, {place}", str(found) == "memory refused" and (2 * judge.requests, judge.in_flight) == (place, 0))
     judge.steps(memoryview(beats.memory)[place * beats.ITEM:])
@@ -480,10 +580,11 @@ def check_want(tally):
 def main():
     tally = Tally("calls")
     check_faults(tally, sys.argv[-1])
-    for check in (check_systems, check_model, check_judge, check_resets, check_images, check_buses, check_arrays, check_monitor, check_wild):
+    for check in (check_systems, check_model, check_described, check_judge, check_resets, check_images, check_buses, check_arrays, check_monitor, check_wild):
         check(tally)
     if "--no-memory" not in sys.argv:
         check_memory(tally)
+        check_want_of_model(tally)
         check_want(tally)
 
 

@@ -2,8 +2,8 @@
 """Compares the model with traces: traces.py FOLDER [COUNT], of the examples of a folder and of the serial runs of random scripts.
 
 Each line of a trace is a request and its answer: the model is asked the one, and must give the other. A script with an odd seed is one of
-tests/hostile/random_captures, one with an even seed is of tests/hostile/hostile: if tlx refuses it, the package must name the same fault. It
-needs the built program (./tlx builds it; TLX=path takes another).
+tests/hostile/random_captures, one with an even seed is of tests/hostile/hostile: what tlx refuses since it is no TOML, and nothing else, the package
+must refuse so too. It needs the built program (./tlx builds it; TLX=path takes another).
 """
 
 import concurrent.futures
@@ -31,7 +31,8 @@ def asked(line):
     data = bytes(0 if pair == "--" else int(pair, 16) for pair in pairs)
     mask = sum((pair != "--") << k for k, pair in enumerate(pairs)) if name == "putpart" else None
     request = tlx.Request(opcode, int(address, 16), int(size), int(source), data, param, mask)
-    wanted = tlx.Answer(tlx.Reply(REPLIES[reply]), int(size), int(source), bool(denied), bytes.fromhex(answer or ""), int(port), int(place))
+    wanted = tlx.Answer(tlx.Reply(REPLIES[reply]), int(size), int(source), bool(denied), bytes.fromhex(answer or ""), int(port), int(place),
+                        (1 << len(answer or "") // 2) - 1)
     return int(master), request, wanted
 
 
@@ -47,9 +48,9 @@ def differs(script, lines):
 
 
 def refusal_of(script):
-    """The line of the fault that the package finds in a script."""
+    """The line of the fault that the package finds in the system of a script; none if it finds none."""
     try:
-        tlx.Model(tlx.System(script)).close()
+        tlx.System(script)
     except tlx.InvalidSystem as found:
         return str(found)
     return None
@@ -62,10 +63,10 @@ def try_script(script):
         return differs(script, run.stdout.decode().splitlines()), True
     if run.returncode != 1:
         return f"tlx ended with status {run.returncode}", False
-    # a system file is read first: of a text that is neither, its own first fault is named
+    # slots and operations are nothing to a system, and its limits are wider
     found, line = refusal_of(script), run.stderr.decode().strip()
-    is_same = found is not None and (found.startswith("system: ") or found == line)
-    return None if is_same else f"{found!r}, and not {line!r}", False
+    is_same = (found == "system: not TOML") == (line == "script: not TOML")
+    return None if is_same else f"{found!r} beside {line!r}", False
 
 
 def try_seed(seed):

@@ -5,8 +5,8 @@ import re
 from fault_places import FUNCTIONS, HEADER, NUMBER_SPEC, NUMBERS
 from fault_words import OtherForm, Template, templates
 
-# The numbers of the calls that read a system in one way or the other: of each call the function of tl_c whose numbers it answers.
-SCRIPT_CALL, FILE_CALLS = "tlx_system_read", ("tlx_system_describe", "tlx_judge_make", "tlx_system_image")
+# The calls that read a system file and make something of it, with those of an image, which answer the numbers of a file.
+FILE_CALLS, MODEL_CALLS = ("tlx_system_read", "tlx_judge_make", "tlx_system_image"), ("tlx_system_read", "tlx_model_make", "tlx_system_image")
 # The least number of a fault that is none of any call.
 OWN = 10
 
@@ -43,7 +43,7 @@ def of_words(places):
     places.keyed(places.call_words, [said._replace(key=numbers[said.key]) for said in example if said.key in numbers])
     known = {said.key: said for said in places.call_words}
     beats = {said.key: said for said in places.beats}
-    serve = {said.key: said for said in places.files.errors("crates/tl_model/src/fault.rt", "ServeFault")}
+    serve = {said.key: said for said in places.files.errors("crates/check_model/src/fault.rt", "ServeFault")}
     for function, source, front in (("form_number", beats, "Form."), ("beat_number", beats, ""), ("serve_number", serve, "")):
         for said in places.numbers(function):
             ours, theirs = source.get(front + said.key), known.get(said.text)
@@ -57,28 +57,25 @@ def of_words(places):
 
 
 def of_lines(places):
-    """Words of a number that are the end of a script's or a system file's line, or a part of it."""
+    """Words of a number that are the end of a system file's line, or a part of it; a byte has no line, and its numbers have words alone."""
     known = {said.key: said for said in places.call_words}
-    for function, lines in (("script_number", places.scripts), ("file_number", places.systems)):
-        for said in places.numbers(function):
-            words = known.get(said.text)
-            if said.key in ("Map", "Sources", "PortSources", "Missing", "TwoCalled") or words is None:
-                places.tell(words is not None, f"{said.at}: {said.text!r} of {said.key} has no words")
-                continue
-            wanted = places.memory.text if said.key == "Memory" else next((one.said.text for one in lines if one.key == (said.key,)), "")
-            places.tell(words.text in wanted, f"{words.at}: {words.text!r} of {said.key} is not in {wanted!r}")
+    for said in places.numbers("file_number") + places.numbers("byte_number"):
+        words = known.get(said.text)
+        if said.key in ("Map", "Sources", "PortSources", "Missing", "TwoCalled", "Nowhere", "Device") or words is None:
+            places.tell(words is not None, f"{said.at}: {said.text!r} of {said.key} has no words")
+            continue
+        wanted = places.memory.text if said.key == "Memory" else next((one.said.text for one in places.systems if one.key == (said.key,)), "")
+        places.tell(words.text in wanted, f"{words.at}: {words.text!r} of {said.key} is not in {wanted!r}")
 
 
 def of_examples(places):
     """The numbers that the examples of C want of lines."""
     numbers = {said.key: said.text for said in places.header}
-    for path, head, function, lines in (("tests/c/check.c", "SCRIPTS[] = {\n", "script_number", places.scripts),
-                                        ("tests/c/judges.c", "FILES[] = {\n", "file_number", places.systems)):
-        of_key = {said.key: said.text for said in places.numbers(function)}
-        for said in places.files.words(path, r'TLX_(?P<key>\w+),\s*"(?P<text>[^"]*)"', head, "\n};", "TLX_"):
-            wanted = {of_key.get(one.key[0]) for one in lines if re.fullmatch(one.pattern, said.text)}
-            places.tell(wanted == {numbers.get(said.key)},
-                        f"{said.at}: TLX_{said.key} of {said.text!r} is not the number {sorted(map(str, wanted))} of {NUMBERS}")
+    of_key = {said.key: said.text for said in places.numbers("file_number")}
+    for said in places.files.words("tests/c/judges.c", r'TLX_(?P<key>\w+),\s*"(?P<text>[^"]*)"', "FILES[] = {\n", "\n};", "TLX_"):
+        wanted = {of_key.get(one.key[0]) for one in places.systems if re.fullmatch(one.pattern, said.text)}
+        places.tell(wanted == {numbers.get(said.key)},
+                    f"{said.at}: TLX_{said.key} of {said.text!r} is not the number {sorted(map(str, wanted))} of {NUMBERS}")
 
 
 def faults_of(places, call):
@@ -98,21 +95,24 @@ def faults_of(places, call):
 def of_orders(places):
     """The lists of the header: each name is there, each number of a reader is in its list, and two lists of one file agree."""
     numbers = {said.key: said.text for said in places.header}
-    lists = {call: faults_of(places, call) for call in (SCRIPT_CALL, *FILE_CALLS, "tlx_judge_read", "tlx_model_make", "tlx_model_serve",
-                                                        "tlx_model_byte", "tlx_judge_step", "tlx_judge_reset", "tlx_judge_end")}
+    lists = {call: faults_of(places, call) for call in (*FILE_CALLS, "tlx_judge_read", "tlx_model_make", "tlx_model_serve", "tlx_model_peek",
+                                                        "tlx_model_poke", "tlx_model_reset", "tlx_judge_step", "tlx_judge_reset", "tlx_judge_end")}
     for call, names in lists.items():
         for line, name in names:
             places.tell(name in numbers, f"{HEADER}:{line}: TLX_{name} of {call} is no fault")
-    for calls, functions, leave in (((SCRIPT_CALL,), ("script_number",), {"4"}), (FILE_CALLS, ("file_number", "image_number"), {"4"}),
-                                    (("tlx_judge_read",), ("file_number",), {"4", "62"}), (("tlx_model_serve",), ("serve_number",), set())):
+    of_file = ("file_number", "image_number")
+    for calls, functions, leave in ((FILE_CALLS, of_file, {"4"}), (MODEL_CALLS, of_file, {"4"}), (("tlx_judge_read",), ("file_number",), {"4", "62"}),
+                                    (("tlx_model_serve",), ("serve_number",), set()), (("tlx_model_peek",), ("byte_number",), {"4"}),
+                                    (("tlx_model_poke",), ("byte_number",), set())):
         there = {numbers.get(name) for call in calls for _, name in lists[call]}
         for said in (said for function in functions for said in places.numbers(function) if said.text not in leave):
             places.tell(said.text in there, f"{HEADER}:{lists[calls[0]][0][0]}: {said.text!r} of {said.key} ({said.at}) is not in the list of {calls[0]}")
-    parts = [name for call in FILE_CALLS[:2] for _, name in lists[call] if int(numbers.get(name, 0)) >= OWN]
-    whole = [(line, name) for line, name in lists["tlx_judge_read"] if int(numbers.get(name, 0)) >= OWN]
-    places.tell(len(parts) == len(whole), f"{HEADER}:{whole[0][0]}: {len(whole)} faults of tlx_judge_read, and {len(parts)} of two calls")
-    for (line, name), other in zip(whole, parts):
-        places.tell(name == other, f"{HEADER}:{line}: TLX_{name} stands where two calls have TLX_{other}")
+    own = {call: [(line, name) for line, name in names if int(numbers.get(name, 0)) >= OWN] for call, names in lists.items()}
+    of_judge, of_two = own["tlx_judge_read"], own["tlx_system_read"] + own["tlx_judge_make"]
+    for one, other, word in ((of_judge, of_two, "two calls have"), (own["tlx_model_make"], own["tlx_judge_make"], "tlx_judge_make has")):
+        places.tell(len(one) == len(other), f"{HEADER}:{one[0][0]}: {len(one)} faults, and {word} {len(other)}")
+        for (line, name), (_, wanted) in zip(one, other):
+            places.tell(name == wanted, f"{HEADER}:{line}: TLX_{name} stands where {word} TLX_{wanted}")
     used = {name for names in lists.values() for _, name in names}
     beats = {said.text for function in ("form_number", "beat_number") for said in places.numbers(function)}
     for said in places.header:

@@ -11,7 +11,7 @@ VERDICT, BEAT_SPEC = "crates/check_lines/src/verdict.rt", "crates/check_lines/sp
 # Where a row stands that is unlawful, and the words of the times that replies take, which have no number: calls have no limit.
 PLACE, TIMED = "\nfn push_place(", "\npub fn push_breach("
 NUMBERS, NUMBER_SPEC, HEADER = "crates/tl_c/src/fault.rt", "crates/tl_c/specs/Numbers.antt", "include/tlx.h"
-FUNCTIONS = ("script_number", "file_number", "image_number", "serve_number", "form_number", "beat_number")
+FUNCTIONS = ("file_number", "image_number", "serve_number", "byte_number", "form_number", "beat_number")
 LINES = r"(?:unlawful: line \d|incomplete: \d|empty: no|lawful: \d+ (?!rows`)|capture: line \d)"
 C_STRING = r'"(?P<text>(?:script|system|unlawful|incomplete|empty|lawful): (?:[^"\\]|\\.)*)'
 # Where lines of verdicts and of rows stand as examples.
@@ -275,8 +275,6 @@ class Places:
         self.said(self.scripts, self.files.alternatives("tests/hostile/hostile.py", "FAULT"))
         lint = self.files.calls("tools/tlxtools/commands/lint.py", "Fault", 1, "script: ")
         self.said(self.scripts, lint + self.files.calls("tools/tlxtools/toml_lines.py", "Fault", 1, "script: "), [end])
-        checks = words("tests/c/check.c", C_STRING, "SCRIPTS[] = {\n", "\n};", r"^    \{")
-        self.said(self.scripts, checks, [end, ("TooLong",), ("Map", "TooMany")])
 
     def of_systems(self):
         words = self.files.words
@@ -291,8 +289,8 @@ class Places:
         lint = [said for name in places for said in self.files.calls(f"tools/tlxtools/{name}", "Fault", 1, "system: ")]
         self.said(self.systems, lint, images)
         self.said(self.systems, words("tests/c/judges.c", C_STRING, "FILES[] = {\n", "\n};", "TLX_"), is_whole=False)
-        known = self.scripts + self.systems + self.line_templates
-        for path in ("tests/c/check.c", "tests/c/judges.c"):
+        known = self.systems + self.line_templates
+        for path in ("tests/c/models.c", "tests/c/judges.c"):
             # a format of printf is no line
             texts = [said._replace(text=said.text.removesuffix("\\n")) for said in words(path, C_STRING) if "%" not in said.text]
             self.said(known, texts, is_whole=False)

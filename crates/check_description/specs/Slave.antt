@@ -64,6 +64,10 @@ slave_at_reset number port image order =
     unless (nat_lt (first_length port.ranges) (length image)) (ImageTooLong number)
     (fresh_slave (kept_at_reset port image) order (may_answer_unknown port))
 
--- the error port's: it has no range, so each request is denied
+-- a memory with no range, which denies each request
+abbrev pub denying_slave : Slave
+denying_slave = kept.Memory (ungiven_memory NoDevice (row_of_kind NoDevice) [] [] [] true)
+
+-- the slave of the error port
 abbrev pub error_slave : Order → PortSlave
-error_slave order = fresh_slave (kept.Memory (ungiven_memory NoDevice (row_of_kind NoDevice) [] [] [] true)) order false
+error_slave order = fresh_slave denying_slave order false

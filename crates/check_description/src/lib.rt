@@ -8,7 +8,7 @@
 //! (`specs/Crossing.antt`).
 //! The files of the ports' images are [`Parts::images`]: the program reads them. [`slave_of`] makes of a port and the bytes
 //! of its image the `PortSlave` that it is before any request (`specs/Slave.antt`), [`kept_at_reset`] what a reset of the whole
-//! system loads into it, if it does (`specs/OnReset.antt`), and [`error_slave`] the slave of the error port. [`describe`] answers the [`Description`] that the parts make, or the first fault of their ranges and of their
+//! system loads into it, if it does (`specs/OnReset.antt`), and [`error_slave`] the slave of the error port, over [`denying_slave`]. [`describe`] answers the [`Description`] that the parts make, or the first fault of their ranges and of their
 //! sources (`specs/Description.antt`). Beside that only want of memory is answered.
 //!
 //! What is a TOML document, and what its table is, is the crate `toml`'s own definition, `parse_document`. `laws` says that a
@@ -56,4 +56,4 @@ pub use port::{Contents, Port, PortOrders};
 pub use ports::{read_port, read_ports};
 pub use ranges::first_length;
 pub use read::{MAX_SYSTEM, read_parts};
-pub use slave::{error_slave, kept_at_reset, slave_of};
+pub use slave::{denying_slave, error_slave, kept_at_reset, slave_of};

@@ -3,7 +3,7 @@ ghost use Rattle.std.specs.Prelude.{◌≡◌, ◌≤◌, IfOk, length};
 ghost use Rattle.check_keys.specs.Reading.{Gives};
 ghost use Rattle.check_description.specs.Port.{keeps_bytes, may_answer_unknown as lanes_may_be_unknown, port_view};
 ghost use Rattle.check_description.specs.Ranges.{first_length as length_of_first};
-ghost use Rattle.check_description.specs.Slave.{blank_memory, error_slave as slave_of_error, kept_at_reset, memory_at_reset, sizes_of_port, slave_at_reset};
+ghost use Rattle.check_description.specs.Slave.{blank_memory, denying_slave as slave_that_denies, error_slave as slave_of_error, kept_at_reset, memory_at_reset, sizes_of_port, slave_at_reset};
 
 use crate::kind::PortKind;
 use crate::mirror::{mirrors_kept, ranges_kept};
@@ -102,12 +102,19 @@ pub fn slave_of(
     Ok(PortSlave::new(alloc, kept, order, may_answer_unknown(port)))
 }
 
-/// The slave of the error port: a memory with no range, which denies every request.
-pub fn error_slave(alloc: Global, order: Order) -> PortSlave
-    ensures { result ≡ slave_of_error order }
+/// A memory with no range, which denies each request.
+pub fn denying_slave(alloc: Global) -> Slave
+    ensures { result ≡ slave_that_denies }
 {
     let sizes = Sizes::of(Kind::NoDevice);
     let (nowhere, alone, nothing) = (Vec::new(alloc), Vec::new(alloc), Vec::new(alloc));
     let memory = PartialMemory::new(alloc, Kind::NoDevice, sizes, nowhere, alone, nothing, true);
-    PortSlave::new(alloc, Slave::Memory(memory), order, false)
+    Slave::Memory(memory)
+}
+
+/// The slave of the error port.
+pub fn error_slave(alloc: Global, order: Order) -> PortSlave
+    ensures { result ≡ slave_of_error order }
+{
+    PortSlave::new(alloc, denying_slave(alloc), order, false)
 }

@@ -7,13 +7,13 @@ use Rattle.tl_ops.specs.declared.kind.Kind.{Kind}
 use Rattle.check_memory.specs.Known.{replaced}
 use Rattle.check_memory.specs.Cells.{new_cells, forgotten_cell, forgotten}
 use Rattle.check_memory.specs.Partial.{Partial, start_of, takes_bytes, is_volatile, visible, window_of, after_partial, after_forgetting}
-use Rattle.check_memory.specs.Paged.{Slot, HasPage, KeepsPages}
+use Rattle.check_memory.specs.Paged.{Paged, Slot, HasPage, KeepsPages, content, paged_cells}
 use Rattle.check_memory.proofs.Forgotten.{marked, length-marked}
 use Rattle.check_memory.proofs.Legal.{replaced-same}
 use Rattle.check_memory.proofs.PagePlaces.{length-new_cells}
 use Rattle.check_memory.proofs.Replaced.{length-replaced, get_or-replaced_out}
 use Rattle.check_memory.proofs.SeenWindows.{window_then}
-use Rattle.check_memory.proofs.Space.{replaced-more}
+use Rattle.check_memory.proofs.Space.{length-tabulate, replaced-more}
 use Rattle.check_memory.proofs.Unknown.{got, length-unknown_where}
 
 -- a page that there was is there
@@ -42,6 +42,18 @@ some_read cells read address below is =
       arith,
       ap length is,
       length-take-le 1 (drop address cells) (omega (arith, below, length-drop address cells)),
+    )
+
+-- each address has a byte that is seen, known or not
+pub is_seen : (memory : Partial) (pages : Paged) (place : ℕ) → memory.cells ≡ paged_cells pages → place < 2 ^ 64
+    → place < length (visible memory)
+is_seen memory pages place are below =
+    omega (
+      arith,
+      below,
+      length-unknown_where (is_volatile memory) memory.cells,
+      ap length are,
+      length-tabulate (content pages.slots pages.known) (2 ^ 64),
     )
 
 pub byte_read : (cells read : List (Option ℕ)) (address : ℕ) (byte : Option ℕ) → address < length cells

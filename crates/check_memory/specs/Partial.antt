@@ -1,6 +1,6 @@
 -- A port's memory as contracts see it: what it supports, where it answers, which of its bytes change by themselves, and
 -- one byte for each address, known or unknown. What is legal there, what is seen, and what a request leaves.
-use Rattle.std.specs.Prelude.{ℕ, ◌+◌, ◌-◌, ◌%◌, ◌^◌, ◌≤◌, Bool, false, ◌&&◌, ◌||◌, if◌then◌else◌, ◌==◌, nat_le, List, [], ◌∷◌, take, drop, slice_index_or, Option, All}
+use Rattle.std.specs.Prelude.{ℕ, ◌+◌, ◌-◌, ◌%◌, ◌^◌, ◌≤◌, Bool, false, ◌&&◌, ◌||◌, if◌then◌else◌, ◌==◌, nat_le, List, [], ◌∷◌, take, drop, slice_index_or, Option, None, All}
 use Rattle.tl_types.specs.Operation.{carries_bytes}
 use Rattle.tl_types.specs.Request.{Request}
 use Rattle.tl_types.specs.declared.limits.TheConstants.{MAX_BYTES}
@@ -50,6 +50,10 @@ start_of memory ask = start_in (first_of memory.ranges) memory.mirrors ask.addre
 abbrev pub placed : Partial → Request → Request
 placed memory ask = record ask { address = start_of memory ask }
 
+-- where the byte stands that is sent at an address
+abbrev pub place_of_byte : Partial → ℕ → ℕ
+place_of_byte memory address = start_in (first_of memory.ranges) memory.mirrors address 1
+
 -- ---- requests
 
 -- whether a request is legal: supported, aligned as the standard has it, and in one range. It is the address that was
@@ -71,6 +75,10 @@ is_volatile memory address = holds memory.volatile address 1
 -- the cells as they are seen: those of bytes that change by themselves are unknown
 abbrev pub visible : Partial → List (Option ℕ)
 visible memory = unknown_where (is_volatile memory) memory.cells
+
+-- what is seen of the byte that is sent at an address
+abbrev pub byte_seen : Partial → ℕ → Option ℕ
+byte_seen memory address = slice_index_or (visible memory) (place_of_byte memory address) None
 
 -- what is seen of a request's window
 abbrev pub window_of : Partial → Request → List (Option ℕ)

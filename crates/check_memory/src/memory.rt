@@ -3,7 +3,7 @@ ghost use Rattle.std.specs.Prelude.{◌≡◌, ℕ, ◌+◌, ◌*◌, ◌/◌, �
 ghost use Rattle.tl_types.specs.Operation.{reply_op_of};
 ghost use Rattle.tl_types.specs.Request.{IsLawfulRequest};
 ghost use Rattle.check_memory.specs.Known.{known as known_of};
-ghost use Rattle.check_memory.specs.Partial.{permits, takes_bytes, after_partial, after_forgetting, loaded, start_of, visible, AreWithin, holds};
+ghost use Rattle.check_memory.specs.Partial.{permits, takes_bytes, after_partial, after_forgetting, loaded, start_of, visible, AreWithin, holds, byte_seen, place_of_byte};
 ghost use Rattle.check_memory.specs.Cells.{forgotten};
 ghost use Rattle.check_memory.specs.Pattern.{pattern, shown_cells};
 ghost use Rattle.check_memory.specs.Place.{fill_of, tabulate};
@@ -127,6 +127,26 @@ impl PartialMemory {
     {
         let first = first_of(self.ranges.as_slice());
         start_in(first, &self.mirrors, ask.address(), ask.width() as u64)
+    }
+
+    /// Where the byte stands that is sent at an address.
+    pub fn place(&self, address: u64) -> u64
+        ensures value { result ≡ place_of_byte self.now address }
+        ensures in_space { result < 2 ^ 64 }
+    {
+        let first = first_of(self.ranges.as_slice());
+        start_in(first, &self.mirrors, address, 1)
+    }
+
+    /// What is seen of the byte that is sent at an address, whatever requests are legal there.
+    pub fn byte(&self, address: u64) -> Option<u8>
+        ensures { result ≡ byte_seen self.now address }
+    {
+        let _within = self.ranges.as_slice();
+        let place = self.place(address);
+        let mut cells = Cells::new();
+        self.look(place, 1, &mut cells);
+        cells.get(0)
     }
 
     /// Whether a request is legal here.

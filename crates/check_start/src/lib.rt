@@ -19,4 +19,5 @@ mod slaves;
 mod start;
 
 pub use loads::Loads;
+pub use slaves::image_at;
 pub use start::{Beginning, Terms, begin};

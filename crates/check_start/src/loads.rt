@@ -103,11 +103,7 @@ fn loads_of_ports(
 
 impl Loads {
     /// What a reset loads into these ports, of whose images copies are kept.
-    pub(crate) fn of(
-        alloc: Global,
-        ports: Vec<Port>,
-        images: &[Vec<u8>],
-    ) -> Result<Loads, AllocError>
+    pub fn of(alloc: Global, ports: Vec<Port>, images: &[Vec<u8>]) -> Result<Loads, AllocError>
         requires { ImagesFit (map (λ image. image.items) images.now) (map port_view ports.items) }
         ensures { IfOk result (λ loads. loads
             ≡ loads_at_reset (map (λ image. image.items) images.now) (map port_view ports.items)) }

@@ -284,15 +284,8 @@ impl GroupWatch {
         ensures port { (port : ℕ) → (result ≡ port) ↔ RoutesAt self.now.layout master address size port }
         ensures in_ports { result < length self.now.slaves }
     {
-        let found = self
-            .wiring
-            .map
-            .route_bytes(address, self.wiring.rules.decoded_size(size));
-        if self.wiring.paths.has(master, found) {
-            found
-        } else {
-            self.wiring.map.ports() - 1
-        }
+        self.sized();
+        self.wiring.route(master, address, size)
     }
 
     /// The port that requests at a link go to, of this address and size.

@@ -1,4 +1,8 @@
 //! What a judge knows of a crossbar ahead, apart from its slaves.
+ghost use Rattle.std.specs.Prelude.{◌≡◌, ◌↔◌, ◌≤◌, ℕ, length};
+ghost use Rattle.check_watch.specs.Plan.{RoutesAt};
+ghost use Rattle.tl_types.specs.declared.limits.TheConstants.{MAX_SIZE};
+
 use crate::fifos::FifoLinks;
 use crate::links::Links;
 use crate::paths::Paths;
@@ -40,4 +44,21 @@ impl Model for Wiring {
       master_buses = w.master_buses.items;
       port_buses = w.port_buses.items;
     } };
+}
+
+impl Wiring {
+    /// The port to which a master's requests of this address and size go: the error port, if decoders find no other, or if the
+    /// master has no path to the one that they find.
+    pub fn route(&self, master: usize, address: u64, size: u8) -> usize
+        requires { size ≤ MAX_SIZE }
+        ensures port { (port : ℕ) → (result ≡ port) ↔ RoutesAt self.now master address size port }
+        ensures in_ports { result ≤ length self.now.ports }
+    {
+        let found = self.map.route_bytes(address, self.rules.decoded_size(size));
+        if self.paths.has(master, found) {
+            found
+        } else {
+            self.map.ports() - 1
+        }
+    }
 }

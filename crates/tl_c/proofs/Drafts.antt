@@ -1,5 +1,5 @@
 -- The images of a draft, and the slaves that are made with them.
-use Rattle.std.proofs.Common.{◌≡◌, ◌∙◌, ℕ, zero, suc, ◌+◌, ◌≤◌, false, List, [], ◌∷◌, ◌++◌, length, replicate, slice_get, slice_set, Option, Some, None, option_map, unwrap_or, Result, Ok, Err, Vec, nat_lt, refl, sym, ap, subst, arith}
+use Rattle.std.proofs.Common.{◌≡◌, ◌∙◌, ℕ, zero, suc, ◌+◌, ◌≤◌, false, List, [], ◌∷◌, ◌++◌, length, replicate, slice_get, slice_set, Option, Some, None, Result, Ok, Err, Vec, nat_lt, refl, sym, ap, subst, arith}
 use Rattle.std.specs.declared.alloc.Global.{Global}
 use Rattle.std.proofs.lemmas.Bool.Decides.{nat_tests}
 use Rattle.std.proofs.lemmas.List.{length-replicate, length-set, map-set, replicate-append-replicate}
@@ -12,8 +12,9 @@ use Rattle.check_description.specs.Slave.{error_slave}
 use Rattle.check_start.specs.Slaves.{image_at, slaves_at_reset, slaves_from}
 use Rattle.check_start.specs.declared.slaves.SlaveSide.{SlaveSide}
 use Rattle.check_description.specs.File.{Parts}
+use Rattle.check_description.specs.Name.{NamesParts}
 use Rattle.tl_c.specs.Calls.{HoldsDraft}
-use Rattle.tl_c.specs.Draft.{DraftView, IsDraft, image_bytes, fault_at, image_fault, slots_of, with_image}
+use Rattle.tl_c.specs.Draft.{DraftView, IsDraft, bytes_of, image_bytes, fault_at, image_fault, slot_of, slots_of, with_image}
 use Rattle.tl_c.specs.declared.held.HandleContent.{HandleContent}
 use Rattle.tl_c.specs.declared.held.HandleContent.TheVariants as held
 
@@ -28,8 +29,10 @@ none_at zero port = refl
 none_at (suc n) zero = refl
 none_at (suc n) (suc port) = none_at n port
 
-pub fresh_is_draft : (parts : Parts) → IsDraft (record { parts = parts; images = replicate (length parts.ports) None })
-fresh_is_draft parts = record {
+pub fresh_is_draft : (file : List ℕ) (parts : Parts) → NamesParts file parts
+    → IsDraft (record { file = file; parts = parts; images = replicate (length parts.ports) None })
+fresh_is_draft file parts named = record {
+  named = named;
   sized = length-replicate (length parts.ports) None;
   fits = λ port said here.
       let none = ap length (none_at (length parts.ports) port) in omega (arith, none);
@@ -45,12 +48,12 @@ taken_fits port count said none = grind (arith, nat_tests)
 pub slots_set : (images : List (Option (Vec ℕ Global))) (port : ℕ) (bytes : Vec ℕ Global)
     → slots_of (slice_set images port (Some bytes)) ≡ slice_set (slots_of images) port (Some bytes.items)
 slots_set images port bytes =
-    map-set (λ (image : Option (Vec ℕ Global)). option_map (λ bytes. bytes.items) image) images port (Some bytes)
+    map-set slot_of images port (Some bytes)
 
 -- the bytes of images, one of them set
 pub bytes_set : (images : List (Option (List ℕ))) (port : ℕ) (bytes : List ℕ)
     → image_bytes (slice_set images port (Some bytes)) ≡ slice_set (image_bytes images) port bytes
-bytes_set images port bytes = map-set (λ (image : Option (List ℕ)). unwrap_or image []) images port (Some bytes)
+bytes_set images port bytes = map-set bytes_of images port (Some bytes)
 
 pub set_fits : (images : List (List ℕ)) (ports : List Port) (port : ℕ) (bytes : List ℕ)
     → ((other : ℕ) (said : Port) → slice_get ports other ≡ Some said → length (image_at images other) ≤ first_length said.ranges)
@@ -68,6 +71,7 @@ set_fits (image ∷ images) (first ∷ ports) (suc port) bytes fit new (suc othe
 pub put_is_draft : (draft : DraftView) (port : ℕ) (bytes : List ℕ) → IsDraft draft → image_fault draft port bytes ≡ None
     → IsDraft (with_image draft port bytes)
 put_is_draft draft port bytes is none = record {
+  named = is.named;
   sized = length-set draft.images port (Some bytes) ∙ is.sized;
   fits = λ other said here.
       let P : List (List ℕ) → Type 0 = λ l. length (image_at l other) ≤ first_length said.ranges in
@@ -114,7 +118,6 @@ slaves_are side orders images ports fit fault is =
 -- what is so of a draft, by what else is so of it
 pub holds_draft : (P Q : DraftView → Type 0) (value : Option HandleContent) → ((draft : DraftView) → P draft → Q draft)
     → HoldsDraft P value → HoldsDraft Q value
-holds_draft P Q (Some (held.System s)) more is = is
 holds_draft P Q (Some (held.Draft d)) more is = more d is
 holds_draft P Q (Some (held.Model c)) more is = is
 holds_draft P Q (Some (held.Judge j)) more is = is

@@ -1,4 +1,4 @@
--- What a system file names, before a judge is made of it, and the images of its ports. This project's own.
+-- What a system file names, of which models and judges are made, and the images of its ports. This project's own.
 use Rattle.std.specs.Prelude.{◌≡◌, ◌<◌, ◌≤◌, ◌⊎◌, ◌&&◌, ℕ, nat_lt, not, Bool, List, [], length, map, replicate, slice_get, slice_set, Option, None, Some, is_some, option_map, unwrap_or, IsTrue, Vec, if◌then◌else◌}
 use Rattle.std.specs.declared.alloc.Global.{Global}
 use Rattle.check_keys.specs.declared.fault.SystemFault.{SystemFault}
@@ -12,27 +12,38 @@ use Rattle.check_start.specs.Slaves.{image_at}
 use Rattle.tl_c.specs.declared.draft.ImageFault.{ImageFault}
 use Rattle.tl_c.specs.declared.draft.ImageFault.TheVariants.{NoPort, NoImage, System}
 
--- the ports and the masters, and for each port the bytes of its image, if these were handed in
+-- a file, the ports and the masters that it names, and for each port the bytes of its image, if these were handed in
 pub record DraftView : Type 0 where
+  pub file : List ℕ
   pub parts : Parts
   pub images : List (Option (List ℕ))
 
--- the bytes as contracts see them
+-- the bytes of an image as contracts see them
+abbrev pub slot_of : Option (Vec ℕ Global) → Option (List ℕ)
+slot_of image = option_map (λ bytes. bytes.items) image
+
+-- those of each image
 abbrev pub slots_of : List (Option (Vec ℕ Global)) → List (Option (List ℕ))
-slots_of images = map (λ (image : Option (Vec ℕ Global)). option_map (λ bytes. bytes.items) image) images
+slots_of images = map slot_of images
 
--- the bytes of each port's image, none of one that has none
+-- the bytes of an image, none of one that was not handed in
+abbrev pub bytes_of : Option (List ℕ) → List ℕ
+bytes_of image = unwrap_or image []
+
+-- those of each port's image
 abbrev pub image_bytes : List (Option (List ℕ)) → List (List ℕ)
-image_bytes images = map (λ (image : Option (List ℕ)). unwrap_or image []) images
+image_bytes images = map bytes_of images
 
--- there is a place for each port's image, and none is longer than the port's first range
+-- the parts are those of the file, there is a place for each port's image, and none is longer than the port's first range
 pub record IsDraft (draft : DraftView) : Type 0 where
+  pub named : NamesParts draft.file draft.parts
   pub sized : length draft.images ≡ length draft.parts.ports
   pub fits : (port : ℕ) (said : Port) → slice_get draft.parts.ports port ≡ Some said
       → length (image_at (image_bytes draft.images) port) ≤ first_length said.ranges
 
 -- what a file names, before any image is handed in
 pub record IsDraftOf (file : List ℕ) (draft : DraftView) : Type 0 where
+  pub of : draft.file ≡ file
   pub named : NamesParts file draft.parts
   pub bare : draft.images ≡ replicate (length draft.parts.ports) None
 

@@ -2,28 +2,16 @@
 use Rattle.std.specs.Prelude.{ℕ}
 use Rattle.check_beats.specs.declared.fault.FormFault.{FormFault}
 use Rattle.check_beats.specs.declared.fault.FormFault.TheVariants as form
-use Rattle.tl_model.specs.declared.fault.ServeFault.{ServeFault}
-use Rattle.tl_model.specs.declared.fault.ServeFault.TheVariants as serve
-use Rattle.tl_script.specs.declared.fault.ScriptFault.{ScriptFault}
-use Rattle.tl_script.specs.declared.fault.ScriptFault.TheVariants as script
+use Rattle.check_model.specs.declared.fault.ByteFault.{ByteFault}
+use Rattle.check_model.specs.declared.fault.ByteFault.TheVariants as byte
+use Rattle.check_model.specs.declared.fault.ServeFault.{ServeFault}
+use Rattle.check_model.specs.declared.fault.ServeFault.TheVariants as serve
 use Rattle.check_keys.specs.declared.fault.SystemFault.{SystemFault}
 use Rattle.check_keys.specs.declared.fault.SystemFault.TheVariants as file
 use Rattle.check_watch.specs.declared.fault.Fault.{Fault}
 use Rattle.check_watch.specs.declared.fault.Fault.TheVariants as beat
 use Rattle.tl_c.specs.declared.draft.ImageFault.{ImageFault}
 use Rattle.tl_c.specs.declared.draft.ImageFault.TheVariants as image
-
--- the number of a fault of a script.
-abbrev pub script_number : ScriptFault → ℕ
-script_number script.Memory = 4
-script_number script.NotToml = 10
-script_number (script.Missing key) = 11
-script_number (script.WrongType key) = 12
-script_number (script.OutOfRange key) = 13
-script_number (script.BadOp master place) = 14
-script_number (script.Map fault) = 15
-script_number (script.Sources fault) = 16
-script_number script.TooLong = 17
 
 -- the number of a fault of a system file.
 abbrev pub file_number : SystemFault → ℕ
@@ -51,7 +39,13 @@ image_number (image.System fault) = file_number fault
 abbrev pub serve_number : ServeFault → ℕ
 serve_number serve.NoSuchMaster = 22
 serve_number serve.NoSuchSource = 23
-serve_number serve.Uncountable = 24
+serve_number serve.Memory = 4
+
+-- the number of a fault of a byte that is not shown or put.
+abbrev pub byte_number : ByteFault → ℕ
+byte_number byte.Nowhere = 25
+byte_number byte.Device = 26
+byte_number byte.Memory = 4
 
 -- the number of a fault of a beat alone.
 abbrev pub form_number : FormFault → ℕ

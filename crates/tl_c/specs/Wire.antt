@@ -1,6 +1,7 @@
 -- What the structs of the header stand for. This project's own.
-use Rattle.std.specs.Prelude.{◌≡◌, ◌<◌, ℕ, Bool, true, false, length, Option, Some, None, ◌==◌, ◌&&◌, if◌then◌else◌, map, get_or, take}
+use Rattle.std.specs.Prelude.{◌≡◌, ◌<◌, ℕ, Bool, true, false, length, Option, Some, None, ◌==◌, ◌&&◌, if◌then◌else◌, is_some, map, get_or, take, unwrap_or}
 use Rattle.std.specs.List.{range_with_len}
+use Rattle.check_flight.specs.declared.answer.Answer.{Answer}
 use Rattle.check_watch.specs.declared.beat.Beat.{Beat}
 use Rattle.check_watch.specs.declared.beat.Beat.TheVariants.{A, D}
 use Rattle.check_watch.specs.declared.beat.Link.{Link}
@@ -10,7 +11,6 @@ use Rattle.tl_types.specs.declared.limits.TheConstants.{MAX_SIZE}
 use Rattle.tl_types.specs.declared.operation.AskOp.{AskOp}
 use Rattle.tl_types.specs.Operation.{byte_count, may_leave_unset}
 use Rattle.tl_types.specs.Request.{Request}
-use Rattle.tl_types.specs.Response.{Response}
 use Rattle.tl_types.specs.Wire.{IsCodeOf, reply_opcode_of}
 use Rattle.tl_c.specs.declared.wire.WireAsk.{WireAsk}
 use Rattle.tl_c.specs.declared.wire.WireAnswer.{WireAnswer}
@@ -44,16 +44,25 @@ abbrev pub flag_number : Bool → ℕ
 flag_number true = 1
 flag_number false = 0
 
--- the struct is one of this reply, with its port and place
-pub record IsWireAnswer (wire : WireAnswer) (port place : ℕ) (reply : Response) : Type 0 where
-  pub port_is : wire.port ≡ port
-  pub place_is : wire.place ≡ place
-  pub code : wire.opcode ≡ reply_opcode_of reply.op
-  pub size : wire.size ≡ reply.size
-  pub source : wire.source ≡ reply.source
-  pub denied : wire.denied ≡ flag_number reply.denied
-  pub count : wire.count ≡ length reply.bytes
-  pub bytes : take wire.count wire.bytes ≡ reply.bytes
+-- a byte as it is told: zero if it is unknown
+abbrev pub told_byte : Option ℕ → ℕ
+told_byte cell = unwrap_or cell 0
+
+-- whether it is known
+abbrev pub known_number : Option ℕ → ℕ
+known_number cell = flag_number (is_some cell)
+
+-- the struct is one of this answer. It says `not denied` where that is left open
+pub record IsWireAnswer (wire : WireAnswer) (answer : Answer) : Type 0 where
+  pub port_is : wire.port ≡ answer.port
+  pub place_is : wire.place ≡ answer.index
+  pub code : wire.opcode ≡ reply_opcode_of answer.reply.op
+  pub size : wire.size ≡ answer.reply.size
+  pub source : wire.source ≡ answer.reply.source
+  pub denied : wire.denied ≡ flag_number (unwrap_or answer.reply.denied false)
+  pub count : wire.count ≡ length answer.reply.bytes
+  pub bytes : take wire.count wire.bytes ≡ map told_byte answer.reply.bytes
+  pub known : take wire.count wire.known ≡ map known_number answer.reply.bytes
 
 -- the flag that a number stands for
 abbrev pub flag_of : ℕ → Option Bool

@@ -1,9 +1,9 @@
-//! What a system file names, before a judge is made of it.
+//! What a system file names, of which models and judges are made.
 ghost use Rattle.std.specs.Prelude.{◌≡◌, ◌≢◌, ◌⊎◌, IfErr, IfNone, IfOk, IfSome, None, OnErr, OnOk, Some, length, map, option_map, replicate, slice_get};
 ghost use Rattle.check_keys.specs.declared.fault.SystemFault.TheVariants.{Memory};
 ghost use Rattle.check_description.specs.File.{parts_view};
 ghost use Rattle.check_description.specs.Name.{IsFirstPartFault};
-ghost use Rattle.tl_c.specs.Draft.{IsDraft, IsDraftOf, IsFirstLacking, LacksNone, image_bytes, fault_at, image_fault, image_file, is_given, lacks, slots_of, with_image};
+ghost use Rattle.tl_c.specs.Draft.{IsDraft, IsDraftOf, IsFirstLacking, LacksNone, bytes_of, image_bytes, fault_at, image_fault, image_file, is_given, lacks, slot_of, slots_of, with_image};
 ghost use Rattle.tl_c.specs.declared.draft.ImageFault.TheVariants.{System};
 
 use check_description::{Parts, first_length, read_parts};
@@ -12,9 +12,11 @@ use std::alloc::{AllocError, Global};
 use std::marker::Model;
 use thiserror::Error;
 
-/// The ports and masters that a system file names, and for each port the bytes of its image, if these were handed in.
+/// A system file, the ports and masters that it names, and for each port the bytes of its image, if these were handed in.
 #[derive(Drop)]
 pub struct Draft {
+    /// Its parts are read again for each model and each judge.
+    file: Vec<u8>,
     parts: Parts,
     images: Vec<Option<Vec<u8>>>,
 }
@@ -25,9 +27,17 @@ impl Model for Draft {
 
     ghost Value = { DraftView };
 
-    ghost view = { λ d. record { parts = parts_view d.parts; images = slots_of d.images.items } };
+    ghost view = { λ d. record {
+      file = d.file.items;
+      parts = parts_view d.parts;
+      images = slots_of d.images.items;
+    } };
 
-    ghost invariant = { λ d. IsDraft (record { parts = parts_view d.parts; images = slots_of d.images.items }) };
+    ghost invariant = { λ d. IsDraft (record {
+      file = d.file.items;
+      parts = parts_view d.parts;
+      images = slots_of d.images.items;
+    }) };
 }
 
 /// Why the bytes of an image are not taken. Ports are counted from 0.
@@ -53,14 +63,24 @@ fn no_images(alloc: Global, ports: usize) -> Result<Vec<Option<Vec<u8>>>, AllocE
     Ok(images)
 }
 
-/// The bytes of each port's image, none of one that has none.
-fn image_bytes(alloc: Global, images: Vec<Option<Vec<u8>>>) -> Result<Vec<Vec<u8>>, AllocError>
+/// A copy of the bytes of an image, none if it has none.
+fn copy_image(alloc: Global, image: &Option<Vec<u8>>) -> Result<Vec<u8>, AllocError>
+    ensures { IfOk result (λ copy. copy.items ≡ bytes_of (slot_of image.now)) }
+{
+    match image {
+        Some(bytes) => Vec::from_slice(alloc, bytes),
+        None => Ok(Vec::new(alloc)),
+    }
+}
+
+/// Copies of the bytes of each port's image, none of one that has none.
+fn copy_images(alloc: Global, images: &[Option<Vec<u8>>]) -> Result<Vec<Vec<u8>>, AllocError>
     ensures { IfOk result (λ made. map (λ image. image.items) made.items
-        ≡ image_bytes (slots_of images.items)) }
+        ≡ image_bytes (slots_of images.now)) }
 {
     let mut made = Vec::with_capacity(alloc, images.len())?;
     for image in images {
-        made.push(image.unwrap_or(Vec::new(alloc)))?;
+        made.push(copy_image(alloc, image)?)?;
     }
     Ok(made)
 }
@@ -73,7 +93,12 @@ impl Draft {
     {
         let parts = read_parts(alloc, file)?;
         let images = no_images(alloc, parts.ports.len())?;
-        Ok(Draft { parts, images })
+        let file = Vec::from_slice(alloc, file)?;
+        Ok(Draft {
+            file,
+            parts,
+            images,
+        })
     }
 
     /// How many ports the file names.
@@ -162,13 +187,17 @@ impl Draft {
         Ok(())
     }
 
-    /// The parts, and for each port the bytes of its image, none of one that has none.
-    pub(crate) fn into_parts(self, alloc: Global) -> Result<(Parts, Vec<Vec<u8>>), AllocError>
-        ensures parts { IfOk result (λ made. parts_view made.0 ≡ self.parts) }
-        ensures images { IfOk result (λ made. map (λ image. image.items) made.1.items ≡ image_bytes self.images) }
-        ensures lawful { IsDraft self }
+    /// The parts once more, and copies of the bytes of each port's image, none of one that has none.
+    pub(crate) fn copy_parts(&self, alloc: Global) -> Result<(Parts, Vec<Vec<u8>>), AllocError>
+        ensures parts { IfOk result (λ made. parts_view made.0 ≡ self.now.parts) }
+        ensures images { IfOk result (λ made. map (λ image. image.items) made.1.items ≡ image_bytes self.now.images) }
+        ensures lawful { IsDraft self.now }
     {
-        let images = image_bytes(alloc, self.images)?;
-        Ok((self.parts, images))
+        let images = copy_images(alloc, &self.images)?;
+        // the file was read before, so nothing is missing now but memory
+        let Ok(parts) = read_parts(alloc, &self.file) else {
+            return Err(AllocError);
+        };
+        Ok((parts, images))
     }
 }

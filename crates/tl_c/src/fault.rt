@@ -1,13 +1,12 @@
 //! The numbers of faults, as the header has them, and their words.
 ghost use Rattle.std.specs.Prelude.{◌≡◌, ◌<◌};
-ghost use Rattle.tl_c.specs.Numbers.{beat_number, file_number, form_number, image_number, script_number, serve_number};
+ghost use Rattle.tl_c.specs.Numbers.{beat_number, file_number, form_number, byte_number, image_number, serve_number};
 
 use crate::draft::ImageFault;
 use check_beats::FormFault;
 use check_keys::SystemFault;
+use check_model::{ByteFault, ServeFault};
 use check_watch::Fault;
-use tl_model::ServeFault;
-use tl_script::ScriptFault;
 
 pub(crate) const OK: u32 = 0;
 
@@ -30,6 +29,9 @@ pub(crate) const SIZE: u32 = 21;
 
 pub(crate) const NO_BYTE: u32 = 25;
 
+/// What stands there is a device: the caller answers for it.
+pub(crate) const DEVICE: u32 = 26;
+
 pub(crate) const NO_LINK: u32 = 30;
 
 /// Requests are left without a whole reply.
@@ -44,23 +46,6 @@ pub(crate) const LONG_IMAGE: u32 = 62;
 
 /// The bytes of an image were not handed in.
 pub(crate) const IMAGE_UNREADABLE: u32 = 63;
-
-/// The number of a fault of a script.
-pub(crate) fn script_number(fault: ScriptFault) -> u32
-    ensures { result ≡ script_number fault }
-{
-    match fault {
-        ScriptFault::Memory => 4,
-        ScriptFault::NotToml => 10,
-        ScriptFault::Missing(_) => 11,
-        ScriptFault::WrongType(_) => 12,
-        ScriptFault::OutOfRange(_) => 13,
-        ScriptFault::BadOp(_, _) => 14,
-        ScriptFault::Map(_) => 15,
-        ScriptFault::Sources(_) => 16,
-        ScriptFault::TooLong => 17,
-    }
-}
 
 /// The number of a fault of a system file.
 pub(crate) fn file_number(fault: &SystemFault) -> u32
@@ -101,7 +86,18 @@ pub(crate) fn serve_number(fault: ServeFault) -> u32
     match fault {
         ServeFault::NoSuchMaster => 22,
         ServeFault::NoSuchSource => 23,
-        ServeFault::Uncountable => 24,
+        ServeFault::Memory => 4,
+    }
+}
+
+/// The number of the fault of a byte that is not shown or put.
+pub(crate) fn byte_number(fault: ByteFault) -> u32
+    ensures { result ≡ byte_number fault }
+{
+    match fault {
+        ByteFault::Nowhere => 25,
+        ByteFault::Device => 26,
+        ByteFault::Memory => 4,
     }
 }
 
@@ -144,7 +140,7 @@ pub(crate) fn beat_number(fault: &Fault) -> u32
     }
 }
 
-/// The words of a call's own fault, or of a script's, a system file's or a request's.
+/// The words of a call's own fault, or of a system file's or a request's.
 fn call_words(number: u32) -> &'static str {
     match number {
         OK => "no fault",
@@ -158,7 +154,6 @@ fn call_words(number: u32) -> &'static str {
         11 => "missing key",
         12 => "wrong type",
         13 => "out of range",
-        14 => "bad operation",
         15 => "bad ports",
         16 => "bad sources",
         17 => "longer than 1048576 bytes",
@@ -168,8 +163,8 @@ fn call_words(number: u32) -> &'static str {
         SIZE => "size over the limit",
         22 => "no such master",
         23 => "no such source",
-        24 => "the port has served as many requests as can be counted",
         NO_BYTE => "no byte at this address",
+        DEVICE => "a device",
         NO_PORT => "no such port",
         NO_IMAGE => "the file names no image for the port",
         LONG_IMAGE => "image is longer than its range",

@@ -1,8 +1,9 @@
 //! What a caller in C holds.
-ghost use Rattle.std.specs.Prelude.{◌≡◌, Option, None, Some};
+ghost use Rattle.std.specs.Prelude.{◌≡◌, ◌≢◌, ◌↔◌, IsTrue, Option, None, Some};
 ghost use Rattle.tl_c.specs.declared.held.HandleContent.{HandleContent};
 ghost use Rattle.tl_c.specs.Handle.{unboxed, loosened};
 
+use crate::fault::{MEMORY, OK};
 use crate::held::HandleContent;
 use crate::loose::Loose;
 use std::alloc::Global;
@@ -82,5 +83,42 @@ impl Handle {
 impl Drop for Handle {
     fn drop(self) {
         let _held = self.take();
+    }
+}
+
+/// What a handle holds, which is empty from then on.
+pub(crate) fn take(alloc: Global, handle: &mut Handle) -> Option<Box<HandleContent>>
+    ensures empty { handle.new.value ≡ None }
+    ensures taken { handle.old.value ≡ unboxed result }
+{
+    std::mem::replace(handle, Handle::empty(alloc)).take()
+}
+
+/// Whether a handle holds anything. What it holds stays there.
+pub(crate) fn is_full(alloc: Global, handle: &mut Handle) -> bool
+    ensures full { IsTrue result ↔ (handle.old.value ≢ None) }
+    ensures same { handle.new.value ≡ handle.old.value }
+{
+    match take(alloc, handle) {
+        Some(held) => {
+            *handle = Handle::of(held);
+            true
+        }
+        None => false,
+    }
+}
+
+/// Has an empty handle hold this, if memory allows.
+pub(crate) fn hold(alloc: Global, handle: &mut Handle, held: HandleContent) -> u32
+    ensures ok { result ≡ OK → handle.new.value ≡ Some held }
+    ensures err { result ≢ OK → handle.new.value ≡ handle.old.value }
+    ensures number { result ≢ OK → result ≡ MEMORY }
+{
+    match Box::new(alloc, held) {
+        Ok(held) => {
+            *handle = Handle::of(held);
+            OK
+        }
+        Err(_) => MEMORY,
     }
 }

@@ -2,29 +2,29 @@
 ghost use Rattle.std.specs.Prelude.{◌≡◌, ◌+◌, length};
 
 use crate::draft::Draft;
+use check_flight::Answer;
 use check_lines::Names;
+use check_model::SystemModel;
 use check_rows::PortNumbers;
 use check_start::Loads;
 use check_turns::OrderedWatch;
 use check_unanswered::Pending;
 use std::marker::Model;
-use tl_model::Crossbar;
-use tl_script::System;
-use tl_types::{Ask, Reply};
+use tl_types::Ask;
 
-/// The model of a crossbar. Each request that it is handed is read into the place of the one before, and each reply
-/// served into the place of the one before: contracts see the crossbar alone.
+/// The model of a crossbar. Each request that it is handed is read into the place of the one before, and each answer put
+/// into the place of the one before: contracts see the crossbar alone.
 #[derive(Drop)]
 pub struct Server {
-    pub crossbar: Crossbar,
+    pub crossbar: SystemModel,
     pub ask: Ask,
-    pub reply: Reply,
+    pub answer: Answer,
 }
 
 impl Model for Server {
-    ghost use Rattle.tl_model.specs.Crossbar.{CrossbarState};
+    ghost use Rattle.check_model.specs.Model.{ModelState};
 
-    ghost Value = { CrossbarState };
+    ghost Value = { ModelState };
 
     ghost view = { λ s. s.crossbar };
 }
@@ -48,9 +48,7 @@ pub struct HeldJudge {
 /// What a handle holds.
 #[derive(Drop)]
 pub enum HandleContent {
-    /// The system of a script, for a model.
-    System(System),
-    /// What a system file names, for a judge.
+    /// What a system file names.
     Draft(Draft),
     Model(Server),
     Judge(HeldJudge),

@@ -18,9 +18,8 @@ ghost use Rattle.check_coverage.specs.Flights.{ends_a_reply, ends_an_ask, is_cou
 ghost use Rattle.check_review.specs.Count.{one_more};
 
 use crate::fault::{BAD_ARGUMENT, EMPTY, INCOMPLETE, MEMORY, NO_LINK, OK, beat_number};
-use crate::handle::Handle;
+use crate::handle::{Handle, take};
 use crate::held::{HandleContent, HeldJudge};
-use crate::system::take;
 use crate::text::put_text;
 use crate::wire::{WireBeat, seen_in};
 use check_beats::{Bus, MAX_LANES};
@@ -236,7 +235,7 @@ pub extern "C" fn tlx_judge_step_at(alloc: Global, judge: &mut Handle, beat: &Wi
     };
     let number = match &mut *held {
         HandleContent::Judge(held) => step(alloc, held, link, seen, beat),
-        HandleContent::System(_) | HandleContent::Draft(_) | HandleContent::Model(_) => EMPTY,
+        HandleContent::Draft(_) | HandleContent::Model(_) => EMPTY,
     };
     *judge = Handle::of(held);
     number
@@ -291,7 +290,7 @@ pub extern "C" fn tlx_judge_end_at(alloc: Global, judge: &mut Handle) -> u32
     };
     let number = match &mut *held {
         HandleContent::Judge(held) => end(held),
-        HandleContent::System(_) | HandleContent::Draft(_) | HandleContent::Model(_) => EMPTY,
+        HandleContent::Draft(_) | HandleContent::Model(_) => EMPTY,
     };
     *judge = Handle::of(held);
     number
@@ -311,9 +310,7 @@ pub extern "C" fn tlx_judge_text_at(alloc: Global, judge: &mut Handle, room: &mu
     };
     let count = match &*held {
         HandleContent::Judge(held) => put_text(room, &held.text),
-        HandleContent::System(_) | HandleContent::Draft(_) | HandleContent::Model(_) => put_text(
-            room, b"",
-        ),
+        HandleContent::Draft(_) | HandleContent::Model(_) => put_text(room, b""),
     };
     *judge = Handle::of(held);
     count
@@ -331,7 +328,7 @@ pub extern "C" fn tlx_judge_requests_at(alloc: Global, judge: &mut Handle) -> u6
     };
     let count = match &*held {
         HandleContent::Judge(held) => held.requests,
-        HandleContent::System(_) | HandleContent::Draft(_) | HandleContent::Model(_) => 0,
+        HandleContent::Draft(_) | HandleContent::Model(_) => 0,
     };
     *judge = Handle::of(held);
     count
@@ -349,7 +346,7 @@ pub extern "C" fn tlx_judge_answered_at(alloc: Global, judge: &mut Handle) -> u6
     };
     let count = match &*held {
         HandleContent::Judge(held) => held.answered,
-        HandleContent::System(_) | HandleContent::Draft(_) | HandleContent::Model(_) => 0,
+        HandleContent::Draft(_) | HandleContent::Model(_) => 0,
     };
     *judge = Handle::of(held);
     count

@@ -14,7 +14,6 @@ ghost use Rattle.std.specs.Prelude.{◌≡◌};
 
 use tl_types::MAX_SIZE;
 
-mod describe;
 mod draft;
 mod fault;
 mod handle;

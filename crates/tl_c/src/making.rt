@@ -7,12 +7,11 @@ ghost use Rattle.tl_c.specs.Draft.{IsFirstFileFault, LacksNone, LacksSome};
 ghost use Rattle.tl_c.specs.Judging.{AreTerms, ByTerms, IsJudgeOf, IsJudgeOfFile, links_of, order_of};
 ghost use Rattle.tl_c.specs.Text.{IsWritten};
 
-use crate::describe::{lacking_in, refuse, take_draft};
 use crate::draft::Draft;
 use crate::fault::{BAD_ARGUMENT, EMPTY, FULL, IMAGE_UNREADABLE, MEMORY, OK, OTHER_VERSION};
-use crate::handle::Handle;
+use crate::handle::{Handle, hold, is_full, take};
 use crate::held::{HandleContent, HeldJudge};
-use crate::system::{hold, is_full, put_fault};
+use crate::system::refuse;
 use crate::text::put_text;
 use crate::version::VERSION;
 use check_description::describe;
@@ -80,14 +79,14 @@ fn terms_of(links: u8, masters: u8, ports: u8) -> Option<Terms>
 /// The judge of a draft of which no image lacks, before any beat; or the first fault of its parts.
 pub(crate) fn make_judge(
     alloc: Global,
-    draft: Draft,
+    draft: &Draft,
     terms: Terms,
 ) -> Result<HeldJudge, SystemFault>
-    requires { LacksNone draft }
-    ensures ok { IfOk result (IsJudgeOf terms draft) }
-    ensures fault { IfErr result (λ fault. fault ≢ Memory → IsFirstFaultOf draft.parts fault) }
+    requires { LacksNone draft.now }
+    ensures ok { IfOk result (IsJudgeOf terms draft.now) }
+    ensures fault { IfErr result (λ fault. fault ≢ Memory → IsFirstFaultOf draft.now.parts fault) }
 {
-    let (parts, images) = draft.into_parts(alloc)?;
+    let (parts, images) = draft.copy_parts(alloc)?;
     let system = describe(alloc, parts)?;
     let begun = begin(alloc, system, &images, terms)?;
     let pending = pending_of(alloc, &begun.watch)?;
@@ -114,10 +113,37 @@ pub(crate) fn read_judge(alloc: Global, file: &[u8], terms: Terms) -> Result<Hel
     if let Some(port) = draft.lacking() {
         return Err(SystemFault::ImageUnreadable(port));
     }
-    make_judge(alloc, draft, terms)
+    make_judge(alloc, &draft, terms)
 }
 
-/// `tlx_judge_make_at` of the header: the judge of what a system's handle holds, before any beat.
+/// Makes the judge of a draft, before any beat, in an empty handle.
+fn make_of(
+    alloc: Global,
+    judge: &mut Handle,
+    draft: &Draft,
+    terms: Terms,
+    room: &mut [u8],
+    written: &mut usize,
+) -> u32
+    requires { IsWritten room.old room.old written.old }
+    ensures unreadable { result ≡ IMAGE_UNREADABLE ↔ LacksSome draft.now }
+    ensures ok { result ≡ OK → HoldsJudge (IsJudgeOf terms draft.now) judge.new.value }
+    ensures fault { MEMORY < result → IsFaultOfDraft draft.now result }
+    ensures err { result ≢ OK → judge.new.value ≡ judge.old.value }
+    ensures first { result ≢ OK → MEMORY ≤ result }
+    ensures other { result ≢ BAD_ARGUMENT }
+    ensures written { IsWritten room.old room.new written.new }
+{
+    if let Some(port) = draft.lacking() {
+        return refuse(alloc, room, written, SystemFault::ImageUnreadable(port));
+    }
+    match make_judge(alloc, draft, terms) {
+        Ok(made) => hold(alloc, judge, HandleContent::Judge(made)),
+        Err(fault) => refuse(alloc, room, written, fault),
+    }
+}
+
+/// `tlx_judge_make_at` of the header: the judge of a system, before any beat.
 #[unsafe(no_mangle)]
 pub extern "C" fn tlx_judge_make_at(
     alloc: Global,
@@ -140,10 +166,7 @@ pub extern "C" fn tlx_judge_make_at(
     ensures fault { MEMORY < result → result ≢ BAD_ARGUMENT
         → HoldsDraft (λ draft. IsFaultOfDraft draft result) system.old.value }
     ensures err { result ≢ OK → judge.new.value ≡ judge.old.value }
-    ensures kept { (result ≡ BAD_ARGUMENT) ⊎ (result ≡ FULL) ⊎ (result ≡ EMPTY) ⊎ (result ≡ IMAGE_UNREADABLE)
-        → system.new.value ≡ system.old.value }
-    ensures taken { result ≢ BAD_ARGUMENT → result ≢ FULL → result ≢ EMPTY → result ≢ IMAGE_UNREADABLE
-        → system.new.value ≡ None }
+    ensures same { system.new.value ≡ system.old.value }
     ensures first { result ≢ OK → EMPTY ≤ result }
     ensures written { IsWritten room.old room.new written.new }
 {
@@ -154,17 +177,15 @@ pub extern "C" fn tlx_judge_make_at(
     if is_full(alloc, judge) {
         return FULL;
     }
-    if let Some(port) = lacking_in(alloc, system) {
-        *written = put_fault(alloc, room, &SystemFault::ImageUnreadable(port));
-        return IMAGE_UNREADABLE;
-    }
-    let Some(draft) = take_draft(alloc, system) else {
+    let Some(held) = take(alloc, system) else {
         return EMPTY;
     };
-    match make_judge(alloc, draft, terms) {
-        Ok(made) => hold(alloc, judge, HandleContent::Judge(made)),
-        Err(fault) => refuse(alloc, room, written, fault),
-    }
+    let number = match &*held {
+        HandleContent::Draft(draft) => make_of(alloc, judge, draft, terms, room, written),
+        HandleContent::Model(_) | HandleContent::Judge(_) => EMPTY,
+    };
+    *system = Handle::of(held);
+    number
 }
 
 /// `tlx_judge_read_at` of the header: the judge of the system that a file describes, before any beat.

@@ -10,9 +10,8 @@ ghost use Rattle.check_sides.specs.Plan.{Plan};
 ghost use Rattle.check_turns.specs.View.{KeepsOrdered};
 
 use crate::fault::{EMPTY, MEMORY, NO_LINK, OK};
-use crate::handle::Handle;
+use crate::handle::{Handle, take};
 use crate::held::{HandleContent, HeldJudge};
-use crate::system::take;
 use check_memory::Slave;
 use std::alloc::{AllocError, Global};
 
@@ -77,7 +76,7 @@ pub extern "C" fn tlx_judge_reset_at(alloc: Global, judge: &mut Handle) -> u32
     };
     let number = match &mut *held {
         HandleContent::Judge(held) => reset(alloc, held),
-        HandleContent::System(_) | HandleContent::Draft(_) | HandleContent::Model(_) => EMPTY,
+        HandleContent::Draft(_) | HandleContent::Model(_) => EMPTY,
     };
     // what memory was refused to is no judge any more
     if number != MEMORY {

@@ -1,99 +1,42 @@
-//! Systems of scripts.
-ghost use Rattle.std.specs.Prelude.{◌≡◌, ◌≢◌, ◌≤◌, ◌↔◌, IfNone, IfSome, IsTrue, None, Some};
-ghost use Rattle.tl_c.specs.Calls.{HoldsSystem, IsScriptAnswer, IsSystem};
-ghost use Rattle.tl_c.specs.Handle.{unboxed};
-ghost use Rattle.tl_c.specs.Text.{IsWritten};
+//! Systems: what system files name, and the images of their ports.
+ghost use Rattle.std.specs.Prelude.{◌≡◌, ◌≢◌, ◌≤◌, ◌↔◌, [], None, Some, length, unwrap_or};
+ghost use Rattle.tl_c.specs.Calls.{HasDraft, HoldsDraft, IsImageAnswer, IsPartsAnswer};
+ghost use Rattle.tl_c.specs.Draft.{DraftView, IsDraftOf, image_fault, image_file, with_image};
+ghost use Rattle.tl_c.specs.Numbers.{file_number};
+ghost use Rattle.tl_c.specs.Text.{IsTextOf, IsWritten};
 ghost use Rattle.tl_c.specs.declared.held.HandleContent.TheVariants as held;
-ghost use Rattle.tl_script.specs.Script.{Spells};
 
-use crate::fault::{FULL, MEMORY, OK, OTHER_VERSION, script_number};
-use crate::handle::Handle;
+use crate::draft::Draft;
+use crate::fault::{EMPTY, FULL, OK, OTHER_VERSION, file_number, image_number};
+use crate::handle::{Handle, hold, is_full, take};
 use crate::held::HandleContent;
-use crate::text::put_text;
+use crate::text::{put_fault, put_text};
 use crate::version::VERSION;
+use check_keys::SystemFault;
 use std::alloc::Global;
-use std::fmt::Display;
-use tl_script::{System, read_system};
 
-/// What a handle holds, which is empty from then on.
-pub(crate) fn take(alloc: Global, handle: &mut Handle) -> Option<Box<HandleContent>>
-    ensures empty { handle.new.value ≡ None }
-    ensures taken { handle.old.value ≡ unboxed result }
+/// Writes the line of a fault of a system file. The answer is its number.
+pub(crate) fn refuse(alloc: Global, room: &mut [u8], written: &mut usize, fault: SystemFault) -> u32
+    ensures number { result ≡ file_number fault }
+    ensures written { IsWritten room.old room.new written.new }
 {
-    std::mem::replace(handle, Handle::empty(alloc)).take()
+    *written = put_fault(alloc, room, &fault);
+    file_number(&fault)
 }
 
-/// Whether a handle holds anything. What it holds stays there.
-pub(crate) fn is_full(alloc: Global, handle: &mut Handle) -> bool
-    ensures full { IsTrue result ↔ (handle.old.value ≢ None) }
-    ensures same { handle.new.value ≡ handle.old.value }
-{
-    match take(alloc, handle) {
-        Some(held) => {
-            *handle = Handle::of(held);
-            true
-        }
-        None => false,
-    }
-}
-
-/// The system that a handle holds, which is empty from then on. What is no system stays there.
-pub(crate) fn take_system(alloc: Global, handle: &mut Handle) -> Option<System>
-    ensures some { IfSome result (λ made. handle.old.value ≡ Some (held.System made)) }
-    ensures taken { IfSome result (λ _. handle.new.value ≡ None) }
-    ensures none { IfNone result (IsSystem handle.old.value → ⊥) }
-    ensures kept { IfNone result (handle.new.value ≡ handle.old.value) }
-{
-    let held = take(alloc, handle)?;
-    if !matches!(&*held, HandleContent::System(_)) {
-        *handle = Handle::of(held);
-        return None;
-    }
-    match Box::into_inner(held) {
-        HandleContent::System(made) => Some(made),
-        HandleContent::Draft(_) | HandleContent::Model(_) | HandleContent::Judge(_) =>
-            unreachable!(),
-    }
-}
-
-/// Has an empty handle hold this, if memory allows.
-pub(crate) fn hold(alloc: Global, handle: &mut Handle, held: HandleContent) -> u32
-    ensures ok { result ≡ OK → handle.new.value ≡ Some held }
-    ensures err { result ≢ OK → handle.new.value ≡ handle.old.value }
-    ensures number { result ≢ OK → result ≡ MEMORY }
-{
-    match Box::new(alloc, held) {
-        Ok(held) => {
-            *handle = Handle::of(held);
-            OK
-        }
-        Err(_) => MEMORY,
-    }
-}
-
-/// Writes the line of a fault, or nothing if there is no memory for it.
-pub(crate) fn put_fault<F: Display>(alloc: Global, room: &mut [u8], fault: &F) -> usize
-    ensures { IsWritten room.old room.new result }
-{
-    match format!(in alloc; "{fault}") {
-        Ok(line) => put_text(room, line.as_bytes()),
-        Err(_) => put_text(room, b""),
-    }
-}
-
-/// `tlx_system_read_at` of the header: the system that a script describes.
+/// `tlx_system_read_at` of the header: what a system file names.
 #[unsafe(no_mangle)]
 pub extern "C" fn tlx_system_read_at(
     alloc: Global,
     system: &mut Handle,
-    script: &[u8],
+    file: &[u8],
     version: u32,
     room: &mut [u8],
     written: &mut usize,
 ) -> u32
     ensures version { result ≡ OTHER_VERSION ↔ (version ≢ VERSION) }
-    ensures spelled { result ≡ OK → HoldsSystem (Spells script.now) system.new.value }
-    ensures fault { IsScriptAnswer script.now result }
+    ensures named { result ≡ OK → HoldsDraft (IsDraftOf file.now) system.new.value }
+    ensures fault { IsPartsAnswer file.now result }
     ensures full { result ≡ FULL ↔ ((version ≡ VERSION) × (system.old.value ≢ None)) }
     ensures err { result ≢ OK → system.new.value ≡ system.old.value }
     ensures first { result ≢ OK → FULL ≤ result }
@@ -107,13 +50,119 @@ pub extern "C" fn tlx_system_read_at(
     if is_full(alloc, system) {
         return FULL;
     }
-    match read_system(alloc, script) {
-        Ok(made) => hold(alloc, system, HandleContent::System(made)),
+    match Draft::read(alloc, file) {
+        Ok(draft) => hold(alloc, system, HandleContent::Draft(draft)),
+        Err(fault) => refuse(alloc, room, written, fault),
+    }
+}
+
+/// Takes the bytes of a port's image.
+fn put_image(
+    alloc: Global,
+    draft: &mut Draft,
+    port: usize,
+    bytes: &[u8],
+    room: &mut [u8],
+    written: &mut usize,
+) -> u32
+    requires { IsWritten room.old room.old written.old }
+    ensures answer { IsImageAnswer (image_fault draft.old port bytes.now) result }
+    ensures ok { result ≡ OK → draft.new ≡ with_image draft.old port bytes.now }
+    ensures err { result ≢ OK → draft.new ≡ draft.old }
+    ensures written { IsWritten room.old room.new written.new }
+{
+    match draft.put_image(alloc, port, bytes) {
+        Ok(()) => OK,
         Err(fault) => {
             *written = put_fault(alloc, room, &fault);
-            script_number(fault)
+            image_number(&fault)
         }
     }
+}
+
+/// `tlx_system_image_at` of the header: takes the bytes of a port's image.
+#[unsafe(no_mangle)]
+pub extern "C" fn tlx_system_image_at(
+    alloc: Global,
+    system: &mut Handle,
+    port: usize,
+    bytes: &[u8],
+    room: &mut [u8],
+    written: &mut usize,
+) -> u32
+    ensures empty { result ≡ EMPTY ↔ (HasDraft system.old.value → ⊥) }
+    ensures answer { (draft : DraftView) → system.old.value ≡ Some (held.Draft draft)
+        → IsImageAnswer (image_fault draft port bytes.now) result }
+    ensures ok { (draft : DraftView) → system.old.value ≡ Some (held.Draft draft) → result ≡ OK
+        → system.new.value ≡ Some (held.Draft (with_image draft port bytes.now)) }
+    ensures err { result ≢ OK → system.new.value ≡ system.old.value }
+    ensures written { IsWritten room.old room.new written.new }
+{
+    *written = put_text(room, b"");
+    let Some(mut held) = take(alloc, system) else {
+        return EMPTY;
+    };
+    let number = match &mut *held {
+        HandleContent::Draft(draft) => put_image(alloc, draft, port, bytes, room, written),
+        HandleContent::Model(_) | HandleContent::Judge(_) => EMPTY,
+    };
+    *system = Handle::of(held);
+    number
+}
+
+/// The name of the file of a port's image; nothing if it names none.
+fn put_file(draft: &Draft, port: usize, room: &mut [u8]) -> usize
+    ensures text { IsTextOf (unwrap_or (image_file draft.now port) []) room.old room.new result }
+    ensures written { IsWritten room.old room.new result }
+{
+    match draft.image_file(port) {
+        Some(file) => put_text(room, file.as_bytes()),
+        None => put_text(room, b""),
+    }
+}
+
+/// `tlx_system_image_name_at` of the header: the file of a port's image.
+#[unsafe(no_mangle)]
+pub extern "C" fn tlx_system_image_name_at(
+    alloc: Global,
+    system: &mut Handle,
+    port: usize,
+    room: &mut [u8],
+) -> usize
+    ensures text { (draft : DraftView) → system.old.value ≡ Some (held.Draft draft)
+        → IsTextOf (unwrap_or (image_file draft port) []) room.old room.new result }
+    ensures written { IsWritten room.old room.new result }
+    ensures empty { (HasDraft system.old.value → ⊥) → result ≡ 0 }
+    ensures same { system.new.value ≡ system.old.value }
+{
+    let Some(held) = take(alloc, system) else {
+        return put_text(room, b"");
+    };
+    let count = match &*held {
+        HandleContent::Draft(draft) => put_file(draft, port, room),
+        HandleContent::Model(_) | HandleContent::Judge(_) => put_text(room, b""),
+    };
+    *system = Handle::of(held);
+    count
+}
+
+/// `tlx_system_ports_at` of the header: how many ports the file names.
+#[unsafe(no_mangle)]
+pub extern "C" fn tlx_system_ports_at(alloc: Global, system: &mut Handle) -> usize
+    ensures count { (draft : DraftView) → system.old.value ≡ Some (held.Draft draft)
+        → result ≡ length draft.parts.ports }
+    ensures empty { (HasDraft system.old.value → ⊥) → result ≡ 0 }
+    ensures same { system.new.value ≡ system.old.value }
+{
+    let Some(held) = take(alloc, system) else {
+        return 0;
+    };
+    let count = match &*held {
+        HandleContent::Draft(draft) => draft.ports(),
+        HandleContent::Model(_) | HandleContent::Judge(_) => 0,
+    };
+    *system = Handle::of(held);
+    count
 }
 
 /// `tlx_system_free_at` of the header.

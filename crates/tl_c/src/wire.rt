@@ -1,13 +1,15 @@
 //! The structs of the header, and what they stand for.
-ghost use Rattle.std.specs.Prelude.{◌≡◌, ◌≢◌, ◌≤◌, ◌↔◌, drop, option_map};
+ghost use Rattle.std.specs.Prelude.{◌≡◌, ◌≢◌, ◌≤◌, ◌↔◌, drop, length, map, option_map};
 ghost use Rattle.check_watch.specs.Plan.{seen_at};
 ghost use Rattle.tl_types.specs.Wire.{IsCodeOf};
-ghost use Rattle.tl_c.specs.Wire.{ask_beat, IsWireAnswer, IsWireAsk, IsTooLarge, NamesNone, beat_of, flag_of, link_of, reply_beat, shown_by_struct};
+ghost use Rattle.tl_c.specs.Wire.{ask_beat, IsWireAnswer, IsWireAsk, IsTooLarge, NamesNone, beat_of, flag_of, known_number, link_of, reply_beat, shown_by_struct, told_byte};
 
 use crate::fault::{NO_OPERATION, OK, SIZE};
 use check_beats::{AskHead, MAX_LANES, ReplyHead};
+use check_flight::Answer;
+use check_memory::Cells;
 use check_watch::{Beat, Link};
-use tl_types::{Ask, AskOp, MAX_SIZE, Reply, read_op, reply_opcode, write_over};
+use tl_types::{Ask, AskOp, MAX_SIZE, read_op, reply_opcode};
 
 /// The room of a message's bytes in the header's structs.
 pub const ROOM: usize = 256;
@@ -37,6 +39,7 @@ pub struct WireAnswer {
     pub size: u8,
     pub denied: u8,
     pub bytes: [u8; ROOM],
+    pub known: [u8; ROOM],
 }
 
 /// A beat: `struct tlx_beat`. Its lanes are those of the widest bus, and are borrowed where a beat is judged.
@@ -92,22 +95,44 @@ fn fill_ask(wire: &WireAsk, op: AskOp, ask: &mut Ask)
     }
 }
 
-/// Puts a reply with its port and place into a struct. Behind its bytes the struct stays as it was: a short reply pays
-/// for no long one.
-pub(crate) fn put_answer(wire: &mut WireAnswer, port: usize, place: usize, reply: &Reply)
-    ensures answer { IsWireAnswer wire.new port place reply.now }
-    ensures behind { drop wire.new.count wire.new.bytes ≡ drop wire.new.count wire.old.bytes }
+/// Tells bytes in a buffer: zero where one is unknown.
+fn tell_bytes(cells: &Cells, bytes: &mut [u8])
+    requires { length bytes.old ≡ length cells.now }
+    ensures { bytes.new ≡ map told_byte cells.now }
 {
-    let bytes = reply.bytes();
-    let count = bytes.len();
-    wire.port = port;
-    wire.place = place;
+    for place in 0..bytes.len() {
+        bytes[place] = cells.get(place).unwrap_or(0);
+    }
+}
+
+/// Tells in a buffer which bytes are known: 1 where one is, else 0.
+fn tell_known(cells: &Cells, flags: &mut [u8])
+    requires { length flags.old ≡ length cells.now }
+    ensures { flags.new ≡ map known_number cells.now }
+{
+    for place in 0..flags.len() {
+        flags[place] = cells.get(place).is_some() as u8;
+    }
+}
+
+/// Puts an answer into a struct. Behind its bytes the struct stays as it was: a short answer pays for no long one.
+pub(crate) fn put_answer(wire: &mut WireAnswer, answer: &Answer)
+    ensures answer { IsWireAnswer wire.new answer.now }
+    ensures behind { drop wire.new.count wire.new.bytes ≡ drop wire.new.count wire.old.bytes }
+    ensures known_behind { drop wire.new.count wire.new.known ≡ drop wire.new.count wire.old.known }
+{
+    let reply = &answer.reply;
+    let cells = reply.cells();
+    let count = cells.len();
+    wire.port = answer.port;
+    wire.place = answer.index;
     wire.count = count;
     wire.source = reply.source();
     wire.opcode = reply_opcode(reply.op());
     wire.size = reply.size();
-    wire.denied = reply.denied() as u8;
-    write_over(&mut wire.bytes[..count], bytes);
+    wire.denied = reply.denied().unwrap_or(false) as u8;
+    tell_bytes(cells, &mut wire.bytes[..count]);
+    tell_known(cells, &mut wire.known[..count]);
 }
 
 /// The flag that a number stands for.

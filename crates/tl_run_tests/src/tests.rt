@@ -1,7 +1,6 @@
 mod audit;
 mod beats;
 mod memory;
-mod model;
 mod ops;
 mod program;
 mod slots;

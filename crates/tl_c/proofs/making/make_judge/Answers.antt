@@ -17,7 +17,7 @@ use Rattle.tl_c.proofs.making.make_judge.Goals as goal
 
 pub returns-in_err-begun-clause-fault : goal.returns-in_err-begun-clause-fault
 returns-in_err-begun-clause-fault c =
-    let draft = c.args.draft in
+    let draft = c.args.draft.now in
     let system = c.in_ok-system.system in
     let fault = c.in_err-begun.field-0.0 in
     let given = map (λ image. image.items) c.deref.result.now in
@@ -28,7 +28,7 @@ returns-in_err-begun-clause-fault c =
     let fits : (k : ℕ) (said : Port) → slice_get system.ports k ≡ Some said
     → length (image_at given k) ≤ first_length said.ranges =
     λ k said there. (let P : List (List ℕ) → Type 0 = λ l. length (image_at l k) ≤ first_length said.ranges in
-    subst P (sym images) (c.into_parts.ensures.lawful.fits k said
+    subst P (sym images) (c.copy_parts.ensures.lawful.fits k said
     (subst (λ l. slice_get l k ≡ Some said) ports there))) in
     error_is (λ (fault : SystemFault). fault ≢ Memory → IsFirstFaultOf draft.parts fault) fault
     c.from_residual-in_err-begun.result c.from_residual-in_err-begun.ensures.1
@@ -36,19 +36,19 @@ returns-in_err-begun-clause-fault c =
 
 pub returns-in_err-text-clause-fault : goal.returns-in_err-text-clause-fault
 returns-in_err-text-clause-fault c =
-    error_is (λ (fault : SystemFault). fault ≢ Memory → IsFirstFaultOf c.args.draft.parts fault) Memory
+    error_is (λ (fault : SystemFault). fault ≢ Memory → IsFirstFaultOf c.args.draft.now.parts fault) Memory
     c.from_residual-in_err-text.result c.from_residual-in_err-text.ensures.1 (λ real. absurd (real refl))
 
 pub returns-clause-ok : goal.returns-clause-ok
 returns-clause-ok c =
     let system = c.in_ok-system.system in
     let watch = c.in_ok-begun.begun.watch in
-    let images : map (λ image. image.items) c.deref.result.now ≡ image_bytes c.args.draft.images =
+    let images : map (λ image. image.items) c.deref.result.now ≡ image_bytes c.args.draft.now.images =
     ap (map (λ image. image.items)) c.deref.ensures.value ∙ c.in_ok-parts.ensures.images in
-    let keeps : ByThePlan c.args.terms system (image_bytes c.args.draft.images) (λ plan. KeepsOrdered plan.begins [] watch) =
+    let keeps : ByThePlan c.args.terms system (image_bytes c.args.draft.now.images) (λ plan. KeepsOrdered plan.begins [] watch) =
     (let P : List (List ℕ) → Type 0 = λ l. ByThePlan c.args.terms system l (λ plan. KeepsOrdered plan.begins [] watch) in
     subst P images c.in_ok-begun.ensures.keeps) in
-    let loads : ByThePlan c.args.terms system (image_bytes c.args.draft.images) (λ plan. AreLoadsOf plan c.in_ok-begun.begun.loads) =
+    let loads : ByThePlan c.args.terms system (image_bytes c.args.draft.now.images) (λ plan. AreLoadsOf plan c.in_ok-begun.begun.loads) =
     (let P : List (List ℕ) → Type 0 = λ l. ByThePlan c.args.terms system l (λ plan. AreLoadsOf plan c.in_ok-begun.begun.loads) in
     subst P images c.in_ok-begun.ensures.loads) in
     record {

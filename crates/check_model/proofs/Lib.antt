@@ -1,0 +1,5 @@
+pub mod Poking
+pub mod Counted
+pub mod Reading
+pub mod Rows
+pub mod Loading

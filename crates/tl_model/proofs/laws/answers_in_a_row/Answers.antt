@@ -1,5 +1,0 @@
-use Rattle.tl_model.proofs.Rows.{answered}
-use Rattle.tl_model.proofs.laws.answers_in_a_row.Goals as goal
-
-pub returns : goal.returns
-returns c = answered

@@ -1,5 +1,0 @@
-use Rattle.tl_model.proofs.Rows.{moved}
-use Rattle.tl_model.proofs.laws.calls_in_a_row.Goals as goal
-
-pub returns : goal.returns
-returns c = moved

@@ -1,3 +1,0 @@
-pub mod Crossbar
-pub mod Ports
-pub mod Calls
