@@ -1,7 +1,7 @@
 -- What the names of a system find has no more bits than its columns have room for.
 use Rattle.std.proofs.Common.{◌≡◌, ℕ, zero, suc, ◌+◌, ◌-◌, ◌<◌, ◌≤◌, nat_le, nat_lt, Bool, true, false, ◌&&◌, not, cond, List, [], ◌∷◌, ◌++◌, length, map, is_some, Option, Some, None, Result, Ok, Err, Contains, ◌∙◌, ap, arith, refl, slice_get, subst}
 use Rattle.std.specs.Prelude.{⊤, codes}
-use Rattle.std.specs.List.{cons_option, list_any}
+use Rattle.std.specs.List.{AllByRecursion, cons_option, list_any}
 use Rattle.std.specs.Option.{option_and_then}
 use Rattle.std.specs.Str.{bytes_eq}
 use Rattle.std.proofs.lemmas.Bool.{ltb-false}
@@ -34,29 +34,24 @@ use Rattle.check_due.proofs.Buses.{link-there}
 
 -- ---- lists
 
--- it holds of each element
-abbrev pub Each : {A : Type 0} → (A → Type 0) → List A → Type 0
-Each P [] = ⊤
-Each P (x ∷ xs) = P x × Each P xs
-
-pub each-append : {A : Type 0} → (P : A → Type 0) (xs ys : List A) → Each P xs → Each P ys → Each P (xs ++ ys)
+pub each-append : {A : Type 0} → (P : A → Type 0) (xs ys : List A) → AllByRecursion P xs → AllByRecursion P ys → AllByRecursion P (xs ++ ys)
 each-append P [] ys one two = two
 each-append P (x ∷ xs) ys one two = (one.0, each-append P xs ys one.1 two)
 
-pub each-first : {A : Type 0} → (P : A → Type 0) (xs ys : List A) → Each P (xs ++ ys) → Each P xs
+pub each-first : {A : Type 0} → (P : A → Type 0) (xs ys : List A) → AllByRecursion P (xs ++ ys) → AllByRecursion P xs
 each-first P [] ys all = tt
 each-first P (x ∷ xs) ys all = (all.0, each-first P xs ys all.1)
 
-pub each-second : {A : Type 0} → (P : A → Type 0) (xs ys : List A) → Each P (xs ++ ys) → Each P ys
+pub each-second : {A : Type 0} → (P : A → Type 0) (xs ys : List A) → AllByRecursion P (xs ++ ys) → AllByRecursion P ys
 each-second P [] ys all = all
 each-second P (x ∷ xs) ys all = each-second P xs ys all.1
 
 pub each-map : {A B : Type 0} → (P : A → Type 0) (Q : B → Type 0) (f : A → B) (xs : List A)
-    → ((x : A) → P x → Q (f x)) → Each P xs → Each Q (map f xs)
+    → ((x : A) → P x → Q (f x)) → AllByRecursion P xs → AllByRecursion Q (map f xs)
 each-map P Q f [] gives all = tt
 each-map P Q f (x ∷ xs) gives all = (gives x all.0, each-map P Q f xs gives all.1)
 
-pub each-has : {A : Type 0} → (P : A → Type 0) (xs : List A) (x : A) → Each P xs → Contains xs x → P x
+pub each-has : {A : Type 0} → (P : A → Type 0) (xs : List A) (x : A) → AllByRecursion P xs → Contains xs x → P x
 each-has {A} P [] x all has = absurd (omega (arith, has.1))
 each-has {A} P (y ∷ ys) x all (zero, inside, is) = subst P is all.0
 each-has {A} P (y ∷ ys) x all (suc k, inside, is) = each-has P ys x all.1 (k, omega (arith, inside), is)
@@ -262,7 +257,7 @@ pub record PartFits (vars : List Var) (s : Source) : Type 0 where
 
 -- parts have as many bits together as are wanted, each within its value
 pub record PartsFit (vars : List Var) (wanted : Wanted) (parts : List Source) : Type 0 where
-  pub each : Each (PartFits vars) parts
+  pub each : AllByRecursion (PartFits vars) parts
   pub bits : HasBits wanted (parts_bits parts)
 
 one-fits : (vars : List Var) (wanted : Wanted) (s : Source) → SourceFits vars wanted s → PartsFit vars wanted (s ∷ [])
@@ -275,16 +270,16 @@ one-fits vars wanted s fits =
 
 -- what holds of each that is found holds of all
 each-gives : {A B F : Type 0} → (f : A → Result B F) (P : B → Type 0) → ((x : A) (y : B) → f x ≡ Ok y → P y)
-    → (xs : List A) (ys : List B) → each f xs ≡ Ok ys → Each P ys
-each-gives {A} {B} {F} f P gives [] ys is = let same : [] ≡ ys = cc in subst (Each P) same tt
+    → (xs : List A) (ys : List B) → each f xs ≡ Ok ys → AllByRecursion P ys
+each-gives {A} {B} {F} f P gives [] ys is = let same : [] ≡ ys = cc in subst (AllByRecursion P) same tt
 each-gives {A} {B} {F} f P gives (x ∷ xs) ys is = go (f x) (each f xs) refl (λ more e. each-gives f P gives xs more e) is
   where
-    go : (r : Result B F) (rest : Result (List B) F) → f x ≡ r → ((more : List B) → rest ≡ Ok more → Each P more)
-        → (r >>= (λ y. rest >>= (λ zs. Ok (y ∷ zs)))) ≡ Ok ys → Each P ys
+    go : (r : Result B F) (rest : Result (List B) F) → f x ≡ r → ((more : List B) → rest ≡ Ok more → AllByRecursion P more)
+        → (r >>= (λ y. rest >>= (λ zs. Ok (y ∷ zs)))) ≡ Ok ys → AllByRecursion P ys
     go (Err fault) rest e others w = absurd (cc)
     go (Ok y) (Err fault) e others w = absurd (cc)
     go (Ok y) (Ok more) e others w =
-        let same : y ∷ more ≡ ys = cc in subst (Each P) same (gives x y e, others more refl)
+        let same : y ∷ more ≡ ys = cc in subst (AllByRecursion P) same (gives x y e, others more refl)
 
 -- a bit that is declared alone
 bit-within-fits : (vars : List Var) (asked : WantedSignal) (code : List ℕ) (width : ℕ) (s : Source)
@@ -314,7 +309,7 @@ bit-fits vars asked bits index s is = go (first_of (codes_at bits index)) is
     go None e = absurd (cc)
     go (Some code) e = by code (list_any (λ other. not (bytes_eq other code)) (codes_at bits index)) e
 
-bits-wanted-fit : (vars : List Var) (asked : WantedSignal) (some parts : List Source) → Each (PartFits vars) some
+bits-wanted-fit : (vars : List Var) (asked : WantedSignal) (some parts : List Source) → AllByRecursion (PartFits vars) some
     → bits_wanted asked some ≡ Ok parts → PartsFit vars asked.wanted parts
 bits-wanted-fit vars asked some parts all is = go (bits_fit asked.wanted (parts_bits some)) refl is
   where
@@ -336,7 +331,7 @@ vector-fits vars asked name bits span parts is =
     indices = indices_down span.left (span.left - span.right + 1)
 
     by : (r : Result (List Source) SearchFault)
-        → ((some : List Source) → r ≡ Ok some → Each (PartFits vars) some)
+        → ((some : List Source) → r ≡ Ok some → AllByRecursion (PartFits vars) some)
         → (r >>= bits_wanted asked) ≡ Ok parts → PartsFit vars asked.wanted parts
     by (Err fault) all e = absurd (cc)
     by (Ok some) all e = bits-wanted-fit vars asked some parts (all some refl) e
@@ -463,14 +458,14 @@ clock-fits vars whose names own is =
 
 -- ---- the names of a link
 
-all-parts-fit : (vars : List Var) (found : List (List Source)) → Each (Each (PartFits vars)) found
-    → Each (PartFits vars) (all_parts found)
+all-parts-fit : (vars : List Var) (found : List (List Source)) → AllByRecursion (AllByRecursion (PartFits vars)) found
+    → AllByRecursion (PartFits vars) (all_parts found)
 all-parts-fit vars [] fits = tt
 all-parts-fit vars (parts ∷ found) fits =
     each-append (PartFits vars) parts (all_parts found) fits.0 (all-parts-fit vars found fits.1)
 
 part-fits : (vars : List Var) (signal : LinkSignal) (name : List ℕ) (parts : List Source)
-    → part_of vars signal name ≡ Ok parts → Each (PartFits vars) parts
+    → part_of vars signal name ≡ Ok parts → AllByRecursion (PartFits vars) parts
 part-fits vars signal name parts is =
     (named-fits vars
     (record { owner = signal.owner; name = name; behind = None; wanted = AtMost MAX_WIDTH }) parts (omega arith) is).each
@@ -480,10 +475,10 @@ joined-fits : (vars : List Var) (signal : LinkSignal) (names : List (List ℕ)) 
     → PartsFit vars signal.wanted parts
 joined-fits vars signal names parts is =
     go (each (part_of vars signal) names)
-    (λ found x. each-gives (part_of vars signal) (Each (PartFits vars))
+    (λ found x. each-gives (part_of vars signal) (AllByRecursion (PartFits vars))
     (λ name some y. part-fits vars signal name some y) names found x) is
   where
-    by : (some : List Source) → Each (PartFits vars) some → (t : Bool) → bits_fit signal.wanted (parts_bits some) ≡ t
+    by : (some : List Source) → AllByRecursion (PartFits vars) some → (t : Bool) → bits_fit signal.wanted (parts_bits some) ≡ t
         → cond t (Ok some) (Err (Width signal.owner (signal_name signal.which) (parts_bits some) (count_of signal.wanted)))
         ≡ Ok parts
         → PartsFit vars signal.wanted parts
@@ -494,7 +489,7 @@ joined-fits vars signal names parts is =
     by some all false x e = absurd (cc)
 
     go : (r : Result (List (List Source)) SearchFault)
-        → ((found : List (List Source)) → r ≡ Ok found → Each (Each (PartFits vars)) found)
+        → ((found : List (List Source)) → r ≡ Ok found → AllByRecursion (AllByRecursion (PartFits vars)) found)
         → (r >>= (λ found. fitting signal (all_parts found))) ≡ Ok parts → PartsFit vars signal.wanted parts
     go (Err fault) all e = absurd (cc)
     go (Ok found) all e =
@@ -574,14 +569,14 @@ abbrev IsNamed : List Bus → List Bus → NamedLink → Type 0
 IsNamed masters ports named = HasBus masters ports named.link named.bus
 
 one-named : (masters ports : List Bus) (is_port : Bool) (n : ℕ) (bus : Bus) (names : Option LinkNames)
-    (links : List NamedLink) → HasBus masters ports (link_at is_port n) bus → Each (IsNamed masters ports) links
-    → Each (IsNamed masters ports) (named_before is_port n bus names links)
+    (links : List NamedLink) → HasBus masters ports (link_at is_port n) bus → AllByRecursion (IsNamed masters ports) links
+    → AllByRecursion (IsNamed masters ports) (named_before is_port n bus names links)
 one-named masters ports is_port n bus None links has rest = rest
 one-named masters ports is_port n bus (Some names) links has rest = (has, rest)
 
 all-named : (masters ports : List Bus) (is_port : Bool) (names : NamesOf) (n : ℕ) (buses : List Bus)
     → ((k m : ℕ) (bus : Bus) → slice_get buses k ≡ Some bus → m ≡ n + k → HasBus masters ports (link_at is_port m) bus)
-    → Each (IsNamed masters ports) (numbered is_port names n buses)
+    → AllByRecursion (IsNamed masters ports) (numbered is_port names n buses)
 all-named masters ports is_port names n [] has = tt
 all-named masters ports is_port names n (bus ∷ buses) has =
     one-named masters ports is_port n bus (names_at names n) (numbered is_port names (n + 1) buses)
@@ -617,26 +612,26 @@ link-fits vars masters ports named found has is =
         })
 
 each-fit : (vars : List Var) (masters ports : List Bus) (links : List NamedLink) (found : List LinkSources)
-    → Each (IsNamed masters ports) links → each (link_sources vars) links ≡ Ok found
-    → Each (LinkFits vars masters ports) found
+    → AllByRecursion (IsNamed masters ports) links → each (link_sources vars) links ≡ Ok found
+    → AllByRecursion (LinkFits vars masters ports) found
 each-fit vars masters ports [] found named is =
-    let same : [] ≡ found = cc in subst (Each (LinkFits vars masters ports)) same tt
+    let same : [] ≡ found = cc in subst (AllByRecursion (LinkFits vars masters ports)) same tt
 each-fit vars masters ports (link ∷ links) found named is =
     go (link_sources vars link) (each (link_sources vars) links) refl
     (λ more fits. each-fit vars masters ports links more named.1 fits) is
   where
     go : (r : Result LinkSources SearchFault) (rest : Result (List LinkSources) SearchFault) → link_sources vars link ≡ r
-        → ((more : List LinkSources) → rest ≡ Ok more → Each (LinkFits vars masters ports) more)
-        → (r >>= (λ y. rest >>= (λ ys. Ok (y ∷ ys)))) ≡ Ok found → Each (LinkFits vars masters ports) found
+        → ((more : List LinkSources) → rest ≡ Ok more → AllByRecursion (LinkFits vars masters ports) more)
+        → (r >>= (λ y. rest >>= (λ ys. Ok (y ∷ ys)))) ≡ Ok found → AllByRecursion (LinkFits vars masters ports) found
     go (Err fault) rest x y e = absurd (cc)
     go (Ok one) (Err fault) x y e = absurd (cc)
     go (Ok one) (Ok more) x y e =
         let same : one ∷ more ≡ found = cc in
-        subst (Each (LinkFits vars masters ports)) same
+        subst (AllByRecursion (LinkFits vars masters ports)) same
         (link-fits vars masters ports link one named.0 x, y more refl)
 
 pub ports-fit : (vars : List Var) (masters ports : List Bus) (names : NamesOf) (found : List LinkSources)
-    → links_from vars true names 0 ports ≡ Ok found → Each (LinkFits vars masters ports) found
+    → links_from vars true names 0 ports ≡ Ok found → AllByRecursion (LinkFits vars masters ports) found
 unfolding links_from
 ports-fit vars masters ports names found is =
     each-fit vars masters ports (numbered true names 0 ports) found
@@ -644,7 +639,7 @@ ports-fit vars masters ports names found is =
     (λ k m bus has at. subst (λ (i : ℕ). slice_get ports i ≡ Some bus) (omega (arith, at)) has)) is
 
 pub masters-fit : (vars : List Var) (masters ports : List Bus) (names : NamesOf) (found : List LinkSources)
-    → links_from vars false names 0 masters ≡ Ok found → Each (LinkFits vars masters ports) found
+    → links_from vars false names 0 masters ≡ Ok found → AllByRecursion (LinkFits vars masters ports) found
 unfolding links_from
 masters-fit vars masters ports names found is =
     each-fit vars masters ports (numbered false names 0 masters) found

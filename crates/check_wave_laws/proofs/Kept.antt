@@ -1,7 +1,7 @@
 -- What is kept has the bits of all that is looked at.
 use Rattle.std.proofs.Common.{◌≡◌, ◌∙◌, ℕ, zero, suc, ◌+◌, ◌-◌, ◌*◌, ◌<◌, ◌≤◌, nat_lt, Bool, true, false, ◌||◌, cond, List, [], ◌∷◌, ◌++◌, length, get_or, map, Option, Some, None, Result, Ok, Err, arith, refl, sym, ap, subst, append_assoc}
 use Rattle.std.specs.Prelude.{⊤}
-use Rattle.std.specs.List.{cons_option}
+use Rattle.std.specs.List.{AllByRecursion, cons_option}
 use Rattle.std.specs.Str.{bytes_eq}
 use Rattle.std.proofs.lemmas.Bool.Decides.{nat_tests}
 use Rattle.std.proofs.lemmas.List.{length-replicate}
@@ -29,7 +29,7 @@ use Rattle.check_signals.specs.declared.signal_fault.SignalOwner.TheVariants as 
 use Rattle.check_signals.specs.declared.wanted.Wanted.{Wanted}
 use Rattle.check_signals.specs.declared.wanted.Wanted.TheVariants.{Exactly}
 use Rattle.check_wave_laws.specs.Text.{AllLieWithin, ChannelFits, FindFits, SamplingFits, TakesBeat, taps_bits}
-use Rattle.check_wave_laws.proofs.Found.{ClockFits, Each, FitsAll, LineFits, clock-fits, HasBits, KeptFits, LinkFits, PartFits, PartsFit, each-append, each-first, each-has, each-map, each-second, masters-fit, ports-fit}
+use Rattle.check_wave_laws.proofs.Found.{ClockFits, FitsAll, LineFits, clock-fits, HasBits, KeptFits, LinkFits, PartFits, PartsFit, each-append, each-first, each-has, each-map, each-second, masters-fit, ports-fit}
 
 -- ---- one value and another
 
@@ -69,15 +69,15 @@ kept-last (other ∷ some) value = go (is_same other value) (kept-last some valu
     go false rest = rest
 
 -- each value is among those that were kept, or is kept
-all-kept : (some values : List Kept) → Each (λ value. is_kept (some ++ distinct some values) value ≡ true) values
+all-kept : (some values : List Kept) → AllByRecursion (λ value. is_kept (some ++ distinct some values) value ≡ true) values
 all-kept some [] = tt
 all-kept some (value ∷ values) =
     go (is_kept some value) refl (all-kept some values) (all-kept (some ++ (value ∷ [])) values)
   where
     go : (t : Bool) → is_kept some value ≡ t
-        → Each (λ other. is_kept (some ++ distinct some values) other ≡ true) values
-        → Each (λ other. is_kept ((some ++ (value ∷ [])) ++ distinct (some ++ (value ∷ [])) values) other ≡ true) values
-        → Each (λ other. is_kept (some ++ cond t (distinct some values)
+        → AllByRecursion (λ other. is_kept (some ++ distinct some values) other ≡ true) values
+        → AllByRecursion (λ other. is_kept ((some ++ (value ∷ [])) ++ distinct (some ++ (value ∷ [])) values) other ≡ true) values
+        → AllByRecursion (λ other. is_kept (some ++ cond t (distinct some values)
         (value ∷ distinct (some ++ (value ∷ [])) values)) other ≡ true) (value ∷ values)
     go true x same next = (kept-append some (distinct some values) value x, same)
     go false x same next =
@@ -85,24 +85,24 @@ all-kept some (value ∷ values) =
         let assoc : (some ++ (value ∷ [])) ++ more ≡ some ++ (value ∷ more) = append_assoc some (value ∷ []) more in (
           subst (λ (all : List Kept). is_kept all value ≡ true) assoc
               (kept-append (some ++ (value ∷ [])) more value (kept-last some value)),
-          subst (λ (all : List Kept). Each (λ other. is_kept all other ≡ true) values) assoc next,
+          subst (λ (all : List Kept). AllByRecursion (λ other. is_kept all other ≡ true) values) assoc next,
         )
 
-distinct-fits : (vars : List Var) (some values : List Kept) → Each (KeptFits vars) values
-    → Each (KeptFits vars) (distinct some values)
+distinct-fits : (vars : List Var) (some values : List Kept) → AllByRecursion (KeptFits vars) values
+    → AllByRecursion (KeptFits vars) (distinct some values)
 distinct-fits vars some [] all = tt
 distinct-fits vars some (value ∷ values) all =
     go (is_kept some value) (distinct-fits vars some values all.1)
     (distinct-fits vars (some ++ (value ∷ [])) values all.1)
   where
-    go : (t : Bool) → Each (KeptFits vars) (distinct some values)
-        → Each (KeptFits vars) (distinct (some ++ (value ∷ [])) values)
-        → Each (KeptFits vars) (cond t (distinct some values) (value ∷ distinct (some ++ (value ∷ [])) values))
+    go : (t : Bool) → AllByRecursion (KeptFits vars) (distinct some values)
+        → AllByRecursion (KeptFits vars) (distinct (some ++ (value ∷ [])) values)
+        → AllByRecursion (KeptFits vars) (cond t (distinct some values) (value ∷ distinct (some ++ (value ∷ [])) values))
     go true same next = same
     go false same next = (all.0, next)
 
 -- the slot of a value has its width
-place-width : (vars : List Var) (kept : List Kept) (value : Kept) → Each (KeptFits vars) kept → KeptFits vars value
+place-width : (vars : List Var) (kept : List Kept) (value : Kept) → AllByRecursion (KeptFits vars) kept → KeptFits vars value
     → is_kept kept value ≡ true → get_or (map width_in kept) (slot_place kept value) 0 ≡ width_in value
 place-width vars [] value all fits is = absurd (cc)
 place-width vars (other ∷ kept) value all fits is =
@@ -126,12 +126,12 @@ SlotFits kept s = get_or (map width_in kept) (slot_place kept s.kept) 0 ≡ widt
 abbrev ValueFits : List Var → Source → Type 0
 ValueFits vars s = KeptFits vars s.kept
 
-values-of-parts : (vars : List Var) (parts : List Source) → Each (PartFits vars) parts → Each (ValueFits vars) parts
+values-of-parts : (vars : List Var) (parts : List Source) → AllByRecursion (PartFits vars) parts → AllByRecursion (ValueFits vars) parts
 values-of-parts vars [] fits = tt
 values-of-parts vars (s ∷ parts) fits = (fits.0.kept, values-of-parts vars parts fits.1)
 
 values-fit : (vars : List Var) (bus : ℕ) (signals : List Signal) (found : List (List Source))
-    → FitsAll vars bus signals found → Each (ValueFits vars) (all_parts found)
+    → FitsAll vars bus signals found → AllByRecursion (ValueFits vars) (all_parts found)
 values-fit vars bus signals [] fits = tt
 values-fit vars bus [] (parts ∷ found) fits = absurd fits
 values-fit vars bus (which ∷ signals) (parts ∷ found) fits =
@@ -140,26 +140,26 @@ values-fit vars bus (which ∷ signals) (parts ∷ found) fits =
 
 -- a clock and a reset before other sources
 line-before : (vars : List Var) (line : Option Source) (others : List Source) → LineFits vars line
-    → Each (ValueFits vars) others → Each (ValueFits vars) (cons_option line others)
+    → AllByRecursion (ValueFits vars) others → AllByRecursion (ValueFits vars) (cons_option line others)
 line-before vars None others one rest = rest
 line-before vars (Some s) others one rest = (one.kept, rest)
 
 with-lines-fit : (vars : List Var) (own : ClockSources) (others : List Source) → ClockFits vars own
-    → Each (ValueFits vars) others → Each (ValueFits vars) (with_lines own others)
+    → AllByRecursion (ValueFits vars) others → AllByRecursion (ValueFits vars) (with_lines own others)
 with-lines-fit vars own others fits rest =
     line-before vars own.clock (cons_option own.reset others) fits.clock (line-before vars own.reset others fits.reset rest)
 
-behind-line : (P : Source → Type 0) (line : Option Source) (others : List Source) → Each P (cons_option line others)
-    → Each P others
+behind-line : (P : Source → Type 0) (line : Option Source) (others : List Source) → AllByRecursion P (cons_option line others)
+    → AllByRecursion P others
 behind-line P None others all = all
 behind-line P (Some s) others all = all.1
 
-behind-lines : (P : Source → Type 0) (own : ClockSources) (others : List Source) → Each P (with_lines own others)
-    → Each P others
+behind-lines : (P : Source → Type 0) (own : ClockSources) (others : List Source) → AllByRecursion P (with_lines own others)
+    → AllByRecursion P others
 behind-lines P own others all = behind-line P own.reset others (behind-line P own.clock (cons_option own.reset others) all)
 
 flat-fits : (vars : List Var) (masters ports : List Bus) (links : List LinkSources)
-    → Each (LinkFits vars masters ports) links → Each (ValueFits vars) (flat links)
+    → AllByRecursion (LinkFits vars masters ports) links → AllByRecursion (ValueFits vars) (flat links)
 flat-fits vars masters ports [] fits = tt
 flat-fits vars masters ports (found ∷ links) fits =
     each-append (ValueFits vars) (of_link found) (flat links)
@@ -167,19 +167,19 @@ flat-fits vars masters ports (found ∷ links) fits =
     (values-fit vars (bus_of_link masters ports found.link) SIGNALS found.signals fits.0.signals))
     (flat-fits vars masters ports links fits.1)
 
-slots-fit : (vars : List Var) (kept : List Kept) (sources : List Source) → Each (KeptFits vars) kept
-    → Each (ValueFits vars) sources → Each (λ value. is_kept kept value ≡ true) (map (λ s. s.kept) sources)
-    → Each (SlotFits kept) sources
+slots-fit : (vars : List Var) (kept : List Kept) (sources : List Source) → AllByRecursion (KeptFits vars) kept
+    → AllByRecursion (ValueFits vars) sources → AllByRecursion (λ value. is_kept kept value ≡ true) (map (λ s. s.kept) sources)
+    → AllByRecursion (SlotFits kept) sources
 slots-fit vars kept [] all fits are = tt
 slots-fit vars kept (s ∷ sources) all fits are =
     (place-width vars kept s.kept all fits.0 are.0, slots-fit vars kept sources all fits.1 are.1)
 
 -- all that is kept of sources fits, and so do their slots
 pub record KeptAll (vars : List Var) (kept : List Kept) (sources : List Source) : Type 0 where
-  pub values : Each (KeptFits vars) kept
-  pub slots : Each (SlotFits kept) sources
+  pub values : AllByRecursion (KeptFits vars) kept
+  pub slots : AllByRecursion (SlotFits kept) sources
 
-pub kept-all : (vars : List Var) (sources : List Source) → Each (ValueFits vars) sources
+pub kept-all : (vars : List Var) (sources : List Source) → AllByRecursion (ValueFits vars) sources
     → KeptAll vars (values_kept sources) sources
 unfolding values_kept
 kept-all vars sources fits =
@@ -236,7 +236,7 @@ several-fits vars kept total before wanted parts bits room =
     }
 
 tap-fits : (vars : List Var) (kept : List Kept) (total before : ℕ) (wanted : Wanted) (parts : List Source)
-    → PartsFit vars wanted parts → Each (SlotFits kept) parts → before + joined_bits parts ≤ total
+    → PartsFit vars wanted parts → AllByRecursion (SlotFits kept) parts → before + joined_bits parts ≤ total
     → TapFits (map width_in kept ++ (total ∷ [])) wanted (tap_of kept before parts)
 tap-fits vars kept total before wanted [] fits slots room = several-fits vars kept total before wanted [] fits.bits room
 tap-fits vars kept total before wanted (s ∷ []) fits slots room =
@@ -254,7 +254,7 @@ tap-fits vars kept total before wanted (s ∷ (r ∷ parts)) fits slots room =
     several-fits vars kept total before wanted (s ∷ (r ∷ parts)) fits.bits room
 
 taps-fit : (vars : List Var) (kept : List Kept) (total before bus : ℕ) (signals : List Signal)
-    (found : List (List Source)) → FitsAll vars bus signals found → Each (SlotFits kept) (all_parts found)
+    (found : List (List Source)) → FitsAll vars bus signals found → AllByRecursion (SlotFits kept) (all_parts found)
     → before + bits_in found ≤ total
     → TapsFit (map width_in kept ++ (total ∷ [])) bus signals (taps_from kept before found)
 taps-fit vars kept total before bus signals [] fits slots room = tt
@@ -347,8 +347,8 @@ widths-with kept total = map width_in kept ++ (total ∷ [])
 
 pairs-fit : (vars : List Var) (masters ports : List Bus) (kept : List Kept) (clocks : List ClockSources) (total before : ℕ)
     (links : List LinkSources)
-    → Each (LinkFits vars masters ports) links → Each (SlotFits kept) (flat links) → before + link_bits links ≤ total
-    → Each (PairFits masters ports (widths-with kept total)) (channel_pairs kept clocks before links)
+    → AllByRecursion (LinkFits vars masters ports) links → AllByRecursion (SlotFits kept) (flat links) → before + link_bits links ≤ total
+    → AllByRecursion (PairFits masters ports (widths-with kept total)) (channel_pairs kept clocks before links)
 pairs-fit vars masters ports kept clocks total before [] fits slots room = tt
 pairs-fit vars masters ports kept clocks total before (found ∷ links) fits slots room =
     go (channels_of_link found.link (domain_place clocks found.clock.names) (taps_from kept before found.signals))
@@ -361,9 +361,9 @@ pairs-fit vars masters ports kept clocks total before (found ∷ links) fits slo
   where
     go : (o : Option (Channel × Channel))
         → ((pair : Channel × Channel) → o ≡ Some pair → PairFits masters ports (widths-with kept total) pair)
-        → Each (PairFits masters ports (widths-with kept total))
+        → AllByRecursion (PairFits masters ports (widths-with kept total))
         (channel_pairs kept clocks (before + bits_in found.signals) links)
-        → Each (PairFits masters ports (widths-with kept total))
+        → AllByRecursion (PairFits masters ports (widths-with kept total))
         (cons_option o (channel_pairs kept clocks (before + bits_in found.signals) links))
     go None fit others = others
     go (Some pair) fit others = (fit pair refl, others)
@@ -402,22 +402,22 @@ lie-append : (widths : List ℕ) (some more : List Tap) → AllLieWithin widths 
 lie-append widths [] more one two = two
 lie-append widths (tap ∷ some) more one two = (one.0, lie-append widths some more one.1 two)
 
-parts-lie : (vars : List Var) (kept : List Kept) (parts : List Source) → Each (PartFits vars) parts
-    → Each (SlotFits kept) parts → AllLieWithin (map width_in kept) (map (tap_by kept) parts)
+parts-lie : (vars : List Var) (kept : List Kept) (parts : List Source) → AllByRecursion (PartFits vars) parts
+    → AllByRecursion (SlotFits kept) parts → AllLieWithin (map width_in kept) (map (tap_by kept) parts)
 parts-lie vars kept [] fits slots = tt
 parts-lie vars kept (s ∷ parts) fits slots = (
   record { from = fits.0.from; inside = part-inside kept s fits.0.inside slots.0 },
   parts-lie vars kept parts fits.1 slots.1,
 )
 
-joins-lie : (vars : List Var) (kept : List Kept) (parts : List Source) → Each (PartFits vars) parts
-    → Each (SlotFits kept) parts → AllLieWithin (map width_in kept) (joins_of kept parts)
+joins-lie : (vars : List Var) (kept : List Kept) (parts : List Source) → AllByRecursion (PartFits vars) parts
+    → AllByRecursion (SlotFits kept) parts → AllLieWithin (map width_in kept) (joins_of kept parts)
 joins-lie vars kept [] fits slots = tt
 joins-lie vars kept (s ∷ []) fits slots = tt
 joins-lie vars kept (s ∷ (r ∷ parts)) fits slots = parts-lie vars kept (s ∷ (r ∷ parts)) fits slots
 
 signals-lie : (vars : List Var) (kept : List Kept) (bus : ℕ) (signals : List Signal) (found : List (List Source))
-    → FitsAll vars bus signals found → Each (SlotFits kept) (all_parts found)
+    → FitsAll vars bus signals found → AllByRecursion (SlotFits kept) (all_parts found)
     → AllLieWithin (map width_in kept) (joins_in kept found)
 signals-lie vars kept bus signals [] fits slots = tt
 signals-lie vars kept bus [] (parts ∷ found) fits slots = absurd fits
@@ -427,7 +427,7 @@ signals-lie vars kept bus (which ∷ signals) (parts ∷ found) fits slots =
     (signals-lie vars kept bus signals found fits.1 (each-second (SlotFits kept) parts (all_parts found) slots))
 
 links-lie : (vars : List Var) (masters ports : List Bus) (kept : List Kept) (links : List LinkSources)
-    → Each (LinkFits vars masters ports) links → Each (SlotFits kept) (flat links)
+    → AllByRecursion (LinkFits vars masters ports) links → AllByRecursion (SlotFits kept) (flat links)
     → AllLieWithin (map width_in kept) (link_joins kept links)
 links-lie vars masters ports kept [] fits slots = tt
 links-lie vars masters ports kept (found ∷ links) fits slots =
@@ -439,8 +439,8 @@ links-lie vars masters ports kept (found ∷ links) fits slots =
     (each-second (SlotFits kept) (of_link found) (flat links) slots))
 
 order-fits : (masters ports : List Bus) (widths : List ℕ) (of_ports of_masters : List (Channel × Channel))
-    → Each (PairFits masters ports widths) of_ports → Each (PairFits masters ports widths) of_masters
-    → Each (ChannelFits masters ports widths) (in_order of_ports of_masters)
+    → AllByRecursion (PairFits masters ports widths) of_ports → AllByRecursion (PairFits masters ports widths) of_masters
+    → AllByRecursion (ChannelFits masters ports widths) (in_order of_ports of_masters)
 order-fits masters ports widths of_ports of_masters one two =
     let P = ChannelFits masters ports widths in
     let Q = PairFits masters ports widths in
@@ -459,7 +459,7 @@ digits-width : (vars : List Var) (value : Kept) → KeptFits vars value → leng
 digits-width vars (Changing code width) fits = length-replicate width 120
 digits-width vars (Constant digit width) fits = length-replicate width digit
 
-digits-widths : (vars : List Var) (kept : List Kept) → Each (KeptFits vars) kept
+digits-widths : (vars : List Var) (kept : List Kept) → AllByRecursion (KeptFits vars) kept
     → map length (map digits_in kept) ≡ map width_in kept
 digits-widths vars [] fits = refl
 digits-widths vars (value ∷ kept) fits =
@@ -537,7 +537,7 @@ one-fits vars widths (Changing code width) n find fits at is = record {
         ap (λ (c : Coded). c.width) (sym same) ∙ is.width other old y
     wide other coded false o y e = is.width other coded (y ∙ e)
 
-all-slots : (vars : List Var) (widths : List ℕ) (kept : List Kept) (n : ℕ) (find : Find) → Each (KeptFits vars) kept
+all-slots : (vars : List Var) (widths : List ℕ) (kept : List Kept) (n : ℕ) (find : Find) → AllByRecursion (KeptFits vars) kept
     → ((k : ℕ) → k < length kept → get_or widths (n + k) 0 ≡ get_or (map width_in kept) k 0) → FindIs vars widths find
     → (code : List ℕ) (coded : Coded) (slot : ℕ) → slots_from (map code_in kept) n find code ≡ Some coded
     → coded.slot ≡ Some slot → coded.width ≤ get_or widths slot 0
@@ -550,7 +550,7 @@ all-slots vars widths (value ∷ kept) n find fits at is code coded slot e s =
     (at (suc k) (omega (arith, h))))
     (one-fits vars widths value n find fits.0 here is) code coded slot e s
 
-find-fits : (vars : List Var) (kept : List Kept) → Each (KeptFits vars) kept
+find-fits : (vars : List Var) (kept : List Kept) → AllByRecursion (KeptFits vars) kept
     → FindFits (map width_in kept) (slots_from (map code_in kept) 0 (coded_in vars))
 find-fits vars kept fits code coded slot e s =
     all-slots vars (map width_in kept) kept 0 (coded_in vars) fits
@@ -565,8 +565,8 @@ find-fits vars kept fits code coded slot e s =
 -- what the names of a system find
 pub record AllFit (vars : List Var) (masters ports : List Bus) (sources : FoundSources) : Type 0 where
   pub system : ClockFits vars sources.system
-  pub of_ports : Each (LinkFits vars masters ports) sources.ports
-  pub of_masters : Each (LinkFits vars masters ports) sources.masters
+  pub of_ports : AllByRecursion (LinkFits vars masters ports) sources.ports
+  pub of_masters : AllByRecursion (LinkFits vars masters ports) sources.masters
 
 pub found-fits : (vars : List Var) (masters ports : List Bus) (sources : FoundSources)
     → AllFit vars masters ports sources
