@@ -325,11 +325,43 @@ static inline uint32_t tlx_judge_read(struct tlx_judge *judge, const void *file,
 static inline void tlx_judge_free(struct tlx_judge *judge) { if (judge) tlx_judge_free_at(judge); }
 
 /* Judges one beat more: TLX_OK if what crossed so far is lawful with it, else the first fault that it has, which changes nothing but the
- * text. Of one clock cycle give channel A of the masters' links first, then A of the ports', D of the ports', and D of the masters'.
+ * text. Of one clock cycle give the beats in the order in which they cross, or all of them to tlx_judge_cycle.
  * TLX_MEMORY says that the beat is lawful and nothing has changed (above): the same beat may be given again.
  * Faults: TLX_NULL, TLX_BAD_ARGUMENT, TLX_EMPTY, TLX_NO_LINK, TLX_MEMORY, and those of a beat. */
 static inline uint32_t tlx_judge_step(struct tlx_judge *judge, const struct tlx_beat *beat) {
   return judge && beat ? tlx_judge_step_at(judge, beat) : (uint32_t)TLX_NULL;
+}
+
+/* Judges the beats of an array in turn, each as tlx_judge_step does, up to the first that is refused. `judged` says how many were judged
+ * before it, all after TLX_OK. `beats` may be null if `count` is 0.
+ * Faults: TLX_NULL, and those of tlx_judge_step. */
+static inline uint32_t tlx_judge_steps(struct tlx_judge *judge, const struct tlx_beat *beats, size_t count, size_t *judged) {
+  uint32_t fault = (uint32_t)TLX_OK;
+  if (judged) *judged = 0;
+  if (!judge || !judged || (!beats && count)) return (uint32_t)TLX_NULL;
+  while (*judged < count && (fault = tlx_judge_step_at(judge, &beats[*judged])) == (uint32_t)TLX_OK) ++*judged;
+  return fault;
+}
+
+/* Judges the beats of one clock cycle, which stand in any order, in the order in which they cross: channel A of the masters' links, then A of
+ * the ports', D of the ports', and D of the masters'. `at` is the place in the array of the first that is refused, and `count` if none
+ * is. The beats that cross before that one were judged, and those after it were not. `beats` may be null if `count` is 0.
+ * Faults: TLX_NULL, TLX_BAD_ARGUMENT (of the first beat in the array with another side or channel; then none was judged), and those of
+ * tlx_judge_step. */
+static inline uint32_t tlx_judge_cycle(struct tlx_judge *judge, const struct tlx_beat *beats, size_t count, size_t *at) {
+  if (at) *at = 0;
+  if (!judge || !at || (!beats && count)) return (uint32_t)TLX_NULL;
+  for (; *at < count; ++*at)
+    if (beats[*at].side > TLX_PORT || beats[*at].channel > TLX_D) return (uint32_t)TLX_BAD_ARGUMENT;
+  for (int turn = 0; turn < 4; turn++)
+    for (*at = 0; *at < count; ++*at) {
+      const struct tlx_beat *beat = &beats[*at];
+      /* a request crosses at the master's link first, a reply at the port's */
+      int is_due = beat->channel == (turn > 1) && beat->side == (turn == 1 || turn == 2);
+      uint32_t fault = is_due ? tlx_judge_step_at(judge, beat) : (uint32_t)TLX_OK;
+      if (fault != (uint32_t)TLX_OK) return fault;
+    }
+  return (uint32_t)TLX_OK;
 }
 
 /* Tells the judge that the whole system is reset now. The system file must say `resets = true`. The beats after this call are those after

@@ -1,4 +1,4 @@
-/* What libtlx.so of the Python package has beside the calls of include/tlx.h: the loop over an array of beats, and the layout of the structs
+/* What libtlx.so of the Python package has beside the calls of include/tlx.h: the header's loops over beats, and the layout of the structs
  * for a caller that no C compiler compares with the header. */
 #include "tlx.h"
 
@@ -11,12 +11,16 @@ const uint32_t tlx_layout[] = {
     sizeof(struct tlx_beat), offsetof(struct tlx_beat, lanes),
 };
 
-size_t tlx_judge_steps(struct tlx_judge *judge, const struct tlx_beat *beats, size_t count, uint32_t *fault);
+uint32_t tlx_judge_steps_at(struct tlx_judge *judge, const struct tlx_beat *beats, size_t count, size_t *judged);
 
-/* Judges the beats of an array in turn, up to the first with a fault: answers how many are lawful before it, and its fault, or TLX_OK. */
-size_t tlx_judge_steps(struct tlx_judge *judge, const struct tlx_beat *beats, size_t count, uint32_t *fault) {
-  size_t taken = 0;
-  *fault = TLX_OK;
-  while (taken < count && (*fault = tlx_judge_step_at(judge, &beats[taken])) == TLX_OK) taken++;
-  return taken;
+/* tlx_judge_steps of the header, which is inline there. */
+uint32_t tlx_judge_steps_at(struct tlx_judge *judge, const struct tlx_beat *beats, size_t count, size_t *judged) {
+  return tlx_judge_steps(judge, beats, count, judged);
+}
+
+uint32_t tlx_judge_cycle_at(struct tlx_judge *judge, const struct tlx_beat *beats, size_t count, size_t *at);
+
+/* tlx_judge_cycle of the header. */
+uint32_t tlx_judge_cycle_at(struct tlx_judge *judge, const struct tlx_beat *beats, size_t count, size_t *at) {
+  return tlx_judge_cycle(judge, beats, count, at);
 }

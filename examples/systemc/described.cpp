@@ -119,11 +119,11 @@ class bench : public sc_core::sc_module {
 
 // What a target or a call answers with an error of this fault.
 template <typename call>
-bool is_refused(std::uint32_t fault, call asked) {
+bool is_refused(tlx::Fault fault, call asked) {
   try {
     asked();
-  } catch (const tlx::error &problem) {
-    return problem.fault == fault;
+  } catch (const tlx::Error &problem) {
+    return problem.fault() == fault;
   }
   return false;
 }
@@ -135,9 +135,9 @@ int sc_main(int, char **) {
   tlx::target crossbar("crossbar", SYSTEM, read_image);
   bench tests("tests", crossbar);
   tests.socket.bind(crossbar.masters[0]);
-  const bool are_refused = is_refused(TLX_IMAGE_UNREADABLE, [] { tlx::model none(SYSTEM); }) &&
-                           is_refused(TLX_LONG_IMAGE, [] { tlx::model none(SYSTEM, [](const std::string &) { return std::string(9, 'a'); }); }) &&
-                           is_refused(TLX_NO_LINK, [] { tlx::model("[[master]]\nsources = 1\n").reset(); });
+  const bool are_refused = is_refused(tlx::Fault::image_unreadable, [] { tlx::model_of(SYSTEM); }) &&
+                           is_refused(tlx::Fault::long_image, [] { tlx::model_of(SYSTEM, [](const std::string &) { return std::string(9, 'a'); }); }) &&
+                           is_refused(tlx::Fault::no_link, [] { tlx::model_of("[[master]]\nsources = 1\n").reset(); });
   sc_core::sc_start();
   (are_refused ? tests.passed : tests.failed)++;
   std::printf("%u passed, %u failed\n", tests.passed, tests.failed);

@@ -341,11 +341,11 @@ class bench : public sc_core::sc_module {
 };
 
 // A text that is no system file makes no target.
-bool is_refused(const char *file, std::uint32_t fault, const char *text) {
+bool is_refused(const char *file, tlx::Fault fault, const char *text) {
   try {
     tlx::target none("none", file);
-  } catch (const tlx::error &problem) {
-    return problem.fault == fault && std::string(problem.what()) == text;
+  } catch (const tlx::Error &problem) {
+    return problem.fault() == fault && std::string(problem.what()) == text;
   }
   return false;
 }
@@ -353,8 +353,8 @@ bool is_refused(const char *file, std::uint32_t fault, const char *text) {
 }  // namespace
 
 int sc_main(int, char **) {
-  unsigned refused = is_refused("=", TLX_NOT_TOML, "system: not TOML");
-  refused += is_refused("bus = 3", TLX_OUT_OF_RANGE, "system: bus out of range");
+  unsigned refused = is_refused("=", tlx::Fault::not_toml, "system: not TOML");
+  refused += is_refused("bus = 3", tlx::Fault::out_of_range, "system: bus out of range");
   tlx::target crossbar("crossbar", SYSTEM);
   bench tests("tests");
   tests.first.bind(crossbar.masters[0]);

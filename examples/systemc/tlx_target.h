@@ -9,14 +9,13 @@
 #include <cstdint>
 #include <functional>
 #include <sstream>
-#include <stdexcept>
 #include <string>
 #include <vector>
 
 #include <systemc>
 #include <tlm>
 #include <tlm_utils/simple_target_socket.h>
-#include <tlx.h>
+#include <tlx.hpp>
 
 namespace tlx {
 
@@ -37,71 +36,24 @@ struct extension : tlm::tlm_extension<extension> {
   void copy_from(const tlm::tlm_extension_base &other) override { *this = static_cast<const extension &>(other); }
 };
 
-// A text that is no system file, an image that was not handed in, or want of memory: enum tlx_fault, and its text.
-struct error : std::runtime_error {
-  std::uint32_t fault;
-  error(std::uint32_t number, const std::string &text) : std::runtime_error(text), fault(number) {}
-};
-
 // The bytes of the file of an image, by its name in the system file.
 using images = std::function<std::string(const std::string &)>;
 
 // What a device answers a payload that went to its port: it fills the data in, and says the status.
 using device = std::function<tlm::tlm_response_status(std::uint64_t port, tlm::tlm_generic_payload &)>;
 
-// The model of a system file before any request; it owns what the handles of C hold.
-class model {
- public:
-  explicit model(const std::string &file, const images &read_image = nullptr) {
-    tlx_system system = {};
-    char text[2048] = "";
-    std::uint32_t fault = tlx_system_read(&system, file.data(), file.size(), text, sizeof text);
-    try {
-      if (fault == TLX_OK && read_image) fault = hand_in(system, read_image, text, sizeof text);
-    } catch (...) {
-      tlx_system_free(&system);
-      throw;
-    }
-    if (fault == TLX_OK) fault = tlx_model_make(&handle_, &system, text, sizeof text);
-    tlx_system_free(&system);
-    check(fault, text);
+// The model of a system file before any request. An Error if the text is no system file, an image was not handed in, or memory is refused.
+inline Model model_of(const std::string &file, const images &read_image = nullptr) {
+  System system = System::read(file);
+  for (std::uint64_t port = 0; port < system.ports() && read_image; port++) {
+    const std::string name = system.image_name(port);
+    if (!name.empty()) system.image(port, read_image(name));
   }
-  ~model() { tlx_model_free(&handle_); }
-  model(const model &) = delete;
-  model &operator=(const model &) = delete;
-
-  std::uint32_t serve(std::uint64_t master, const tlx_request &request, tlx_answer &answer) {
-    return tlx_model_serve(&handle_, master, &request, &answer);
-  }
-  std::uint32_t peek(std::uint64_t address, unsigned char &byte, unsigned char &known) { return tlx_model_peek(&handle_, address, &byte, &known); }
-  std::uint32_t poke(std::uint64_t address, unsigned char byte) { return tlx_model_poke(&handle_, address, byte, 1); }
-  void reset() { check(tlx_model_reset(&handle_), ""); }
-  std::uint64_t masters() { return tlx_model_masters(&handle_); }
-  std::uint64_t ports() { return tlx_model_ports(&handle_); }
-
- private:
-  tlx_model handle_ = {};
-
-  static void check(std::uint32_t fault, const char *text) {
-    char words[128] = "";
-    if (!text[0]) tlx_fault_text(fault, words, sizeof words);
-    if (fault != TLX_OK) throw error(fault, text[0] ? text : words);
-  }
-
-  static std::uint32_t hand_in(tlx_system &system, const images &read_image, char *text, std::size_t room) {
-    std::uint32_t fault = TLX_OK;
-    for (std::uint64_t port = 0; port < tlx_system_ports(&system) && fault == TLX_OK; port++) {
-      char name[4096];
-      if (!tlx_system_image_name(&system, port, name, sizeof name)) continue;
-      const std::string image = read_image(name);
-      fault = tlx_system_image(&system, port, image.data(), image.size(), text, room);
-    }
-    return fault;
-  }
-};
+  return Model(system);
+}
 
 class target : public sc_core::sc_module {
-  model model_;
+  Model model_;
 
  public:
   // masters[m] is where master m of the system is bound.
@@ -113,14 +65,14 @@ class target : public sc_core::sc_module {
   static const char *unknown_type() { return "/tlx/unknown bytes"; }
 
   target(const sc_core::sc_module_name &name, const std::string &file, const images &read_image = nullptr)
-      : sc_core::sc_module(name), model_(file, read_image), masters("master", model_.masters()) {
+      : sc_core::sc_module(name), model_(model_of(file, read_image)), masters("master", model_.masters()) {
     for (unsigned m = 0; m < masters.size(); m++) {
       masters[m].register_b_transport(this, &target::b_transport, static_cast<int>(m));
       masters[m].register_transport_dbg(this, &target::transport_dbg, static_cast<int>(m));
     }
   }
 
-  // Resets the whole system; an error with TLX_NO_LINK if its file does not say `resets = true`.
+  // Resets the whole system; an Error with Fault::no_link if its file does not say `resets = true`.
   void reset() { model_.reset(); }
 
  private:
@@ -142,9 +94,10 @@ class target : public sc_core::sc_module {
     if ((!trans.is_read() && !trans.is_write()) || !trans.get_data_ptr()) return 0;
     for (; count < trans.get_data_length(); count++) {
       const std::uint64_t address = trans.get_address() + count;
-      unsigned char &byte = trans.get_data_ptr()[count], known = 1;
-      if ((trans.is_read() ? model_.peek(address, byte, known) : model_.poke(address, byte)) != TLX_OK) break;
-      unknowns += !known;
+      std::optional<std::uint8_t> byte = trans.get_data_ptr()[count];
+      if ((trans.is_read() ? model_.try_peek(address, byte) : model_.try_poke(address, byte)) != Fault::ok) break;
+      if (trans.is_read()) trans.get_data_ptr()[count] = byte.value_or(0);
+      unknowns += !byte;
     }
     tell_unknown(unknowns, trans.get_address(), rest);
     return static_cast<unsigned>(count);
@@ -166,12 +119,12 @@ class target : public sc_core::sc_module {
     const status refused = refusal(trans, rest);
     if (refused != tlm::TLM_OK_RESPONSE || is_idle(trans, rest)) return refused;
     tlx_answer answer;
-    const std::uint32_t fault = model_.serve(master, request_of(trans, rest), answer);
-    if (fault != TLX_OK && fault != TLX_DEVICE) return tlm::TLM_GENERIC_ERROR_RESPONSE;
+    const Fault fault = model_.try_serve(master, request_of(trans, rest), answer);
+    if (fault != Fault::ok && fault != Fault::device) return tlm::TLM_GENERIC_ERROR_RESPONSE;
     rest.served = true;
     rest.port = answer.port;
     rest.place = answer.place;
-    if (fault == TLX_DEVICE) return answer_device ? answer_device(answer.port, trans) : tlm::TLM_ADDRESS_ERROR_RESPONSE;
+    if (fault == Fault::device) return answer_device ? answer_device(answer.port, trans) : tlm::TLM_ADDRESS_ERROR_RESPONSE;
     // the error port is the last
     if (answer.denied) return answer.port + 1 == model_.ports() ? tlm::TLM_ADDRESS_ERROR_RESPONSE : tlm::TLM_GENERIC_ERROR_RESPONSE;
     copy_bytes(trans, answer, rest);

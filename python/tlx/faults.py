@@ -68,7 +68,7 @@ class Refused(ValueError):
 
     `fault` says why: a link that there is not or that is not watched, a reset of a system without resets, an opcode that names no
     operation, a master, a source or a byte that there is not, a byte of a device, a flag that is neither 0 nor 1. `index` is the place of the
-    beat in the array of `Judge.steps`.
+    beat in the array of `Judge.steps` or `Judge.cycle`.
     """
 
     index = 0
@@ -87,7 +87,7 @@ class Unlawful(Exception):
 
     `fault` is one of FIELD_CHANGED to WRONG_REPLY, or OUT_OF_ORDER. `line` and `time` are those of the beat, and `text` is the line of
     `tlcheck`, without its line end: `unlawful: line 4, time 12, p0 D: wrong reply: expected AccessAckData aa, captured AccessAckData 00`.
-    `index` is the place of the beat in the array of `Judge.steps`, and 0 of another call. The judge stays as it was before that beat.
+    `index` is the place of the beat in the array of `Judge.steps` or `Judge.cycle`, and 0 of another call. The judge stays as it was before that beat.
     """
 
     index = 0

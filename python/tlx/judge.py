@@ -2,6 +2,7 @@
 
 import ctypes
 import struct
+from collections.abc import Iterable
 
 from . import _library
 from .faults import Fault, Incomplete, Unlawful, fault_of
@@ -52,8 +53,7 @@ class Judge:
         self._beat_at = ctypes.addressof(self._beat)
 
     def step(self, beat: Beat) -> None:
-        """Judges one beat more. Of one clock cycle give channel A of the masters' links first, then A of the ports', D of the ports'
-        and D of the masters'.
+        """Judges one beat more. Of one clock cycle give the beats in the order in which they cross, or all of them to `cycle`.
 
         Unlawful if no lawful crossbar could have shown it; Refused, a ValueError, with NO_LINK if there is no such link or it is not
         watched; TypeError, OverflowError and ValueError of a field's value; MemoryError if there is no memory for the bytes that are
@@ -90,10 +90,26 @@ class Judge:
             return 0, 0
         # while this is alive the array keeps its place
         pinned = ctypes.c_char.from_buffer(array)
-        begin, fault, at = ctypes.addressof(pinned), ctypes.c_uint32(), 0
-        while at < count and not fault.value:
-            at += _library.judge_steps(self._at, begin + at * BEAT.size, min(count - at, _TURN), ctypes.addressof(fault))
-        return fault.value, at
+        begin, judged, fault, at = ctypes.addressof(pinned), ctypes.c_size_t(), 0, 0
+        while at < count and not fault:
+            fault = _library.judge_steps(self._at, begin + at * BEAT.size, min(count - at, _TURN), ctypes.addressof(judged))
+            at += judged.value
+        return fault, at
+
+    def cycle(self, beats: Iterable[Beat]) -> None:
+        """Judges the beats of one clock cycle, which stand in any order, in the order in which they cross: channel A of the masters' links,
+        then A of the ports', D of the ports', and D of the masters'. `index` of the exception is the place of the first that is refused.
+
+        As of `step`; the beats that cross before that one were judged. Refused with BAD_ARGUMENT, before any is judged, if a beat has
+        another side or channel.
+        """
+        given, at = list(beats), ctypes.c_size_t()
+        if not given:
+            return
+        pinned = ctypes.c_char.from_buffer(Beats(given).memory)
+        fault = _library.judge_cycle(self._at, ctypes.addressof(pinned), len(given), ctypes.addressof(at))
+        if fault:
+            raise self._refusal(fault, given[at.value], at.value)
 
     def _refusal(self, fault: int, beat: Beat, index: int = 0) -> Exception:
         """What is raised for a beat."""

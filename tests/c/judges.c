@@ -233,6 +233,32 @@ static void check_steps(struct tlx_judge *judge) {
   tell("a judge in use takes no memory", requests == before);
 }
 
+/* A cycle with a request and a reply on both sides of the crossbar, and arrays of beats. */
+static void check_cycles(void) {
+  static const struct tlx_beat GET = {.opcode = 4, .size = 2, .address = 0x1000, .mask = 0x0f};
+  static const struct tlx_beat GOT = {.channel = TLX_D, .opcode = 1, .size = 2, .known = 0x0f, .lanes = {0x00, 0x11, 0x22, 0x33}};
+  struct tlx_beat cycle[] = {GOT, GOT, GET, GET};
+  struct tlx_judge judge = {0};
+  size_t at = 9;
+  /* what crosses last stands first */
+  cycle[1].side = cycle[2].side = TLX_PORT;
+  tell("a cycle of an empty judge", tlx_judge_cycle(&judge, cycle, 4, &at) == TLX_EMPTY && at == 3 && tlx_judge_steps(&judge, cycle, 4, &at) == TLX_EMPTY && at == 0);
+  int is_well = tlx_judge_read(&judge, SYSTEM, strlen(SYSTEM), TLX_BOTH_LINKS, TLX_ACCEPT_ORDER, TLX_ACCEPT_ORDER, 0, 0) == TLX_OK;
+  tell("a cycle in any order", is_well && tlx_judge_cycle(&judge, cycle, 4, &at) == TLX_OK && at == 4 && tlx_judge_requests(&judge) == 1 && tlx_judge_answered(&judge) == 1);
+  cycle[0].lanes[0] = 1;
+  tell("a cycle up to what is refused", tlx_judge_cycle(&judge, cycle, 4, &at) == TLX_NOT_GIVEN && at == 0 && tlx_judge_in_flight(&judge) == 1);
+  cycle[3].channel = 2;
+  tell("a cycle with another channel", tlx_judge_cycle(&judge, cycle, 4, &at) == TLX_BAD_ARGUMENT && at == 3 && tlx_judge_in_flight(&judge) == 1);
+  cycle[2].side = 2;
+  tell("a cycle with another side", tlx_judge_cycle(&judge, cycle, 4, &at) == TLX_BAD_ARGUMENT && at == 2 && tlx_judge_requests(&judge) == 2);
+  cycle[0].lanes[0] = 0;
+  tell("beats in turn", tlx_judge_steps(&judge, cycle, 2, &at) == TLX_NO_REQUEST && at == 1 && tlx_judge_answered(&judge) == 2);
+  tell("no beats", tlx_judge_steps(&judge, 0, 0, &at) == TLX_OK && at == 0 && tlx_judge_cycle(&judge, 0, 0, &at) == TLX_OK && at == 0);
+  tell("null cycles", tlx_judge_cycle(0, cycle, 1, &at) == TLX_NULL && tlx_judge_cycle(&judge, 0, 1, &at) == TLX_NULL && tlx_judge_cycle(&judge, cycle, 1, 0) == TLX_NULL);
+  tell("null arrays", tlx_judge_steps(0, cycle, 1, &at) == TLX_NULL && tlx_judge_steps(&judge, 0, 1, &at) == TLX_NULL && tlx_judge_steps(&judge, cycle, 1, 0) == TLX_NULL);
+  tlx_judge_free(&judge);
+}
+
 void check_judges(void) {
   struct tlx_judge judge = {0};
   struct tlx_beat beat = {0};
@@ -247,6 +273,7 @@ void check_judges(void) {
   tell("a judge", read_file_of(&judge, SYSTEM, text, sizeof text) == TLX_OK && !text[0]);
   tell("a second judge in one handle", read_file_of(&judge, SYSTEM, 0, 0) == TLX_FULL);
   check_steps(&judge);
+  check_cycles();
   tlx_judge_free(&judge);
   tlx_judge_free(&judge);
   tlx_judge_free(0);

@@ -191,7 +191,8 @@ def check_described(tally):
             ("a sum over unknown bytes", (ask.ARITHMETIC, 0x1004, 2, 0, b"\1\0\0\0", 4), (0, 2, [97, None, 99, None])),
             ("what it leaves", (ask.GET, 0x1004, 2), (0, 3, [None] * 4)),
             ("a swap", (ask.LOGICAL, 0x1004, 2, 0, b"abcd", 3), (0, 4, [None] * 4)), ("what a swap leaves", (ask.GET, 0x1004, 2), (0, 5, [*b"abcd"])),
-            ("a put of ones", (ask.PUT_FULL, 0x2000, 2, 0, b"\x0f\x01\xff\0"), (1, 0, [])), ("what they clear", (ask.GET, 0x2000, 2), (1, 1, [0xF0, 0x0E, 0, 0])),
+            ("a put of ones", (ask.PUT_FULL, 0x2000, 2, 0, b"\x0f\x01\xff\0"), (1, 0, [])),
+            ("what they clear", (ask.GET, 0x2000, 2), (1, 1, [0xF0, 0x0E, 0, 0])),
             ("a second range", (ask.GET, 0x4004, 2), (2, 0, [0xC0, 0xC1, 0xC2, None])), ("a put there", (ask.PUT_FULL, 0x4005, 0, 0, b"a"), (2, 1, [])),
             ("the first range", (ask.GET, 0x3000, 1), (2, 2, [0xC0, 97])), ("a device", (ask.GET, 0x5000, 1), (3, 0, [None, None], "device")),
             ("a put to a device", (ask.PUT_FULL, 0x5000, 0, 0, b"a"), (3, 1, [], "device")), ("a ROM", (ask.GET, 0x6000, 1), (4, 0, [1, 2])),
@@ -374,6 +375,23 @@ def check_buses(tally):
     tally.tell("its fault is unknown data", found.fault is tlx.Fault.UNKNOWN_DATA)
 
 
+def check_cycles(tally, system):
+    """The beats of a cycle, the last to cross first, with both sides watched."""
+    got = tlx.Beat.reply("m0", tlx.Reply.ACCESS_ACK_DATA, 2, 1, 0x33221100, line=2, time=5)
+    cycle = [got, changed(got, side=1), changed(get_beat(), side=1), get_beat()]
+    with tlx.Judge(system) as judge:
+        judge.cycle(cycle)
+        judge.cycle(iter(cycle))
+        judge.cycle([])
+        tally.tell("cycles in any order", (judge.requests, judge.answered) == (2, 2))
+        found = tally.raises("an unlawful beat of a cycle", tlx.Unlawful, judge.cycle, [changed(got, data=0), *cycle[1:]])
+        tally.tell("its place in the cycle", (found.index, found.fault, judge.in_flight) == (0, tlx.Fault.NOT_GIVEN, 1))
+        found = tally.raises("another side in a cycle", tlx.Refused, judge.cycle, [*cycle[:3], changed(got, side=2)])
+        tally.tell("its place, before any is judged", (found.index, found.fault, judge.requests) == (3, tlx.Fault.BAD_ARGUMENT, 3))
+        tally.raises("a cycle of a text", TypeError, judge.cycle, "a")
+    tally.raises("a cycle of a closed judge", ValueError, judge.cycle, cycle)
+
+
 def check_arrays(tally):
     reply = tlx.Beat.reply("m0", tlx.Reply.ACCESS_ACK_DATA, 2, 1, 0x33221100, line=2, time=5)
     pair, system = [get_beat(), reply], tlx.System(SYSTEM)
@@ -397,6 +415,7 @@ def check_arrays(tally):
     for name, kind, given in (("none", TypeError, None), ("a list", TypeError, pair), ("a text", TypeError, "a" * 128), ("a number", TypeError, 128),
                               ("a byte too few", ValueError, bytes(127)), ("every other byte", ValueError, memoryview(bytes(256))[::2])):
         tally.raises(f"an array of {name}", kind, judge.steps, given)
+    check_cycles(tally, system)
     grown = tlx.Beats([reply])
     try:
         judge.steps(grown)
