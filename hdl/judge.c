@@ -4,6 +4,7 @@
  * until the cycle ends. This file is C and C++, since Verilator compiles it as C++; a compiler that is given the header that the simulator
  * makes of the imports (-include Vtop__Dpi.h) compares them. */
 #include "svdpi.h"
+#include "system.h"
 #include "tlx.h"
 
 #include <inttypes.h>
@@ -18,11 +19,9 @@ extern "C" {
 #define MAX_JUDGES 16
 #define MAX_BEATS 1024 /* of one cycle */
 #define MAX_TEXT 2048
-#define MAX_NAME 4096 /* of a file */
-#define MAX_SYSTEM (1 << 20)
 
 struct watch {
-  struct tlx_judge judge;
+  struct tlx_judge *judge;
   int links;           /* enum tlx_links */
   uint64_t count;      /* the beats that were handed over, watched or not */
   uint64_t resets;     /* the resets of the whole system */
@@ -39,61 +38,14 @@ static int opened;
 static struct watch *watch_of(int judge) { return judge >= 0 && judge < opened ? &watches[judge] : NULL; }
 
 /* The place of a word in a list, or that of the list's end. */
-static uint8_t place_of(const char *word, const char *const *words, uint8_t count) {
-  uint8_t place = 0;
+static uint32_t place_of(const char *word, const char *const *words, uint32_t count) {
+  uint32_t place = 0;
   while (place < count && strcmp(word, words[place])) place++;
   return place;
 }
 
-/* A file's bytes, to its end or to more than `most`; null if there are none to read. */
-static char *read_file(const char *path, size_t most, size_t *length) {
-  FILE *file = fopen(path, "rb");
-  char *bytes = NULL;
-  size_t room = 0, count = 1;
-  *length = 0;
-  while (file && count > 0 && *length <= most) {
-    room = room ? 2 * room : 4096;
-    char *more = (char *)realloc(bytes, room);
-    if (!more) break;
-    bytes = more;
-    count = fread(bytes + *length, 1, room - *length, file);
-    *length += count;
-  }
-  if (file && (ferror(file) || (count > 0 && *length <= most))) {
-    free(bytes);
-    bytes = NULL;
-  }
-  if (file) fclose(file);
-  return bytes;
-}
-
-/* The name of a file that a system file names, from the folder of that. */
-static void place_name(char *whole, const char *path, const char *name) {
-  const char *end = strrchr(path, '/');
-  if (name[0] == '/' || !end)
-    snprintf(whole, 2 * MAX_NAME, "%s", name);
-  else
-    snprintf(whole, 2 * MAX_NAME, "%.*s/%s", (int)(end - path), path, name);
-}
-
-/* Hands in the images that a system names. One that can't be read is not handed in, which the judge's maker then says. */
-static uint32_t read_images(struct tlx_system *system, const char *path, char *why, size_t room) {
-  uint32_t fault = TLX_OK;
-  for (uint64_t port = 0; port < tlx_system_ports(system) && fault == TLX_OK; port++) {
-    char name[MAX_NAME], whole[2 * MAX_NAME];
-    size_t length;
-    if (!tlx_system_image_name(system, port, name, sizeof name)) continue;
-    place_name(whole, path, name);
-    char *image = read_file(whole, SIZE_MAX / 4, &length);
-    if (image) fault = tlx_system_image(system, port, image, length, why, room);
-    free(image);
-    if (!image) break;
-  }
-  return fault;
-}
-
 /* The orders of the masters' side and of the ports' (enum tlx_order). */
-struct orders { uint8_t masters, ports; };
+struct orders { uint32_t masters, ports; };
 
 /* Those that a word names: one of both sides, or two with a slash between them. */
 static struct orders orders_of(const char *word) {
@@ -104,36 +56,20 @@ static struct orders orders_of(const char *word) {
   return (struct orders){.masters = place_of(masters, orders, 3), .ports = place_of(slash ? slash + 1 : word, orders, 3)};
 }
 
-/* Reads a system file with its images, and makes the judge of it. */
-static uint32_t make_judge(struct tlx_judge *judge, const char *path, const char *file, size_t length, uint8_t view, struct orders orders,
-                           char *why, size_t room) {
-  struct tlx_system system;
-  memset(&system, 0, sizeof system);
-  uint32_t fault = tlx_system_read(&system, file, length, why, room);
-  if (fault == TLX_OK) fault = read_images(&system, path, why, room);
-  if (fault == TLX_OK) fault = tlx_judge_make(judge, &system, view, orders.masters, orders.ports, why, room);
-  tlx_system_free(&system);
-  return fault;
-}
-
 /* Makes the judge of a watch; what is wrong stands in its text. */
 static void make(struct watch *watch, const char *path, const char *links, const char *order) {
   static const char *const views[] = {"both", "masters", "ports", "each"};
-  size_t length = 0;
-  char why[MAX_TEXT / 2] = "";
-  uint8_t view = place_of(links, views, 4);
-  char *file = read_file(path, MAX_SYSTEM, &length);
-  if (!file) {
-    snprintf(watch->text, MAX_TEXT, "judge: %s: could not be read\n", path);
-    return;
-  }
-  uint32_t fault = make_judge(&watch->judge, path, file, length, view, orders_of(order), why, sizeof why);
-  free(file);
+  char why[MAX_TEXT / 2];
+  uint32_t view = place_of(links, views, 4);
+  struct orders orders = orders_of(order);
+  struct tlx_system *system = read_system(path, why, sizeof why);
+  uint32_t fault = system ? tlx_judge_make(system, view, orders.masters, orders.ports, &watch->judge, why, sizeof why) : (uint32_t)TLX_EMPTY;
+  tlx_system_free(system);
   if (fault == TLX_OK) {
-    watch->links = view;
+    watch->links = (int)view;
     return;
   }
-  if (!why[0]) tlx_fault_text(fault, why, sizeof why);
+  if (!why[0]) tlx_fault_text(fault, why, sizeof why, NULL);
   snprintf(watch->text, MAX_TEXT, "judge: %s, links %s, order %s: %s\n", path, links, order, why);
 }
 
@@ -229,9 +165,9 @@ static int compare(const void *one, const void *other) {
 static void reset(struct watch *watch) {
   char why[MAX_TEXT / 2] = "the system file does not say `resets = true`";
   watch->resets++;
-  uint32_t fault = tlx_judge_reset(&watch->judge);
+  uint32_t fault = tlx_judge_reset(watch->judge);
   if (fault == TLX_OK) return;
-  if (fault != TLX_NO_LINK) tlx_fault_text(fault, why, sizeof why);
+  if (fault != TLX_NO_LINK) tlx_fault_text(fault, why, sizeof why, NULL);
   snprintf(watch->text, MAX_TEXT, "judge: reset, time %" PRIu64 ": %s\n", watch->reset_time, why);
 }
 
@@ -240,11 +176,11 @@ static void step(struct watch *watch, struct tlx_beat *beat) {
   char why[MAX_TEXT / 2];
   beat->line = ++watch->count + watch->resets + 1;
   if (watch->links == (beat->side == TLX_MASTER ? TLX_PORT_LINKS : TLX_MASTER_LINKS)) return;
-  uint32_t fault = tlx_judge_step(&watch->judge, beat);
+  uint32_t fault = tlx_judge_step(watch->judge, beat);
   if (fault >= TLX_FIELD_CHANGED) {
-    tlx_judge_text(&watch->judge, watch->text, MAX_TEXT);
+    tlx_judge_text(watch->judge, watch->text, MAX_TEXT, NULL);
   } else if (fault != TLX_OK) {
-    tlx_fault_text(fault, why, sizeof why);
+    tlx_fault_text(fault, why, sizeof why, NULL);
     snprintf(watch->text, MAX_TEXT, "judge: link %c%" PRIu64 ": %s\n", beat->side == TLX_MASTER ? 'm' : 'p', beat->number, why);
   }
 }
@@ -270,13 +206,16 @@ const char *tl_judge_text(int judge) {
 /* Judges what is left, and gives back what the judge holds. If `complete` is not zero, a request without its reply is wrong too. */
 void tl_judge_close(int judge, unsigned char complete) {
   struct watch *watch = watch_of(judge);
+  uint64_t requests = 0, answered = 0;
   if (!watch) return;
-  if (!tl_judge_cycle(judge) && complete && tlx_judge_end(&watch->judge) == TLX_INCOMPLETE)
-    tlx_judge_text(&watch->judge, watch->text, MAX_TEXT);
+  if (!tl_judge_cycle(judge) && complete && tlx_judge_end(watch->judge) == TLX_INCOMPLETE)
+    tlx_judge_text(watch->judge, watch->text, MAX_TEXT, NULL);
+  tlx_judge_requests(watch->judge, &requests);
+  tlx_judge_answered(watch->judge, &answered);
   if (!watch->text[0])
-    snprintf(watch->text, MAX_TEXT, "lawful: %" PRIu64 " beats, %" PRIu64 " requests, %" PRIu64 " answered\n", watch->count,
-             tlx_judge_requests(&watch->judge), tlx_judge_answered(&watch->judge));
-  tlx_judge_free(&watch->judge);
+    snprintf(watch->text, MAX_TEXT, "lawful: %" PRIu64 " beats, %" PRIu64 " requests, %" PRIu64 " answered\n", watch->count, requests, answered);
+  tlx_judge_free(watch->judge);
+  watch->judge = NULL;
 }
 
 /* The status with which the program ends, and what ends it so: the simulator may still write its files before. */

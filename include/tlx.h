@@ -2,25 +2,28 @@
  *
  * A script of tlx is a system file. Any number of models and judges is made of one system, which stays as it is.
  *
- * A handle is a struct that the caller owns and the library fills: `struct tlx_judge judge = {0};` holds nothing. What a `_make` or
- * `_read` call has put into a handle is given back by the `_free` call, once. The fields of a handle are the library's: never read,
- * write or copy them. A handle is used by one thread at a time; several handles may be used by several threads at once. The library
- * starts no thread, takes no lock, writes nothing, opens no file and keeps no pointer that it is given. No call may be made from a signal
- * handler.
+ * A handle is a pointer to a struct of the library: a `_read`, `_make` or `_clone` call makes it and puts it where its out parameter points,
+ * and the `_free` call gives it back, once. After a fault the out parameter is null, and `_free` of null does nothing.
  *
- * Memory is taken by malloc, realloc and free. The calls that fill a handle take it, and tlx_system_image. Of the others these may:
- * tlx_model_serve and tlx_model_poke for bytes that are written, tlx_model_reset for what it loads, and tlx_judge_step if the beat is
- * lawful: with one by which a request takes effect, for the bytes that are written; with the last beat of a request to a port of
- * TLX_ANY_ORDER, for the request; and with TLX_EACH_LINK also with the first beat of a source at a port's link. If that is refused the
- * call answers TLX_MEMORY and has changed nothing. The same call may be made again. tlx_judge_reset takes memory too, for what the reset
- * loads and for bytes that nobody knows after it. If that is refused the judge is gone: its handle holds nothing.
+ * Each call that can fail answers a fault, TLX_OK (0) if there is none, and gives what it makes or finds by an out parameter. Its faults are
+ * listed in the order in which they are tried. After another fault nothing has changed of what a handle holds, and nothing is written but
+ * null to the out parameter of a handle, the text of the fault, and what is said below. A null pointer is TLX_NULL; it is tried first, and the
+ * library tries it.
  *
- * Each call that reads, makes, serves or judges answers a fault, TLX_OK (0) if there is none; its faults are listed in the order in
- * which they are tried. A call that answers another fault has changed nothing of what a handle holds, unless it says so. A null pointer is
- * TLX_NULL, found by the inline functions below.
+ * A text or an array is a pointer and a length (or its room). The pointer may be null if the length is 0.
  *
- * What the caller must not do: hand over a pointer that is neither null nor at its type's value (a handle before its first use is
- * all zero), two pointers to memory that overlaps, or a length that is more than the memory there.
+ * A call with a `const` handle reads alone: two threads may make such calls with one handle at once. Of other calls with one handle one is
+ * made at a time. Several handles may be used by several threads at once. The library starts no thread, takes no lock, writes nothing to
+ * files, opens none, and keeps no pointer that it is given. No call may be made from a signal handler.
+ *
+ * Memory is taken by malloc, calloc, realloc and free. The calls that make a handle take it, and tlx_system_image. Of the others these may:
+ * tlx_model_serve and tlx_model_poke for bytes that are written; tlx_model_reset for what it loads; tlx_judge_reset for a copy of what the
+ * judge keeps; and tlx_judge_step if the beat is lawful: with one by which a request takes effect, for the bytes that are written; with the
+ * last beat of a request to a port of TLX_ANY_ORDER, for the request; and with TLX_EACH_LINK also with the first beat of a source at a
+ * port's link. If that is refused the call answers TLX_MEMORY and has changed nothing. The same call may be made again.
+ *
+ * What the caller must not do: hand over a pointer that is neither null nor one to what its type says (a handle that was freed is none), two
+ * pointers to memory that overlaps, or a length that is more than the memory there.
  *
  * Link with -ltlx. */
 #ifndef TLX_H
@@ -33,9 +36,9 @@
 extern "C" {
 #endif
 
-/* The version of this header. It rises when a struct, a number or a call changes; a call that reads a text answers TLX_OTHER_VERSION if the
- * library was built for another one. */
-#define TLX_VERSION 7
+/* The version of this header. It rises when a struct, a number or a call changes; a call that reads a text takes it, and answers
+ * TLX_OTHER_VERSION if the library was built for another one. */
+#define TLX_VERSION 8
 
 /* The room of a message's bytes in the structs below. The largest size that a call takes is the library's own: tlx_largest_size. */
 #define TLX_ROOM 256
@@ -47,10 +50,10 @@ enum tlx_fault {
   TLX_OK = 0,
   /* of any call */
   TLX_NULL = 1,           /* a pointer is null */
-  TLX_EMPTY = 2,          /* the handle holds nothing */
-  TLX_FULL = 3,           /* the handle holds something already: free it first */
+  TLX_EMPTY = 2,          /* an object of tlx.hpp that holds nothing; no call of C answers it */
+  TLX_FULL = 3,           /* an object of tlx.hpp that holds something already; no call of C answers it */
   TLX_MEMORY = 4,         /* memory was refused */
-  TLX_BAD_ARGUMENT = 5,   /* a number that has no meaning where it stands: links, order; of a beat side, channel, `denied`, `corrupt` */
+  TLX_BAD_ARGUMENT = 5,   /* a number that has no meaning where it stands: links, order, `known`; of a beat side, channel, `denied`, `corrupt` */
   TLX_OTHER_VERSION = 6,  /* the library was built for a header of another version */
   /* of a system file (tlx_system_read, tlx_model_make, tlx_judge_make, tlx_judge_read, which have their order) */
   TLX_NOT_TOML = 10,
@@ -107,10 +110,10 @@ enum tlx_links { TLX_BOTH_LINKS = 0, TLX_MASTER_LINKS = 1, TLX_PORT_LINKS = 2, T
 /* When a request takes effect: with its last beat, with its reply's first beat, or at some moment between these. */
 enum tlx_order { TLX_ACCEPT_ORDER = 0, TLX_REPLY_ORDER = 1, TLX_ANY_ORDER = 2 };
 
-/* The handles. */
-struct tlx_system { void *at; uint8_t live; };
-struct tlx_model { void *at; uint8_t live; };
-struct tlx_judge { void *at; uint8_t live; };
+/* What the handles point to. */
+struct tlx_system;
+struct tlx_model;
+struct tlx_judge;
 
 /* A request on channel A. `bytes[k]` goes to `address + k`, for k below 2^size; none is read of a get or a prefetch. `set[k]` is 0
  * if the byte is left unset, and any other number if it is set; it is read of a partial put (opcode 1) alone. */
@@ -161,208 +164,121 @@ struct tlx_beat {
   uint8_t lanes[TLX_LANES];
 };
 
-/* The exports, which take no null pointer. Call the inline functions below, which do. */
-uint32_t tlx_system_read_at(struct tlx_system *system, const uint8_t *file, size_t length, uint32_t version, char *text, size_t room,
-                            size_t *written);
-uint64_t tlx_system_ports_at(struct tlx_system *system);
-size_t tlx_system_image_name_at(struct tlx_system *system, uint64_t port, char *text, size_t room);
-uint32_t tlx_system_image_at(struct tlx_system *system, uint64_t port, const uint8_t *bytes, size_t length, char *text, size_t room,
-                             size_t *written);
-void tlx_system_free_at(struct tlx_system *system);
-uint32_t tlx_model_make_at(struct tlx_model *model, struct tlx_system *system, char *text, size_t room, size_t *written);
-void tlx_model_free_at(struct tlx_model *model);
-uint32_t tlx_model_serve_at(struct tlx_model *model, uint64_t master, const struct tlx_request *request, struct tlx_answer *answer);
-uint32_t tlx_model_peek_at(struct tlx_model *model, uint64_t address, uint8_t *byte, uint8_t *known);
-uint32_t tlx_model_poke_at(struct tlx_model *model, uint64_t address, uint8_t byte, uint8_t known);
-uint32_t tlx_model_reset_at(struct tlx_model *model);
-uint64_t tlx_model_masters_at(struct tlx_model *model);
-uint64_t tlx_model_ports_at(struct tlx_model *model);
-uint32_t tlx_judge_make_at(struct tlx_judge *judge, struct tlx_system *system, uint8_t links, uint8_t masters, uint8_t ports, char *text,
-                           size_t room, size_t *written);
-uint32_t tlx_judge_read_at(struct tlx_judge *judge, const uint8_t *file, size_t length, uint8_t links, uint8_t masters, uint8_t ports,
-                           uint32_t version, char *text, size_t room, size_t *written);
-void tlx_judge_free_at(struct tlx_judge *judge);
-uint32_t tlx_judge_step_at(struct tlx_judge *judge, const struct tlx_beat *beat);
-uint32_t tlx_judge_reset_at(struct tlx_judge *judge);
-uint32_t tlx_judge_end_at(struct tlx_judge *judge);
-size_t tlx_judge_text_at(struct tlx_judge *judge, char *text, size_t room);
-uint64_t tlx_judge_requests_at(struct tlx_judge *judge);
-uint64_t tlx_judge_answered_at(struct tlx_judge *judge);
-size_t tlx_fault_text_at(uint32_t fault, char *text, size_t room);
-
 /* The largest size of a message, as log2 of its bytes. */
 uint8_t tlx_largest_size(void);
 
 /* The version of the header that the library was built for: TLX_VERSION of that header. */
 uint32_t tlx_version(void);
 
-/* Texts. A text call writes as much of the text as fits with a zero byte after it, and answers the length of what it wrote without
- * that byte; with no room (or no buffer) it writes nothing and answers 0. The longest text has under 1,600 bytes, but for the name of an
- * image's file, which may be as long as a system file. */
+/* Texts. A text call writes as much of the text as fits with a zero byte after it; `written` is the length of what it wrote without that
+ * byte, and may be null. With no room it writes nothing. The longest text has under 1,600 bytes, but for the name of an image's file, which
+ * may be as long as a system file. */
 
-/* The words of a fault's number, as `tlx` and `tlcheck` say them; `unknown fault` of a number that is none. */
-static inline size_t tlx_fault_text(uint32_t fault, char *text, size_t room) {
-  return text && room ? tlx_fault_text_at(fault, text, room) : 0;
-}
+/* The words of a fault's number, as `tlx` and `tlcheck` say them; `unknown fault` of a number that is none.
+ * Faults: TLX_NULL. */
+uint32_t tlx_fault_text(uint32_t fault, char *text, size_t room, size_t *written);
 
-/* Reads what the bytes of a system file name into an empty handle, and writes the text of a fault of the file (which also names the key,
- * master or port) into `text`, an empty one if there is none, or no memory for it. `text` may be null. A script of tlx is a system file;
- * its slots and operations are not looked at. A key that no table of its kind has is a fault.
- * Faults: TLX_NULL, TLX_OTHER_VERSION, TLX_FULL, TLX_TOO_LONG, TLX_NOT_TOML, TLX_UNKNOWN_KEY; then key by key, in the order that
- * docs/reference/faults.md has, TLX_MISSING, TLX_WRONG_TYPE, TLX_OUT_OF_RANGE; then TLX_TWO_CALLED. After TLX_TOO_LONG, TLX_MEMORY may come at any
+/* Reads what the bytes of a system file name, and writes the text of a fault of the file (which also names the key, master or port) into
+ * `why`, an empty one if there is none, or no memory for it. A script of tlx is a system file; its slots and operations are not looked at. A
+ * key that no table of its kind has is a fault. `version` is TLX_VERSION.
+ * Faults: TLX_NULL, TLX_OTHER_VERSION, TLX_TOO_LONG, TLX_NOT_TOML, TLX_UNKNOWN_KEY; then key by key, in the order that
+ * docs/reference/faults.md has, TLX_MISSING, TLX_WRONG_TYPE, TLX_OUT_OF_RANGE; then TLX_TWO_CALLED. After TLX_NULL, TLX_MEMORY may come at any
  * point. */
-static inline uint32_t tlx_system_read(struct tlx_system *system, const void *file, size_t length, char *text, size_t room) {
-  char none;
-  size_t written;
-  if (text && room) *text = 0;
-  if (!system || !file) return (uint32_t)TLX_NULL;
-  if (!text || !room) { text = &none; room = 1; }
-  return tlx_system_read_at(system, (const uint8_t *)file, length, TLX_VERSION, text, room, &written);
-}
+uint32_t tlx_system_read(const void *file, size_t length, uint32_t version, struct tlx_system **system, char *why, size_t room);
 
-/* How many ports a system has; 0 of an empty handle. The error port is none of them. */
-static inline uint64_t tlx_system_ports(struct tlx_system *system) { return system ? tlx_system_ports_at(system) : 0; }
+/* How many ports a system has. The error port is none of them.
+ * Faults: TLX_NULL. */
+uint32_t tlx_system_ports(const struct tlx_system *system, uint64_t *ports);
 
 /* The file of a port's image, as the system file names it (from its own folder on); an empty text if it names none for that port. A name that
- * fills the room may have been cut off. */
-static inline size_t tlx_system_image_name(struct tlx_system *system, uint64_t port, char *text, size_t room) {
-  return system && text && room ? tlx_system_image_name_at(system, port, text, room) : 0;
-}
+ * fills the room may have been cut off.
+ * Faults: TLX_NULL. */
+uint32_t tlx_system_image_name(const struct tlx_system *system, uint64_t port, char *text, size_t room, size_t *written);
 
-/* Hands in the bytes of a port's image, which are copied, in the place of those that were handed in before. There may be none: `bytes` may
- * be null if `length` is 0. The text of a fault is written as tlx_system_read does. After a fault the images are as they were.
- * Faults: TLX_NULL, TLX_EMPTY, TLX_NO_PORT, TLX_NO_IMAGE, TLX_LONG_IMAGE, TLX_MEMORY. */
-static inline uint32_t tlx_system_image(struct tlx_system *system, uint64_t port, const void *bytes, size_t length, char *text, size_t room) {
-  char none = 0;
-  size_t written;
-  if (text && room) *text = 0;
-  if (!bytes && !length) bytes = &none;
-  if (!system || !bytes) return (uint32_t)TLX_NULL;
-  if (!text || !room) { text = &none; room = 1; }
-  return tlx_system_image_at(system, port, (const uint8_t *)bytes, length, text, room, &written);
-}
+/* Hands in the bytes of a port's image, which are copied, in the place of those that were handed in before. There may be none. The text of a
+ * fault is written as tlx_system_read does. After a fault the images are as they were.
+ * Faults: TLX_NULL, TLX_NO_PORT, TLX_NO_IMAGE, TLX_LONG_IMAGE, TLX_MEMORY. */
+uint32_t tlx_system_image(struct tlx_system *system, uint64_t port, const void *bytes, size_t length, char *why, size_t room);
 
-/* Gives back what a system's handle holds, if anything. */
-static inline void tlx_system_free(struct tlx_system *system) { if (system) tlx_system_free_at(system); }
+/* Gives a system back. What was made of it stays. */
+void tlx_system_free(struct tlx_system *system);
 
-/* Makes the model of a system, before any request, in an empty handle. The system stays as it is. The text of a fault is written as
- * tlx_system_read does.
- * Faults: TLX_NULL, TLX_FULL (the model's handle), TLX_EMPTY (the system's), TLX_IMAGE_UNREADABLE (of the first port whose image was not
- * handed in), TLX_BAD_PORTS, TLX_BAD_SOURCES. After TLX_IMAGE_UNREADABLE, TLX_MEMORY may come at any point. */
-static inline uint32_t tlx_model_make(struct tlx_model *model, struct tlx_system *system, char *text, size_t room) {
-  char none;
-  size_t written;
-  if (text && room) *text = 0;
-  if (!model || !system) return (uint32_t)TLX_NULL;
-  if (!text || !room) { text = &none; room = 1; }
-  return tlx_model_make_at(model, system, text, room, &written);
-}
+/* Makes the model of a system, before any request. The text of a fault is written as tlx_system_read does.
+ * Faults: TLX_NULL, TLX_IMAGE_UNREADABLE (of the first port whose image was not handed in), TLX_BAD_PORTS, TLX_BAD_SOURCES. After TLX_NULL,
+ * TLX_MEMORY may come at any point. */
+uint32_t tlx_model_make(const struct tlx_system *system, struct tlx_model **model, char *why, size_t room);
 
-static inline void tlx_model_free(struct tlx_model *model) { if (model) tlx_model_free_at(model); }
+/* Makes a model that goes on from where another one is: it has the same bytes, and its counts go on. Neither changes with the other.
+ * Faults: TLX_NULL, TLX_MEMORY. */
+uint32_t tlx_model_clone(const struct tlx_model *model, struct tlx_model **clone);
+
+void tlx_model_free(struct tlx_model *model);
 
 /* Serves a request of a master at once, and says what it is answered: what a judge of the masters' links expects. A request that the
  * crossbar denies is served too: its answer says `denied`. TLX_DEVICE says that the request has gone to a device, and is counted there: all of
  * the answer is written, but what the device answers is for the caller to say, so `denied` is 0 and no byte is known. After another
  * fault the answer is as it was, and nothing is served.
- * Faults: TLX_NULL, TLX_EMPTY, TLX_NO_OPERATION, TLX_SIZE, TLX_NO_MASTER, TLX_NO_SOURCE, TLX_MEMORY, TLX_DEVICE. */
-static inline uint32_t tlx_model_serve(struct tlx_model *model, uint64_t master, const struct tlx_request *request, struct tlx_answer *answer) {
-  return model && request && answer ? tlx_model_serve_at(model, master, request, answer) : (uint32_t)TLX_NULL;
-}
+ * Faults: TLX_NULL, TLX_NO_OPERATION, TLX_SIZE, TLX_NO_MASTER, TLX_NO_SOURCE, TLX_MEMORY, TLX_DEVICE. */
+uint32_t tlx_model_serve(struct tlx_model *model, uint64_t master, const struct tlx_request *request, struct tlx_answer *answer);
 
 /* Looks at the byte at an address, of whatever size its port serves requests, and whichever master has a path there: `known` is 1 if it is
  * known, else 0, and then `byte` is 0. A byte that changes by itself (`volatile`) is never known. After a fault both are as they were.
- * Faults: TLX_NULL, TLX_EMPTY, TLX_NO_BYTE, TLX_DEVICE. */
-static inline uint32_t tlx_model_peek(struct tlx_model *model, uint64_t address, uint8_t *byte, uint8_t *known) {
-  return model && byte && known ? tlx_model_peek_at(model, address, byte, known) : (uint32_t)TLX_NULL;
-}
+ * Faults: TLX_NULL, TLX_NO_BYTE, TLX_DEVICE. */
+uint32_t tlx_model_peek(const struct tlx_model *model, uint64_t address, uint8_t *byte, uint32_t *known);
 
-/* Puts a byte at an address, at a ROM too; an unknown one if `known` is 0. No request is counted.
- * Faults: TLX_NULL, TLX_EMPTY, TLX_NO_BYTE, TLX_DEVICE, TLX_MEMORY. */
-static inline uint32_t tlx_model_poke(struct tlx_model *model, uint64_t address, uint8_t byte, uint8_t known) {
-  return model ? tlx_model_poke_at(model, address, byte, known) : (uint32_t)TLX_NULL;
-}
+/* Puts a byte at an address, at a ROM too: a known one if `known` is 1, and an unknown one if it is 0. No request is counted.
+ * Faults: TLX_NULL, TLX_BAD_ARGUMENT, TLX_NO_BYTE, TLX_DEVICE, TLX_MEMORY. */
+uint32_t tlx_model_poke(struct tlx_model *model, uint64_t address, uint8_t byte, uint32_t known);
 
 /* Resets the whole system. The system file must say `resets = true`. A port with `on_reset = "load"` (registers, unless the file says
  * otherwise) holds again what it held before any request, and any other port keeps its bytes. The places of requests go on. For a model
  * as at the beginning make another one of the system.
- * Faults: TLX_NULL, TLX_EMPTY, TLX_NO_LINK (the system file does not say `resets = true`), TLX_MEMORY. */
-static inline uint32_t tlx_model_reset(struct tlx_model *model) { return model ? tlx_model_reset_at(model) : (uint32_t)TLX_NULL; }
+ * Faults: TLX_NULL, TLX_NO_LINK (the system file does not say `resets = true`), TLX_MEMORY. */
+uint32_t tlx_model_reset(struct tlx_model *model);
 
-/* How many masters there are, and how many ports, the error port among them as the last; 0 of an empty handle. */
-static inline uint64_t tlx_model_masters(struct tlx_model *model) { return model ? tlx_model_masters_at(model) : 0; }
-static inline uint64_t tlx_model_ports(struct tlx_model *model) { return model ? tlx_model_ports_at(model) : 0; }
+/* How many masters there are, and how many ports, the error port among them as the last.
+ * Faults: TLX_NULL. */
+uint32_t tlx_model_masters(const struct tlx_model *model, uint64_t *masters);
+uint32_t tlx_model_ports(const struct tlx_model *model, uint64_t *ports);
 
-/* Makes the judge of a system, before any beat, in an empty handle: `links` are the links that are watched (enum tlx_links). `masters` and
- * `ports` say when a request takes effect at a port for which the file does not say it, as it is judged at the masters' links and at the
- * ports' (enum tlx_order): give the same twice if both sides agree. The system stays as it is. The text of a fault is written as
- * tlx_system_read does.
- * Faults: TLX_NULL, TLX_BAD_ARGUMENT, TLX_FULL (the judge's handle), TLX_EMPTY (the system's), TLX_IMAGE_UNREADABLE (of the first port whose
- * image was not handed in), TLX_BAD_PORTS, TLX_BAD_SOURCES. After TLX_IMAGE_UNREADABLE, TLX_MEMORY may come at any point. */
-static inline uint32_t tlx_judge_make(struct tlx_judge *judge, struct tlx_system *system, uint8_t links, uint8_t masters, uint8_t ports, char *text,
-                                      size_t room) {
-  char none;
-  size_t written;
-  if (text && room) *text = 0;
-  if (!judge || !system) return (uint32_t)TLX_NULL;
-  if (!text || !room) { text = &none; room = 1; }
-  return tlx_judge_make_at(judge, system, links, masters, ports, text, room, &written);
-}
+/* Makes the judge of a system, before any beat: `links` are the links that are watched (enum tlx_links). `masters` and `ports` say when a
+ * request takes effect at a port for which the file does not say it, as it is judged at the masters' links and at the ports' (enum
+ * tlx_order): give the same twice if both sides agree. The text of a fault is written as tlx_system_read does.
+ * Faults: TLX_NULL, TLX_BAD_ARGUMENT, TLX_IMAGE_UNREADABLE (of the first port whose image was not handed in), TLX_BAD_PORTS, TLX_BAD_SOURCES.
+ * After TLX_NULL, TLX_MEMORY may come at any point. */
+uint32_t tlx_judge_make(const struct tlx_system *system, uint32_t links, uint32_t masters, uint32_t ports, struct tlx_judge **judge, char *why,
+                        size_t room);
 
 /* Makes the judge of a file that names no image in one call, as tlx_system_read and then tlx_judge_make.
- * Faults: TLX_NULL, TLX_OTHER_VERSION, TLX_BAD_ARGUMENT, TLX_FULL, TLX_TOO_LONG, TLX_NOT_TOML, TLX_UNKNOWN_KEY; then key by key
- * TLX_MISSING, TLX_WRONG_TYPE, TLX_OUT_OF_RANGE; then TLX_TWO_CALLED, TLX_IMAGE_UNREADABLE (of the first port that names an image),
- * TLX_BAD_PORTS, TLX_BAD_SOURCES. After TLX_TOO_LONG, TLX_MEMORY may come at any point. */
-static inline uint32_t tlx_judge_read(struct tlx_judge *judge, const void *file, size_t length, uint8_t links, uint8_t masters, uint8_t ports,
-                                      char *text, size_t room) {
-  char none;
-  size_t written;
-  if (text && room) *text = 0;
-  if (!judge || !file) return (uint32_t)TLX_NULL;
-  if (!text || !room) { text = &none; room = 1; }
-  return tlx_judge_read_at(judge, (const uint8_t *)file, length, links, masters, ports, TLX_VERSION, text, room, &written);
-}
+ * Faults: TLX_NULL, TLX_OTHER_VERSION, TLX_BAD_ARGUMENT, TLX_TOO_LONG, TLX_NOT_TOML, TLX_UNKNOWN_KEY; then key by key TLX_MISSING,
+ * TLX_WRONG_TYPE, TLX_OUT_OF_RANGE; then TLX_TWO_CALLED, TLX_IMAGE_UNREADABLE (of the first port that names an image), TLX_BAD_PORTS,
+ * TLX_BAD_SOURCES. After TLX_NULL, TLX_MEMORY may come at any point. */
+uint32_t tlx_judge_read(const void *file, size_t length, uint32_t version, uint32_t links, uint32_t masters, uint32_t ports,
+                        struct tlx_judge **judge, char *why, size_t room);
 
-static inline void tlx_judge_free(struct tlx_judge *judge) { if (judge) tlx_judge_free_at(judge); }
+/* Makes a judge that goes on from where another one is, with its counts and its text. Neither changes with the other.
+ * Faults: TLX_NULL, TLX_MEMORY. */
+uint32_t tlx_judge_clone(const struct tlx_judge *judge, struct tlx_judge **clone);
+
+void tlx_judge_free(struct tlx_judge *judge);
 
 /* Judges one beat more: TLX_OK if what crossed so far is lawful with it, else the first fault that it has, which changes nothing but the
  * text. Of one clock cycle give the beats in the order in which they cross, or all of them to tlx_judge_cycle.
  * TLX_MEMORY says that the beat is lawful and nothing has changed (above): the same beat may be given again.
- * Faults: TLX_NULL, TLX_BAD_ARGUMENT, TLX_EMPTY, TLX_NO_LINK, TLX_MEMORY, and those of a beat. */
-static inline uint32_t tlx_judge_step(struct tlx_judge *judge, const struct tlx_beat *beat) {
-  return judge && beat ? tlx_judge_step_at(judge, beat) : (uint32_t)TLX_NULL;
-}
+ * Faults: TLX_NULL, TLX_BAD_ARGUMENT, TLX_NO_LINK, TLX_MEMORY, and those of a beat. */
+uint32_t tlx_judge_step(struct tlx_judge *judge, const struct tlx_beat *beat);
 
 /* Judges the beats of an array in turn, each as tlx_judge_step does, up to the first that is refused. `judged` says how many were judged
- * before it, all after TLX_OK. `beats` may be null if `count` is 0.
+ * before it, all after TLX_OK.
  * Faults: TLX_NULL, and those of tlx_judge_step. */
-static inline uint32_t tlx_judge_steps(struct tlx_judge *judge, const struct tlx_beat *beats, size_t count, size_t *judged) {
-  uint32_t fault = (uint32_t)TLX_OK;
-  if (judged) *judged = 0;
-  if (!judge || !judged || (!beats && count)) return (uint32_t)TLX_NULL;
-  while (*judged < count && (fault = tlx_judge_step_at(judge, &beats[*judged])) == (uint32_t)TLX_OK) ++*judged;
-  return fault;
-}
+uint32_t tlx_judge_steps(struct tlx_judge *judge, const struct tlx_beat *beats, size_t count, size_t *judged);
 
 /* Judges the beats of one clock cycle, which stand in any order, in the order in which they cross: channel A of the masters' links, then A of
- * the ports', D of the ports', and D of the masters'. `at` is the place in the array of the first that is refused, and `count` if none
- * is. The beats that cross before that one were judged, and those after it were not. `beats` may be null if `count` is 0.
+ * the ports', D of the ports', and D of the masters', each by rising number of the link. `at` is the place in the array of the first that is
+ * refused, and `count` if none is. The beats that cross before that one were judged, and those after it were not.
  * Faults: TLX_NULL, TLX_BAD_ARGUMENT (of the first beat in the array with another side or channel; then none was judged), and those of
  * tlx_judge_step. */
-static inline uint32_t tlx_judge_cycle(struct tlx_judge *judge, const struct tlx_beat *beats, size_t count, size_t *at) {
-  if (at) *at = 0;
-  if (!judge || !at || (!beats && count)) return (uint32_t)TLX_NULL;
-  for (; *at < count; ++*at)
-    if (beats[*at].side > TLX_PORT || beats[*at].channel > TLX_D) return (uint32_t)TLX_BAD_ARGUMENT;
-  for (int turn = 0; turn < 4; turn++)
-    for (*at = 0; *at < count; ++*at) {
-      const struct tlx_beat *beat = &beats[*at];
-      /* a request crosses at the master's link first, a reply at the port's */
-      int is_due = beat->channel == (turn > 1) && beat->side == (turn == 1 || turn == 2);
-      uint32_t fault = is_due ? tlx_judge_step_at(judge, beat) : (uint32_t)TLX_OK;
-      if (fault != (uint32_t)TLX_OK) return fault;
-    }
-  return (uint32_t)TLX_OK;
-}
+uint32_t tlx_judge_cycle(struct tlx_judge *judge, const struct tlx_beat *beats, size_t count, size_t *at);
 
 /* Tells the judge that the whole system is reset now. The system file must say `resets = true`. The beats after this call are those after
  * the reset: no message is under way, and no request is in flight. A port with `on_reset = "load"` (registers, unless the file says
@@ -371,30 +287,27 @@ static inline uint32_t tlx_judge_cycle(struct tlx_judge *judge, const struct tlx
  * request is cut short if it began and did not end, or if it ended and its reply did not begin.
  * The text and the counts go on. tlx_judge_requests and tlx_judge_answered have the messages before the reset too, so tlx_judge_in_flight
  * has the whole requests whose whole reply never came because of the reset. tlx_judge_end does not look at these.
- * After TLX_NO_LINK nothing has changed. After TLX_MEMORY the judge is gone: its handle holds nothing, and later calls answer TLX_EMPTY.
- * Faults: TLX_NULL, TLX_EMPTY, TLX_NO_LINK (the system file does not say `resets = true`), TLX_MEMORY. */
-static inline uint32_t tlx_judge_reset(struct tlx_judge *judge) { return judge ? tlx_judge_reset_at(judge) : (uint32_t)TLX_NULL; }
+ * Faults: TLX_NULL, TLX_NO_LINK (the system file does not say `resets = true`), TLX_MEMORY. */
+uint32_t tlx_judge_reset(struct tlx_judge *judge);
 
 /* Asks whether every request that began since the last reset has its whole reply, at the masters' links if these are watched and else at
  * the ports': TLX_OK, or TLX_INCOMPLETE. Then the text is the line that names the oldest request, with the `line` and the `time` of its first beat:
  * `incomplete: 2 requests without reply, the first: line 4, time 12, m0 s3 get 0x1000 2`. Nothing else changes, and more beats may be judged.
- * Faults: TLX_NULL, TLX_EMPTY, TLX_INCOMPLETE. */
-static inline uint32_t tlx_judge_end(struct tlx_judge *judge) { return judge ? tlx_judge_end_at(judge) : (uint32_t)TLX_NULL; }
+ * Faults: TLX_NULL, TLX_INCOMPLETE. */
+uint32_t tlx_judge_end(struct tlx_judge *judge);
 
 /* The line of the last fault of a beat (TLX_FIELD_CHANGED to TLX_WRONG_REPLY, TLX_OUT_OF_ORDER) or of the end, as tlcheck says it of a capture,
  * with its line end and with the `line` and the `time` of the struct: `unlawful: line 4, time 12, p0 D: wrong reply: expected .., captured ..`.
- * Empty before the first; a lawful beat leaves it as it was. */
-static inline size_t tlx_judge_text(struct tlx_judge *judge, char *text, size_t room) {
-  return judge && text && room ? tlx_judge_text_at(judge, text, room) : 0;
-}
+ * Empty before the first; a lawful beat leaves it as it was.
+ * Faults: TLX_NULL. */
+uint32_t tlx_judge_text(const struct tlx_judge *judge, char *text, size_t room, size_t *written);
 
 /* How many whole requests and whole replies were seen, at the masters' links if these are watched and else at the ports', and how many
- * of the requests have no whole reply yet; 0 of an empty handle. */
-static inline uint64_t tlx_judge_requests(struct tlx_judge *judge) { return judge ? tlx_judge_requests_at(judge) : 0; }
-static inline uint64_t tlx_judge_answered(struct tlx_judge *judge) { return judge ? tlx_judge_answered_at(judge) : 0; }
-static inline uint64_t tlx_judge_in_flight(struct tlx_judge *judge) {
-  return judge ? tlx_judge_requests_at(judge) - tlx_judge_answered_at(judge) : 0;
-}
+ * of the requests have no whole reply yet.
+ * Faults: TLX_NULL. */
+uint32_t tlx_judge_requests(const struct tlx_judge *judge, uint64_t *requests);
+uint32_t tlx_judge_answered(const struct tlx_judge *judge, uint64_t *answered);
+uint32_t tlx_judge_in_flight(const struct tlx_judge *judge, uint64_t *in_flight);
 
 #ifdef __cplusplus
 }

@@ -1,16 +1,15 @@
-/* tlx.h for C++17: classes that own what the handles of C hold, for harnesses of Verilator and SystemC. Header only; link with -ltlx.
+/* tlx.h for C++17: classes that own the handles of C, for harnesses of Verilator and SystemC. Header only; link with -ltlx.
  *
- * A System, a Model and a Judge is empty, or holds what tlx.h says of its handle. Each can be moved, which leaves the other one empty, and none
- * can be copied. The destructor gives back what is held, in whatever order they end. What tlx.h says of a call holds here: what it does,
- * its faults and their order, threads. An empty object is an empty handle: its counts are 0, its texts are empty, its calls answer Fault::empty.
- * That a call is const says that what is held does not change, not that two threads may make it at once.
+ * A System, a Model and a Judge is empty, or owns a handle of tlx.h. Each can be moved, which leaves the other one empty, and none can be
+ * copied. The destructor gives back what is owned, in whatever order they end. What tlx.h says of a call holds here: what it does, its
+ * faults and their order, threads. Of an empty object the counts are 0, the texts are empty, and the calls answer Fault::empty.
  *
  * What can fail has two forms, with the same arguments.
  * - `try_serve`, `try_read` and so on answer a Fault, and throw none. `try_read` and `try_make` fill an empty object, and answer Fault::full
- *   of another. `why`, if there is one, takes the text of the fault, an empty one if there is none. Fault::memory may come first of each that fills.
+ *   of another. `why`, if there is one, takes the text of the fault, an empty one if there is none.
  * - Without `try_` a fault is thrown as Error, but for what a caller expects in the course of work, which is answered:
  *   Fault::device by `serve`, a fault of an unlawful beat by `step` (is_unlawful), and Fault::incomplete by `end`. The line of the last
- *   two is then in `text`. Objects are made full by `System::read(text)`, `Model(system)` and `Judge(system)`.
+ *   two is then in `text`. Objects are made full by `System::read(text)`, `Model(system)`, `Judge(system)` and `Judge::read(text)`.
  *
  * Where there are no exceptions, or TLX_NO_EXCEPTIONS is defined, the first form alone is there. All files of a program agree about that.
  * What answers or fills a std::string takes memory as any std::string does. Texts of faults are cut off after 2,047 bytes; only the name of
@@ -23,7 +22,6 @@
 #include <cstdint>
 #include <cstring>
 #include <memory>
-#include <new>
 #include <optional>
 #include <string>
 #include <type_traits>
@@ -96,7 +94,7 @@ enum class Fault : std::uint32_t {
 // The words of a fault, as `tlx` and `tlcheck` say them.
 inline std::string words(Fault fault) {
   char text[128] = "";
-  tlx_fault_text(static_cast<std::uint32_t>(fault), text, sizeof text);
+  tlx_fault_text(static_cast<std::uint32_t>(fault), text, sizeof text, nullptr);
   return text;
 }
 
@@ -131,25 +129,26 @@ class Bytes {
 namespace detail {
 
 struct Release {
-  static void free(tlx_system *handle) { tlx_system_free(handle); }
-  static void free(tlx_model *handle) { tlx_model_free(handle); }
-  static void free(tlx_judge *handle) { tlx_judge_free(handle); }
-  template <typename Handle>
-  void operator()(Handle *handle) const {
-    free(handle);
-    delete handle;
-  }
+  void operator()(tlx_system *handle) const { tlx_system_free(handle); }
+  void operator()(tlx_model *handle) const { tlx_model_free(handle); }
+  void operator()(tlx_judge *handle) const { tlx_judge_free(handle); }
 };
 
-// A handle of C that stays where it is, since its fields may not be copied: a move hands its place on.
 template <typename Handle>
 using Owned = std::unique_ptr<Handle, Release>;
 
-// Calls with the handle that is owned, or else with an empty one.
+// Calls with the handle that is owned, if there is one.
 template <typename Handle, typename Call>
-auto with(const Owned<Handle> &owned, Call call) {
-  Handle none = {};
-  return call(owned ? owned.get() : &none);
+Fault with(const Owned<Handle> &owned, Call call) {
+  return owned ? static_cast<Fault>(call(owned.get())) : Fault::empty;
+}
+
+// The count of a handle, 0 if there is none.
+template <typename Handle>
+std::uint64_t count(const Owned<Handle> &owned, std::uint32_t (*call)(const Handle *, std::uint64_t *)) {
+  std::uint64_t found = 0;
+  if (owned) call(owned.get(), &found);
+  return found;
 }
 
 // Calls with room for the text of a fault, which `why` takes.
@@ -161,16 +160,31 @@ Fault explain(std::string *why, Call call) {
   return fault;
 }
 
-// Fills a handle by a call of C.
+// Fills an empty owner by a call of C.
 template <typename Handle, typename Call>
 Fault fill(Owned<Handle> &owned, std::string *why, Call call) {
-  Owned<Handle> made(owned ? nullptr : new (std::nothrow) Handle());
-  Handle *const handle = owned ? owned.get() : made.get();
+  Handle *made = nullptr;
   const Fault fault = explain(why, [&](char *text, std::size_t room) {
-    return handle ? call(handle, text, room) : static_cast<std::uint32_t>(TLX_MEMORY);
+    return owned ? static_cast<std::uint32_t>(TLX_FULL) : call(&made, text, room);
   });
-  if (made && fault == Fault::ok) owned = std::move(made);
+  if (fault == Fault::ok) owned.reset(made);
   return fault;
+}
+
+// The same by a call that takes the handle of a system.
+template <typename Handle, typename Call>
+Fault fill_of(Owned<Handle> &owned, const Owned<tlx_system> &system, std::string *why, Call call) {
+  return fill(owned, why, [&](Handle **made, char *text, std::size_t room) {
+    return system ? call(system.get(), made, text, room) : static_cast<std::uint32_t>(TLX_EMPTY);
+  });
+}
+
+// Fills an empty owner by a copy of what another one has.
+template <typename Handle>
+Fault fill_clone(Owned<Handle> &clone, const Owned<Handle> &owned, std::uint32_t (*call)(const Handle *, Handle **)) {
+  return fill(clone, nullptr, [&](Handle **made, char *, std::size_t) {
+    return owned ? call(owned.get(), made) : static_cast<std::uint32_t>(TLX_EMPTY);
+  });
 }
 
 }  // namespace detail
@@ -201,28 +215,27 @@ class System {
   System() = default;
 
   [[nodiscard]] Fault try_read(Bytes file, std::string *why = nullptr) {
-    const void *const at = file.size() ? static_cast<const void *>(file.data()) : "";
-    return detail::fill(handle_, why, [&](tlx_system *handle, char *text, std::size_t room) {
-      return tlx_system_read(handle, at, file.size(), text, room);
+    return detail::fill(handle_, why, [&](tlx_system **made, char *text, std::size_t room) {
+      return tlx_system_read(file.data(), file.size(), TLX_VERSION, made, text, room);
     });
   }
 
   // Hands in the bytes of a port's image, which are copied.
   [[nodiscard]] Fault try_image(std::uint64_t port, Bytes bytes, std::string *why = nullptr) {
     return detail::explain(why, [&](char *text, std::size_t room) {
-      return detail::with(handle_, [&](tlx_system *handle) { return tlx_system_image(handle, port, bytes.data(), bytes.size(), text, room); });
+      return handle_ ? tlx_system_image(handle_.get(), port, bytes.data(), bytes.size(), text, room) : static_cast<std::uint32_t>(TLX_EMPTY);
     });
   }
 
   // The error port is none of them.
-  std::uint64_t ports() const { return detail::with(handle_, tlx_system_ports); }
+  std::uint64_t ports() const { return detail::count(handle_, tlx_system_ports); }
 
   // The whole name of the file of a port's image; an empty text if the system file names none.
   std::string image_name(std::uint64_t port) const {
     std::string name(256, '\0');
     for (;;) {
-      const auto call = [&](tlx_system *handle) { return tlx_system_image_name(handle, port, name.data(), name.size()); };
-      const std::size_t length = detail::with(handle_, call);
+      std::size_t length = 0;
+      if (handle_) tlx_system_image_name(handle_.get(), port, name.data(), name.size(), &length);
       const bool is_whole = length + 1 < name.size();
       name.resize(is_whole ? length : 2 * name.size());
       if (is_whole) return name;
@@ -257,40 +270,48 @@ class Model {
   Model() = default;
 
   [[nodiscard]] Fault try_make(const System &system, std::string *why = nullptr) {
-    return detail::fill(handle_, why, [&](tlx_model *handle, char *text, std::size_t room) {
-      return detail::with(system.handle_, [&](tlx_system *of) { return tlx_model_make(handle, of, text, room); });
-    });
+    return detail::fill_of(handle_, system.handle_, why, tlx_model_make);
   }
 
+  // Fills an empty model, which then goes on from where this one is.
+  [[nodiscard]] Fault try_clone(Model &clone) const { return detail::fill_clone(clone.handle_, handle_, tlx_model_clone); }
+
   [[nodiscard]] Fault try_serve(std::uint64_t master, const tlx_request &request, tlx_answer &answer) {
-    return fault_of([&](tlx_model *handle) { return tlx_model_serve(handle, master, &request, &answer); });
+    return detail::with(handle_, [&](tlx_model *handle) { return tlx_model_serve(handle, master, &request, &answer); });
   }
 
   // The byte at an address, or nothing if nobody knows it. After a fault `byte` is as it was.
   [[nodiscard]] Fault try_peek(std::uint64_t address, std::optional<std::uint8_t> &byte) const {
-    std::uint8_t value = 0, known = 0;
-    const Fault fault = fault_of([&](tlx_model *handle) { return tlx_model_peek(handle, address, &value, &known); });
+    std::uint8_t value = 0;
+    std::uint32_t known = 0;
+    const Fault fault = detail::with(handle_, [&](const tlx_model *handle) { return tlx_model_peek(handle, address, &value, &known); });
     if (fault == Fault::ok) byte = known ? std::optional<std::uint8_t>(value) : std::nullopt;
     return fault;
   }
 
   // Puts a byte at an address; an unknown one if there is none.
   [[nodiscard]] Fault try_poke(std::uint64_t address, std::optional<std::uint8_t> byte) {
-    return fault_of([&](tlx_model *handle) { return tlx_model_poke(handle, address, byte.value_or(0), byte.has_value()); });
+    return detail::with(handle_, [&](tlx_model *handle) { return tlx_model_poke(handle, address, byte.value_or(0), byte.has_value()); });
   }
 
-  [[nodiscard]] Fault try_reset() { return fault_of(tlx_model_reset); }
+  [[nodiscard]] Fault try_reset() { return detail::with(handle_, tlx_model_reset); }
 
-  std::uint64_t masters() const { return detail::with(handle_, tlx_model_masters); }
+  std::uint64_t masters() const { return detail::count(handle_, tlx_model_masters); }
 
   // The error port is the last of them.
-  std::uint64_t ports() const { return detail::with(handle_, tlx_model_ports); }
+  std::uint64_t ports() const { return detail::count(handle_, tlx_model_ports); }
 
 #ifndef TLX_NO_EXCEPTIONS
   explicit Model(const System &system) {
     std::string why;
     const Fault fault = try_make(system, &why);
     detail::check(fault, why);
+  }
+
+  Model clone() const {
+    Model made;
+    detail::check(try_clone(made));
+    return made;
   }
 
   // Answers Fault::ok, or Fault::device.
@@ -311,11 +332,6 @@ class Model {
 #endif
 
  private:
-  template <typename Call>
-  Fault fault_of(Call call) const {
-    return static_cast<Fault>(detail::with(handle_, call));
-  }
-
   detail::Owned<tlx_model> handle_;
 };
 
@@ -326,32 +342,49 @@ class Judge {
 
   [[nodiscard]] Fault try_make(const System &system, tlx_links links = TLX_BOTH_LINKS, tlx_order masters = TLX_ACCEPT_ORDER,
                                tlx_order ports = TLX_ACCEPT_ORDER, std::string *why = nullptr) {
-    const auto u8 = [](auto number) { return static_cast<std::uint8_t>(number); };
-    return detail::fill(handle_, why, [&](tlx_judge *handle, char *text, std::size_t room) {
-      return detail::with(system.handle_, [&](tlx_system *of) {
-        return tlx_judge_make(handle, of, u8(links), u8(masters), u8(ports), text, room);
-      });
+    return detail::fill_of(handle_, system.handle_, why, [&](const tlx_system *of, tlx_judge **made, char *text, std::size_t room) {
+      return tlx_judge_make(of, links, masters, ports, made, text, room);
     });
   }
 
-  [[nodiscard]] Fault try_step(const tlx_beat &beat) {
-    return fault_of([&](tlx_judge *handle) { return tlx_judge_step(handle, &beat); });
+  // The judge of a file that names no image.
+  [[nodiscard]] Fault try_read(Bytes file, tlx_links links = TLX_BOTH_LINKS, tlx_order masters = TLX_ACCEPT_ORDER,
+                               tlx_order ports = TLX_ACCEPT_ORDER, std::string *why = nullptr) {
+    return detail::fill(handle_, why, [&](tlx_judge **made, char *text, std::size_t room) {
+      return tlx_judge_read(file.data(), file.size(), TLX_VERSION, links, masters, ports, made, text, room);
+    });
   }
 
-  // After Fault::memory the judge is empty.
-  [[nodiscard]] Fault try_reset() { return fault_of(tlx_judge_reset); }
-  [[nodiscard]] Fault try_end() { return fault_of(tlx_judge_end); }
+  // Fills an empty judge, which then goes on from where this one is.
+  [[nodiscard]] Fault try_clone(Judge &clone) const { return detail::fill_clone(clone.handle_, handle_, tlx_judge_clone); }
+
+  [[nodiscard]] Fault try_step(const tlx_beat &beat) {
+    return detail::with(handle_, [&](tlx_judge *handle) { return tlx_judge_step(handle, &beat); });
+  }
+
+  // Judges beats in turn; `judged` says how many before the first that is refused.
+  [[nodiscard]] Fault try_steps(const tlx_beat *beats, std::size_t count, std::size_t &judged) {
+    return detail::with(handle_, [&](tlx_judge *handle) { return tlx_judge_steps(handle, beats, count, &judged); });
+  }
+
+  // Judges the beats of one clock cycle, in any order; `at` is the place of the first that is refused, else their count.
+  [[nodiscard]] Fault try_cycle(const tlx_beat *beats, std::size_t count, std::size_t &at) {
+    return detail::with(handle_, [&](tlx_judge *handle) { return tlx_judge_cycle(handle, beats, count, &at); });
+  }
+
+  [[nodiscard]] Fault try_reset() { return detail::with(handle_, tlx_judge_reset); }
+  [[nodiscard]] Fault try_end() { return detail::with(handle_, tlx_judge_end); }
 
   // The line of the last unlawful beat, or of the end, with its line end.
   std::string text() const {
     char line[2048] = "";
-    detail::with(handle_, [&](tlx_judge *handle) { return tlx_judge_text(handle, line, sizeof line); });
+    if (handle_) tlx_judge_text(handle_.get(), line, sizeof line, nullptr);
     return line;
   }
 
-  std::uint64_t requests() const { return detail::with(handle_, tlx_judge_requests); }
-  std::uint64_t answered() const { return detail::with(handle_, tlx_judge_answered); }
-  std::uint64_t in_flight() const { return detail::with(handle_, tlx_judge_in_flight); }
+  std::uint64_t requests() const { return detail::count(handle_, tlx_judge_requests); }
+  std::uint64_t answered() const { return detail::count(handle_, tlx_judge_answered); }
+  std::uint64_t in_flight() const { return detail::count(handle_, tlx_judge_in_flight); }
 
 #ifndef TLX_NO_EXCEPTIONS
   explicit Judge(const System &system, tlx_links links = TLX_BOTH_LINKS, tlx_order masters = TLX_ACCEPT_ORDER,
@@ -361,9 +394,35 @@ class Judge {
     detail::check(fault, why);
   }
 
-  // Answers Fault::ok, or the fault of an unlawful beat.
+  static Judge read(Bytes file, tlx_links links = TLX_BOTH_LINKS, tlx_order masters = TLX_ACCEPT_ORDER, tlx_order ports = TLX_ACCEPT_ORDER) {
+    Judge made;
+    std::string why;
+    const Fault fault = made.try_read(file, links, masters, ports, &why);
+    detail::check(fault, why);
+    return made;
+  }
+
+  Judge clone() const {
+    Judge made;
+    detail::check(try_clone(made));
+    return made;
+  }
+
+  // These three answer Fault::ok, or the fault of an unlawful beat.
   [[nodiscard]] Fault step(const tlx_beat &beat) {
     const Fault fault = try_step(beat);
+    if (!is_unlawful(fault)) detail::check(fault);
+    return fault;
+  }
+
+  [[nodiscard]] Fault steps(const tlx_beat *beats, std::size_t count, std::size_t &judged) {
+    const Fault fault = try_steps(beats, count, judged);
+    if (!is_unlawful(fault)) detail::check(fault);
+    return fault;
+  }
+
+  [[nodiscard]] Fault cycle(const tlx_beat *beats, std::size_t count, std::size_t &at) {
+    const Fault fault = try_cycle(beats, count, at);
     if (!is_unlawful(fault)) detail::check(fault);
     return fault;
   }
@@ -379,11 +438,6 @@ class Judge {
 #endif
 
  private:
-  template <typename Call>
-  Fault fault_of(Call call) const {
-    return static_cast<Fault>(detail::with(handle_, call));
-  }
-
   detail::Owned<tlx_judge> handle_;
 };
 

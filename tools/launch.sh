@@ -35,12 +35,30 @@ make_program() {
   touch "$top/crates/$1/out/$1"
 }
 
-# The same of the library of C.
+# The same of the library of C: the archive of what is proved, and library/out/libtlx.a. That has the first one, library/tlx.c, and the kit's
+# three functions over malloc, realloc and free.
 make_library() {
-  is_fresh "$top/crates/tl_c/out/libtl_c.a" && return
-  command -v rt >/dev/null || fail tlx 69 'the toolchain `rt` is not on this machine, and the library is not built yet'
-  "$top/tools/build" tl_c || exit 70
-  touch "$top/crates/tl_c/out/libtl_c.a"
+  local proved=$top/crates/tl_c/out/libtl_c.a made=$top/library/out/libtlx.a
+  if ! is_fresh "$proved"; then
+    command -v rt >/dev/null || fail tlx 69 'the toolchain `rt` is not on this machine, and the library is not built yet'
+    "$top/tools/build" tl_c || exit 70
+    touch "$proved"
+  fi
+  [ -f "$made" ] && [ -z "$(find "$proved" "$top/library/tlx.c" "$top/include/tlx.h" -newer "$made" -print -quit)" ] && return
+  make_archive "$proved" "$made" || fail tlx 70 'the archive of the library could not be made'
+}
+
+# A script of ar can't name every path, so the archive is made of fixed names.
+make_archive() {
+  local folder
+  folder=$(mktemp -d)
+  ${CC:-cc} -std=gnu11 -Wall -Wextra -Werror -O2 -fPIC -I"$top/include" -c "$top/library/tlx.c" -o "$folder/calls.o" &&
+    cp "$1" "$folder/library.a" && cp "$(dirname "$(rt doc)")/c/liblibc_c.a" "$folder/kit.a" &&
+    (cd "$folder" && printf '%s\n' 'CREATE libtlx.a' 'ADDMOD calls.o' 'ADDLIB library.a' 'ADDLIB kit.a' SAVE | ar -M) &&
+    [ -s "$folder/libtlx.a" ] && mkdir -p "$(dirname "$2")" && mv -f "$folder/libtlx.a" "$2"
+  local status=$?
+  rm -rf "$folder"
+  return "$status"
 }
 
 # Runs a program before any proof: the name of the program, and its words, in which files stand by their full paths. The toolchain

@@ -26,20 +26,22 @@ static void *whole(const char *path, size_t *length) {
 }
 
 static void judge(const char *script, size_t length, const struct tlx_beat *beats, size_t count) {
-  struct tlx_judge judge = {0};
-  if (tlx_judge_read(&judge, script, length, TLX_BOTH_LINKS, TLX_ACCEPT_ORDER, TLX_ACCEPT_ORDER, NULL, 0)) exit(1);
+  struct tlx_judge *judge = NULL;
+  if (tlx_judge_read(script, length, TLX_VERSION, TLX_BOTH_LINKS, TLX_ACCEPT_ORDER, TLX_ACCEPT_ORDER, &judge, NULL, 0)) exit(1);
   double start = now();
   for (size_t k = 0; k < count; k++)
-    if (tlx_judge_step(&judge, &beats[k])) exit(1);
+    if (tlx_judge_step(judge, &beats[k])) exit(1);
   double took = (now() - start) / count;
-  printf("judge library - %.1f %llu\n", took, (unsigned long long)tlx_judge_answered(&judge));
-  tlx_judge_free(&judge);
+  uint64_t answered;
+  tlx_judge_answered(judge, &answered);
+  printf("judge library - %.1f %llu\n", took, (unsigned long long)answered);
+  tlx_judge_free(judge);
 }
 
 static void serve(const char *name, int opcode, int param, int size, int holes) {
   static const char file[] = "[[port]]\nkind = \"ram\"\nbase = 0x1000\nlength = 1024\n[[master]]\nsources = 4\n";
-  struct tlx_system system = {0};
-  struct tlx_model model = {0};
+  struct tlx_system *system = NULL;
+  struct tlx_model *model = NULL;
   struct tlx_request asks[2] = {{.address = 0x1000, .source = 1}, {.address = 0x1100, .source = 2}};
   struct tlx_answer answer;
   unsigned long long seen = 0;
@@ -48,16 +50,16 @@ static void serve(const char *name, int opcode, int param, int size, int holes) 
     memset(asks[which].bytes, 7, sizeof asks[which].bytes);
     for (size_t k = 0; k < sizeof asks[which].set; k++) asks[which].set[k] = !holes || k % 2 == 0;
   }
-  if (tlx_system_read(&system, file, sizeof file - 1, NULL, 0) || tlx_model_make(&model, &system, NULL, 0)) exit(1);
-  tlx_system_free(&system);
+  if (tlx_system_read(file, sizeof file - 1, TLX_VERSION, &system, NULL, 0) || tlx_model_make(system, &model, NULL, 0)) exit(1);
+  tlx_system_free(system);
   double start = now();
   for (int turn = 0; turn < TURNS; turn++)
     for (int which = 0; which < 2; which++) {
-      if (tlx_model_serve(&model, 0, &asks[which], &answer)) exit(1);
+      if (tlx_model_serve(model, 0, &asks[which], &answer)) exit(1);
       seen += answer.count;
     }
   printf("%s library %d %.1f %llu\n", name, size, (now() - start) / TURNS / 2, seen);
-  tlx_model_free(&model);
+  tlx_model_free(model);
 }
 
 int main(int argc, char **argv) {

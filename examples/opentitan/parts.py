@@ -105,6 +105,7 @@ def check_lawful(design, pool):
             for judge in design.judges:
                 same = judge.verdict(judge.rows(dump)) == verdicts[judge.part.name, judge.part.order]
                 rtl.tell(f"{judge.part.name}: another verdict over the rows", same)
+                rtl.check_draft(judge.part.name, judge.system, dump)
                 print(f"{judge.part.name}: {verdicts[judge.part.name, judge.part.order].rstrip()}")
         else:
             os.remove(dump)

@@ -72,7 +72,7 @@ def cycles(rng, has_bug):
 
 def main():
     with tlx.Judge(tlx.System(SYSTEM)) as judge:
-        monitor = tlx.Monitor(judge, {link: f"{link}_" for link in LINKS}, absent=("a_param", "d_denied", "d_corrupt"))
+        monitor = tlx.Monitor(judge, {link: f"{link}_" for link in LINKS}, absent=("a_param", "a_corrupt", "d_param", "d_denied", "d_corrupt"))
         try:
             for signals in cycles(random.Random(1), "--bug" in sys.argv):
                 monitor.sample(signals)

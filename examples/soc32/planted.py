@@ -1,4 +1,5 @@
-"""A design in Verilog before tlcheck: without a bug it is lawful, and of each planted bug tlcheck says what a table expects.
+"""A design in Verilog before tlcheck: without a bug it is lawful, and of each planted bug tlcheck says what a table expects, and tools/explain
+names the same row and its request.
 
 `main` is the check of a folder with bugs.vh, bugs.txt, mix.toml and system.toml; this folder's and examples/soc128's call it. TLCHECK and TLVCD
 name other programs than the launchers at the top. The bench takes +seed=, +operations=, +capture=, +dump= and +images=.
@@ -156,6 +157,8 @@ def check_design(folder, pool, name, defines, lawful):
             rtl.tell(f"{name}, seed {seed}, links {view}, order {order}: {verdicts[view, order]}", is_lawful(verdicts[view, order]))
         if seed in DUMPED_SEEDS:
             rtl.compare_dump(f"{name}, seed {seed}", folder.system, rtl.dump_of(capture), capture)
+        if seed == SEEDS[0]:
+            rtl.check_draft(name, folder.system, rtl.dump_of(capture))
     for key in {(view, order) for view in VIEWS for order in ORDERS} - set(lawful):
         seen = any(" D: wrong reply: " in verdicts[key] for _, _, verdicts in runs)
         rtl.tell(f"{name}: lawful with links {key[0]} and order {key[1]} as well", seen)
@@ -221,6 +224,8 @@ def check_bug(folder, bug, cells, runs):
             rtl.tell(f"{bug}, links {view}: {verdict.rstrip()}, not {cell}", fits)
             if UNLAWFUL.fullmatch(verdict):
                 rtl.tell(f"{bug}, links {view}: not the first row", front_is_lawful(folder, capture, verdict, view))
+            if view == VIEWS[0]:
+                rtl.check_explanation(bug, verdict, folder.system, capture, "--complete", "--links", view, "--order", "accept")
         rtl.tell(f"{bug}, links {view}: not seen", seen_of(cell) in ("no", "by luck") or any(word != "lawful" for word in told))
 
 
@@ -246,8 +251,8 @@ def check_readme(folder, table):
         rtl.tell(f"{path}: {done.stdout}", done.stdout.splitlines()[-1:] == [expected])
 
 
-def main(where, sources, designs):
-    """The check of a folder: its status."""
+def main(where, sources, designs, more=None):
+    """The check of a folder: its status. `more` are checks of this folder alone."""
     for program in ("iverilog", "verilator"):
         if shutil.which(program) is None:
             print(f"{program} is missing; on Debian and Ubuntu: apt-get install {program}", file=sys.stderr)
@@ -267,5 +272,7 @@ def main(where, sources, designs):
         for bug, runs in zip(table, pool.map(lambda bug: judge_bug(folder, bug), table)):
             check_bug(folder, bug, table[bug], runs)
         check_readme(folder, table)
+        if more is not None:
+            more(folder)
     print(f"{rtl.passed} passed, {len(rtl.failed)} failed")
     return 1 if rtl.failed else 0

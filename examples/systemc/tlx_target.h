@@ -1,7 +1,8 @@
-// A crossbar of tlx as the target of TLM-2.0 sockets, one for each master: `tlx::target crossbar("crossbar", system)`, where `system` is the text
-// of a system file. Each payload is one request, answered at once by the proved model; README.md has the table of what becomes of what.
+// A crossbar of tlx between TLM-2.0 sockets: `tlx::target crossbar("crossbar", system)`, where `system` is the text of a system file. It is the
+// target of a socket for each master, and the initiator of one for each port, of which the devices' are bound. Each payload is one request,
+// answered at once by the proved model, or by the device; README.md has the table of what becomes of what.
 //
-// The target is untimed: it never waits, and leaves the delay as it is. A request is served in the order of the calls.
+// The target is untimed: it never waits, and leaves the delay to the devices. A request is served in the order of the calls.
 #ifndef TLX_TARGET_H
 #define TLX_TARGET_H
 
@@ -14,6 +15,7 @@
 
 #include <systemc>
 #include <tlm>
+#include <tlm_utils/simple_initiator_socket.h>
 #include <tlm_utils/simple_target_socket.h>
 #include <tlx.hpp>
 
@@ -30,7 +32,7 @@ struct extension : tlm::tlm_extension<extension> {
   bool served = false;                 // set by the target: a port served the request, even if it denied it
   std::uint64_t port = 0;              // which one, if served
   std::uint64_t place = 0;             // how many requests that port had served before
-  std::uint64_t unknown = 0;           // how many of the bytes that were read nobody knows; they are read as 0
+  std::uint64_t unknown = 0;           // how many of the bytes that were read of a memory nobody knows; they are read as 0
 
   tlm::tlm_extension_base *clone() const override { return new extension(*this); }
   void copy_from(const tlm::tlm_extension_base &other) override { *this = static_cast<const extension &>(other); }
@@ -53,19 +55,22 @@ inline Model model_of(const std::string &file, const images &read_image = nullpt
 }
 
 class target : public sc_core::sc_module {
-  Model model_;
+  Model model_, router_;  // the second one is only asked whose an address is
 
  public:
   // masters[m] is where master m of the system is bound.
   sc_core::sc_vector<tlm_utils::simple_target_socket_tagged<target>> masters;
-  // Answers for the devices of the system. Without it what goes to a device is TLM_ADDRESS_ERROR_RESPONSE.
+  // devices[p] is bound to what port p is, if that is a device; its payloads come as they were sent. Those of other ports stay unbound.
+  sc_core::sc_vector<tlm_utils::simple_initiator_socket_tagged_optional<target>> devices;
+  // Answers for the devices whose sockets are not bound. Without it what goes to them is TLM_ADDRESS_ERROR_RESPONSE.
   device answer_device;
   // How many bytes were read that nobody knows. Each such read is a warning of this type, too.
   std::uint64_t unknown = 0;
   static const char *unknown_type() { return "/tlx/unknown bytes"; }
 
   target(const sc_core::sc_module_name &name, const std::string &file, const images &read_image = nullptr)
-      : sc_core::sc_module(name), model_(model_of(file, read_image)), masters("master", model_.masters()) {
+      : sc_core::sc_module(name), model_(model_of(file, read_image)), router_(model_of(file, read_image)), masters("master", model_.masters()),
+        devices("device", model_.ports() - 1) {
     for (unsigned m = 0; m < masters.size(); m++) {
       masters[m].register_b_transport(this, &target::b_transport, static_cast<int>(m));
       masters[m].register_transport_dbg(this, &target::transport_dbg, static_cast<int>(m));
@@ -79,28 +84,62 @@ class target : public sc_core::sc_module {
   using payload = tlm::tlm_generic_payload;
   using status = tlm::tlm_response_status;
 
-  void b_transport(int master, payload &trans, sc_core::sc_time &) {
+  void b_transport(int master, payload &trans, sc_core::sc_time &delay) {
     extension plain;
     extension *rest = trans.get_extension<extension>();
+    trans.set_response_status(transport(static_cast<std::uint64_t>(master), trans, rest ? *rest : plain, delay));
     trans.set_dmi_allowed(false);
-    trans.set_response_status(transport(static_cast<std::uint64_t>(master), trans, rest ? *rest : plain));
   }
 
-  // Reads or writes bytes where they lie, of a ROM too, one after the other up to the first that no memory has; the model counts no request.
-  // An unknown byte is read as 0.
-  unsigned transport_dbg(int, payload &trans) {
-    extension *rest = trans.get_extension<extension>();
-    std::uint64_t count = 0, unknowns = 0;
+  // Reads or writes bytes where they lie, of a ROM too, up to the first that neither a memory nor a device has; the model counts no request. An
+  // unknown byte is read as 0.
+  unsigned transport_dbg(int master, payload &trans) {
+    std::uint64_t unknowns = 0;
+    unsigned count = 0;
     if ((!trans.is_read() && !trans.is_write()) || !trans.get_data_ptr()) return 0;
-    for (; count < trans.get_data_length(); count++) {
-      const std::uint64_t address = trans.get_address() + count;
-      std::optional<std::uint8_t> byte = trans.get_data_ptr()[count];
-      if ((trans.is_read() ? model_.try_peek(address, byte) : model_.try_poke(address, byte)) != Fault::ok) break;
-      if (trans.is_read()) trans.get_data_ptr()[count] = byte.value_or(0);
-      unknowns += !byte;
+    while (count < trans.get_data_length()) {
+      const Fault fault = debug_byte(trans, count, unknowns);
+      const unsigned done = fault == Fault::ok ? 1 : fault == Fault::device ? debug_device(master, trans, count) : 0;
+      if (done == 0) break;
+      count += done;
     }
-    tell_unknown(unknowns, trans.get_address(), rest);
-    return static_cast<unsigned>(count);
+    tell_unknown(unknowns, trans.get_address(), trans.get_extension<extension>());
+    return count;
+  }
+
+  // Reads or writes a byte of a memory.
+  Fault debug_byte(payload &trans, unsigned place, std::uint64_t &unknowns) {
+    const std::uint64_t address = trans.get_address() + place;
+    std::optional<std::uint8_t> byte = trans.get_data_ptr()[place];
+    const Fault fault = trans.is_read() ? model_.try_peek(address, byte) : model_.try_poke(address, byte);
+    if (fault != Fault::ok) return fault;
+    if (trans.is_read()) trans.get_data_ptr()[place] = byte.value_or(0);
+    unknowns += !byte;
+    return fault;
+  }
+
+  // Hands the bytes from a place on to the device there, if the master has a path to it: how many it took.
+  unsigned debug_device(int master, const payload &trans, unsigned place) {
+    tlx_answer answer;
+    const std::uint64_t address = trans.get_address() + place;
+    const Fault fault = router_.try_serve(static_cast<std::uint64_t>(master), get(address, 0), answer);
+    if ((fault != Fault::ok && fault != Fault::device) || !is_bound(answer.port)) return 0;
+    payload rest;
+    rest.set_command(trans.get_command());
+    rest.set_address(address);
+    rest.set_data_ptr(trans.get_data_ptr() + place);
+    rest.set_data_length(trans.get_data_length() - place);
+    return std::min(devices[answer.port]->transport_dbg(rest), rest.get_data_length());
+  }
+
+  bool is_bound(std::uint64_t port) const { return port < devices.size() && devices[port].size() > 0; }
+
+  // What a device answers a payload that was sent to it.
+  status ask_device(std::uint64_t port, payload &trans, sc_core::sc_time &delay) {
+    if (!is_bound(port)) return answer_device ? answer_device(port, trans) : tlm::TLM_ADDRESS_ERROR_RESPONSE;
+    trans.set_response_status(tlm::TLM_INCOMPLETE_RESPONSE);
+    devices[port]->b_transport(trans, delay);
+    return trans.get_response_status();
   }
 
   // Counts bytes that were read though nobody knows them, and reports them.
@@ -113,7 +152,7 @@ class target : public sc_core::sc_module {
     SC_REPORT_WARNING(unknown_type(), text.str().c_str());
   }
 
-  status transport(std::uint64_t master, payload &trans, extension &rest) {
+  status transport(std::uint64_t master, payload &trans, extension &rest, sc_core::sc_time &delay) {
     rest.served = false;
     rest.unknown = 0;
     const status refused = refusal(trans, rest);
@@ -124,7 +163,7 @@ class target : public sc_core::sc_module {
     rest.served = true;
     rest.port = answer.port;
     rest.place = answer.place;
-    if (fault == Fault::device) return answer_device ? answer_device(answer.port, trans) : tlm::TLM_ADDRESS_ERROR_RESPONSE;
+    if (fault == Fault::device) return ask_device(answer.port, trans, delay);
     // the error port is the last
     if (answer.denied) return answer.port + 1 == model_.ports() ? tlm::TLM_ADDRESS_ERROR_RESPONSE : tlm::TLM_GENERIC_ERROR_RESPONSE;
     copy_bytes(trans, answer, rest);

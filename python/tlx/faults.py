@@ -128,6 +128,7 @@ def fault_of(number: int, text: str = "") -> Exception:
     fault = Fault(number)
     if fault is Fault.MEMORY:
         return MemoryError(_MEMORY_WORDS)
-    if fault is Fault.EMPTY:
+    # a handle is null once it is closed, and nothing else is
+    if fault in (Fault.NULL, Fault.EMPTY):
         return ValueError("it is closed")
     return Refused(fault, text)

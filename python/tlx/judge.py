@@ -39,18 +39,28 @@ class Judge:
     links: the links that are watched, "both" sides', the "masters"', the "ports"', or "each" side by itself. order: when a request
     takes effect at a port for which the system does not say it, with its last beat ("accept"), with its reply's first ("reply"), or at
     some moment between these ("any"); or two words, as "any/accept", the first for the masters' links and the second for the ports'.
-    InvalidSystem as of System; TypeError and ValueError of other words. One thread at a time uses a judge.
+    InvalidSystem as of System; TypeError and ValueError of other words. Threads may share a judge: a call waits for the one before it.
     """
 
     def __init__(self, system: System, links: str = "both", order: str = "accept") -> None:
-        self._handle = make_judge(check_system(system), _place("links", links, LINKS), _orders(order))
+        self._hold(make_judge(check_system(system), _place("links", links, LINKS), _orders(order)), links, order)
+
+    def _hold(self, handle: _library.JudgeHandle, links: str, order: str) -> None:
+        self._handle = handle
         self.links = links
         self.order = order
-        self._is_closed = False
-        # numbers are the fastest pointers; what they point to lives as long as the judge
-        self._at = ctypes.addressof(self._handle)
+        # a number is the fastest pointer; what it points to lives as long as the judge
         self._beat = ctypes.create_string_buffer(BEAT.size)
         self._beat_at = ctypes.addressof(self._beat)
+
+    def clone(self) -> "Judge":
+        """A judge that goes on from where this one is. Neither changes with the other. MemoryError; ValueError after `close`."""
+        handle, fault = _library.clone_judge(self._handle)
+        if fault:
+            raise fault_of(fault)
+        made = object.__new__(type(self))
+        made._hold(handle, self.links, self.order)
+        return made
 
     def step(self, beat: Beat) -> None:
         """Judges one beat more. Of one clock cycle give the beats in the order in which they cross, or all of them to `cycle`.
@@ -59,14 +69,16 @@ class Judge:
         watched; TypeError, OverflowError and ValueError of a field's value; MemoryError if there is no memory for the bytes that are
         written with a lawful beat. After each of them the judge is as it was, and after a MemoryError the same beat may be given again.
         """
-        try:
-            _pack(self._beat, 0, *values_of(beat))
-        except (struct.error, AttributeError, TypeError, OverflowError):
-            check_beat(beat)
-            raise
-        fault = _step(self._at, self._beat_at)
-        if fault:
-            raise self._refusal(fault, beat)
+        handle = self._handle
+        with handle.lock:
+            try:
+                _pack(self._beat, 0, *values_of(beat))
+            except (struct.error, AttributeError, TypeError, OverflowError):
+                check_beat(beat)
+                raise
+            fault = _step(handle.at, self._beat_at)
+            if fault:
+                raise self._refusal(fault, beat)
 
     def steps(self, beats: Beats | bytes | bytearray | memoryview) -> None:
         """Judges the beats of an array in turn, up to the first that is refused: `index` of the exception is its place in the array.
@@ -78,11 +90,12 @@ class Judge:
             if not memory.c_contiguous or memory.nbytes % BEAT.size:
                 raise ValueError(f"an array of beats has {BEAT.size} bytes for each, one after the other")
             array = bytearray(memory) if memory.readonly else memory
-            fault, index = self._judge_array(array, memory.nbytes // BEAT.size)
-            beat = beat_at(array, index) if fault else None
+            with self._handle.lock:
+                fault, index = self._judge_array(array, memory.nbytes // BEAT.size)
+                found = self._refusal(fault, beat_at(array, index), index) if fault else None
         # the array may grow again before the exception is handled
-        if fault:
-            raise self._refusal(fault, beat, index)
+        if found:
+            raise found
 
     def _judge_array(self, array: bytearray | memoryview, count: int) -> tuple[int, int]:
         """The fault of the first beat that is refused with its place, or no fault and the count."""
@@ -92,7 +105,7 @@ class Judge:
         pinned = ctypes.c_char.from_buffer(array)
         begin, judged, fault, at = ctypes.addressof(pinned), ctypes.c_size_t(), 0, 0
         while at < count and not fault:
-            fault = _library.judge_steps(self._at, begin + at * BEAT.size, min(count - at, _TURN), ctypes.addressof(judged))
+            fault = _library.judge_steps(self._handle.at, begin + at * BEAT.size, min(count - at, _TURN), ctypes.addressof(judged))
             at += judged.value
         return fault, at
 
@@ -107,12 +120,13 @@ class Judge:
         if not given:
             return
         pinned = ctypes.c_char.from_buffer(Beats(given).memory)
-        fault = _library.judge_cycle(self._at, ctypes.addressof(pinned), len(given), ctypes.addressof(at))
-        if fault:
-            raise self._refusal(fault, given[at.value], at.value)
+        with self._handle.lock:
+            fault = _library.judge_cycle(self._handle.at, ctypes.addressof(pinned), len(given), ctypes.addressof(at))
+            if fault:
+                raise self._refusal(fault, given[at.value], at.value)
 
     def _refusal(self, fault: int, beat: Beat, index: int = 0) -> Exception:
-        """What is raised for a beat."""
+        """What is raised for a beat. The caller holds the lock."""
         if fault > Fault.NO_LINK:
             made = Unlawful(Fault(fault), beat.line, beat.time, _library.judge_text(self._handle))
         else:
@@ -127,9 +141,10 @@ class Judge:
         `requests` and `answered` go on, so `in_flight` has the whole requests that the reset left without a whole reply.
 
         Refused, a ValueError, with NO_LINK if the system does not say `resets = true`; then the judge is as it was. MemoryError if there
-        is no memory for what is loaded or unknown after the reset; then the judge is gone, as after `close`. ValueError after `close`.
+        is no memory for it, and then too. ValueError after `close`.
         """
-        fault = _library.judge_reset(self._at)
+        with self._handle.lock:
+            fault = _library.judge_reset(self._handle.at)
         if fault:
             raise fault_of(fault)
 
@@ -137,9 +152,10 @@ class Judge:
         """Asks whether each request that began since the last reset has its whole reply. Incomplete, if one has not. The judge stays as
         it is and may go on. ValueError after `close`, MemoryError if there was no memory for the text.
         """
-        fault = _library.judge_end(self._at)
+        with self._handle.lock:
+            fault = _library.judge_end(self._handle.at)
+            text = _library.judge_text(self._handle) if fault == Fault.INCOMPLETE else ""
         if fault == Fault.INCOMPLETE:
-            text = _library.judge_text(self._handle)
             raise Incomplete(text) if text else fault_of(Fault.MEMORY)
         if fault:
             raise fault_of(fault)
@@ -147,12 +163,12 @@ class Judge:
     @property
     def requests(self) -> int:
         """How many whole requests were seen, at the masters' links if these are watched, and else at the ports'; 0 after `close`."""
-        return _library.judge_requests(self._at)
+        return _library.count_of(_library.judge_requests, self._handle)
 
     @property
     def answered(self) -> int:
         """How many whole replies were seen, at the same links."""
-        return _library.judge_answered(self._at)
+        return _library.count_of(_library.judge_answered, self._handle)
 
     @property
     def in_flight(self) -> int:
@@ -161,7 +177,6 @@ class Judge:
 
     def close(self) -> None:
         """Gives the memory back; a second time does nothing."""
-        self._is_closed = True
         self._handle.close()
 
     def __enter__(self) -> "Judge":

@@ -116,9 +116,9 @@ class Beat:
 
     side, number: the link, of a master or a port. channel: A or D. opcode, size: as in Request and Answer. source: at a master's link
     its own, at a port's the wide one. data: the bits of the bus as a waveform shows them, lane 0 in the low eight. known: bit k is 1 if
-    lane k has no x; all are known if it is not given. What data and known have past the bus of the link is not looked at. param,
-    address, mask (a bit a lane): of A alone. denied, corrupt: of D alone. line, time: any numbers below 2^64, which stand in what is
-    said of the beat; the time is of any unit.
+    lane k has no x; all are known if it is not given. What data and known have past the bus of the link is not looked at.
+    address, mask (a bit a lane): of A alone. denied: of D alone. line, time: any numbers below 2^64, which stand in what is said of the
+    beat; the time is of any unit.
     """
 
     side: int

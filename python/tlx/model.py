@@ -16,14 +16,25 @@ _DIGITS = b"01" + bytes(254)
 class Model:
     """The model of a system, before any request: it answers each request at once. A context manager, which gives its memory back.
 
-    system: the system, which stays as it is. One thread at a time uses a model.
+    system: the system, which stays as it is. Threads may share a model: a call waits for the one before it.
     """
 
     def __init__(self, system: System) -> None:
-        self._handle = make_model(check_system(system))
-        self._at = ctypes.byref(self._handle)
+        self._hold(make_model(check_system(system)))
+
+    def _hold(self, handle: _library.ModelHandle) -> None:
+        self._handle = handle
         self._request, self._answer = _library.RequestStruct(), _library.AnswerStruct()
         self._request_at, self._answer_at = ctypes.byref(self._request), ctypes.byref(self._answer)
+
+    def clone(self) -> "Model":
+        """A model that goes on from where this one is. Neither changes with the other. MemoryError; ValueError after `close`."""
+        handle, fault = _library.clone_model(self._handle)
+        if fault:
+            raise fault_of(fault)
+        made = object.__new__(type(self))
+        made._hold(handle)
+        return made
 
     def serve(self, master: int, request: Request) -> Answer:
         """Serves a request of a master at once, and says what it is answered; one that is denied is served too. One that goes to a device is
@@ -34,14 +45,15 @@ class Model:
         each of them nothing was served.
         """
         number = check_number("master", master, 64)
-        self._fill(request)
-        fault = _library.model_serve(self._at, number, self._request_at, self._answer_at)
-        if fault and fault != Fault.DEVICE:
-            raise fault_of(fault)
-        answer, count = self._answer, self._answer.count
-        data = bytes(memoryview(answer.bytes)[:count])
-        known = _mask(bytes(memoryview(answer.known)[:count]))
-        return Answer(Reply(answer.opcode), answer.size, answer.source, bool(answer.denied), data, answer.port, answer.place, known, bool(fault))
+        with self._handle.lock:
+            self._fill(request)
+            fault = _library.model_serve(self._handle.at, number, self._request_at, self._answer_at)
+            if fault and fault != Fault.DEVICE:
+                raise fault_of(fault)
+            answer, count = self._answer, self._answer.count
+            data = bytes(memoryview(answer.bytes)[:count])
+            known = _mask(bytes(memoryview(answer.known)[:count]))
+            return Answer(Reply(answer.opcode), answer.size, answer.source, bool(answer.denied), data, answer.port, answer.place, known, bool(fault))
 
     def _fill(self, request: Request) -> None:
         """Writes a request into the struct."""
@@ -67,8 +79,9 @@ class Model:
 
         Refused, a ValueError, with NO_BYTE if no port has the address, or with DEVICE if a device has it; ValueError after `close`.
         """
-        byte, known = ctypes.c_uint8(), ctypes.c_uint8()
-        fault = _library.model_peek(self._at, check_number("address", address, 64), ctypes.byref(byte), ctypes.byref(known))
+        place, byte, known = check_number("address", address, 64), ctypes.c_uint8(), ctypes.c_uint32()
+        with self._handle.lock:
+            fault = _library.model_peek(self._handle.at, place, ctypes.byref(byte), ctypes.byref(known))
         if fault:
             raise fault_of(fault)
         return byte.value if known.value else None
@@ -78,8 +91,9 @@ class Model:
 
         Refused as of `peek`; MemoryError if there is no memory for it, and then the model is as it was.
         """
-        value = 0 if byte is None else check_number("byte", byte, 8)
-        fault = _library.model_poke(self._at, check_number("address", address, 64), value, byte is not None)
+        place, value = check_number("address", address, 64), 0 if byte is None else check_number("byte", byte, 8)
+        with self._handle.lock:
+            fault = _library.model_poke(self._handle.at, place, value, byte is not None)
         if fault:
             raise fault_of(fault)
 
@@ -90,19 +104,20 @@ class Model:
         Refused, a ValueError, with NO_LINK if the system does not say `resets = true`; MemoryError if there is no memory for what is
         loaded; ValueError after `close`. After the first two the model is as it was.
         """
-        fault = _library.model_reset(self._at)
+        with self._handle.lock:
+            fault = _library.model_reset(self._handle.at)
         if fault:
             raise fault_of(fault)
 
     @property
     def masters(self) -> int:
         """How many masters there are; 0 after `close`."""
-        return _library.model_masters(self._at)
+        return _library.count_of(_library.model_masters, self._handle)
 
     @property
     def ports(self) -> int:
         """How many ports there are, the error port among them as the last; 0 after `close`."""
-        return _library.model_ports(self._at)
+        return _library.count_of(_library.model_ports, self._handle)
 
     def close(self) -> None:
         """Gives the memory back; a second time does nothing."""

@@ -7,8 +7,8 @@ from ._library import LANES
 from .judge import Judge
 from .messages import Beat, Channel, Side, link_of
 
-_FIELDS = {Channel.A: ("opcode", "param", "size", "source", "address", "mask", "data"),
-           Channel.D: ("opcode", "size", "source", "denied", "data", "corrupt")}
+_FIELDS = {Channel.A: ("opcode", "param", "size", "source", "address", "mask", "data", "corrupt"),
+           Channel.D: ("opcode", "param", "size", "source", "denied", "data", "corrupt")}
 _ACCESS_ACK_DATA = 1
 _HANDSHAKE = ("valid", "ready")
 # Within a clock cycle beats cross in this order, and of each by rising number (docs/reference/captures.md, "The order of beats").
@@ -20,8 +20,8 @@ class Monitor:
 
     judge: the judge. links: the links that are watched by their names, m0 or p3, with what stands before the specification's names
     of their signals in `sample`: {"m0": "core_"} reads core_a_valid, core_a_ready, core_a_opcode, ... absent: the
-    specification's names of signals that the design does not have, as a_param or d_denied; they are 0 at all links. Without
-    d_corrupt a beat is marked as the standard asks: one with data is if it is denied.
+    specification's names of signals that the design does not have, as a_corrupt, d_param or d_denied; they are 0 at all links.
+    Without d_corrupt a beat is marked as the standard asks: one with data is if it is denied.
     ValueError of a name that is no link's. A link that the judge does not watch is refused at its first beat.
     """
 

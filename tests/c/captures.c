@@ -134,17 +134,17 @@ static void judge_rows(struct tlx_judge *judge, judging *judges, const struct ro
     int watched = links == TLX_BOTH_LINKS || links == TLX_EACH_LINK || (links == TLX_MASTER_LINKS) == (beat->side == TLX_MASTER);
     uint32_t fault = watched ? judges(judge, beat) : TLX_OK;
     if (fault != TLX_OK) {
-      tlx_judge_text(judge, verdict, room);
+      text_of(judge, verdict, room);
       if (!has_words(verdict, beat, fault)) verdict[0] = 0;
       return;
     }
   }
   if (asked->complete && tlx_judge_end(judge) == TLX_INCOMPLETE) {
-    tlx_judge_text(judge, verdict, room);
+    text_of(judge, verdict, room);
     return;
   }
-  snprintf(verdict, room, "lawful: %zu rows, %" PRIu64 " requests, %" PRIu64 " answered\n", count, tlx_judge_requests(judge),
-           tlx_judge_answered(judge));
+  snprintf(verdict, room, "lawful: %zu rows, %" PRIu64 " requests, %" PRIu64 " answered\n", count, requests_of(judge),
+           answered_of(judge));
 }
 
 /* Hands in the images of a system, which lie in a folder. */
@@ -152,8 +152,8 @@ static int hand_in(struct tlx_system *system, const char *folder) {
   static char bytes[MAX_TEXT];
   char name[512];
   int is_well = 1;
-  for (uint64_t port = 0; port < tlx_system_ports(system); port++)
-    if (tlx_system_image_name(system, port, name, sizeof name))
+  for (uint64_t port = 0; port < system_ports_of(system); port++)
+    if (image_name_of(system, port, name, sizeof name))
       is_well &= tlx_system_image(system, port, bytes, read_file(folder, name, bytes), 0, 0) == TLX_OK;
   return is_well;
 }
@@ -197,17 +197,17 @@ static struct asked read_words(const char *folder, const char *name) {
 static void check_rows(const char *folder, const char *name, judging *judges, const struct row *rows, size_t count, const char *expected) {
   static char file[MAX_TEXT];
   char verdict[2048] = "";
-  struct tlx_system system = {0};
-  struct tlx_judge judge = {0};
+  struct tlx_system *system = NULL;
+  struct tlx_judge *judge = NULL;
   struct asked asked = read_words(folder, name);
   size_t length = read_system_file(folder, name, file);
-  int made = tlx_system_read(&system, file, length, 0, 0) == TLX_OK && hand_in(&system, folder) &&
-             tlx_judge_make(&judge, &system, asked.links, asked.masters, asked.ports, 0, 0) == TLX_OK;
-  judge_rows(&judge, judges, rows, count, &asked, verdict, sizeof verdict);
+  int made = tlx_system_read(file, length, TLX_VERSION, &system, 0, 0) == TLX_OK && hand_in(system, folder) &&
+             tlx_judge_make(system, asked.links, asked.masters, asked.ports, &judge, 0, 0) == TLX_OK;
+  judge_rows(judge, judges, rows, count, &asked, verdict, sizeof verdict);
   tell(name, made && !strcmp(verdict, expected));
   if (strcmp(verdict, expected)) fprintf(stderr, "  %s  %s", verdict, expected);
-  tlx_system_free(&system);
-  tlx_judge_free(&judge);
+  tlx_system_free(system);
+  tlx_judge_free(judge);
 }
 
 static void check_capture(const char *folder, const char *name) {

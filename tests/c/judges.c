@@ -25,47 +25,47 @@ static const struct { const char *file; uint32_t fault; const char *text; } FILE
      "system: port 0: image can't be read"},
 };
 
-static uint32_t read_file_of(struct tlx_judge *judge, const char *file, char *text, size_t room) {
-  return tlx_judge_read(judge, file, strlen(file), TLX_MASTER_LINKS, TLX_ACCEPT_ORDER, TLX_ACCEPT_ORDER, text, room);
+static uint32_t read_file_of(struct tlx_judge **judge, const char *file, char *text, size_t room) {
+  return tlx_judge_read(file, strlen(file), TLX_VERSION, TLX_MASTER_LINKS, TLX_ACCEPT_ORDER, TLX_ACCEPT_ORDER, judge, text, room);
 }
 
 /* The same in two calls. */
-static uint32_t make_of(struct tlx_judge *judge, const char *file, char *text, size_t room) {
-  struct tlx_system system = {0};
-  uint32_t fault = tlx_system_read(&system, file, strlen(file), text, room);
-  if (fault == TLX_OK) fault = tlx_judge_make(judge, &system, TLX_MASTER_LINKS, TLX_ACCEPT_ORDER, TLX_ACCEPT_ORDER, text, room);
-  tlx_system_free(&system);
+static uint32_t make_of(struct tlx_judge **judge, const char *file, char *text, size_t room) {
+  struct tlx_system *system = NULL;
+  uint32_t fault = tlx_system_read(file, strlen(file), TLX_VERSION, &system, text, room);
+  if (fault == TLX_OK) fault = tlx_judge_make(system, TLX_MASTER_LINKS, TLX_ACCEPT_ORDER, TLX_ACCEPT_ORDER, judge, text, room);
+  tlx_system_free(system);
   return fault;
 }
 
 /* A model of it, in two calls. */
 static uint32_t make_model_of(const char *file, char *text, size_t room) {
-  struct tlx_system system = {0};
-  struct tlx_model model = {0};
-  uint32_t fault = tlx_system_read(&system, file, strlen(file), text, room);
-  if (fault == TLX_OK) fault = tlx_model_make(&model, &system, text, room);
-  tlx_system_free(&system);
-  tlx_model_free(&model);
+  struct tlx_system *system = NULL;
+  struct tlx_model *model = NULL;
+  uint32_t fault = tlx_system_read(file, strlen(file), TLX_VERSION, &system, text, room);
+  if (fault == TLX_OK) fault = tlx_model_make(system, &model, text, room);
+  tlx_system_free(system);
+  tlx_model_free(model);
   return fault;
 }
 
 static void check_lengths(void) {
   static char longest[(1 << 20) + 1];
-  struct tlx_judge judge = {0};
-  struct tlx_system system = {0};
+  struct tlx_judge *judge = NULL;
+  struct tlx_system *system = NULL;
   char text[128];
   memset(longest, '#', sizeof longest);
-  tell("a file too long", tlx_judge_read(&judge, longest, sizeof longest, 0, 0, 0, text, sizeof text) == TLX_TOO_LONG &&
-       !strcmp(text, "system: longer than 1048576 bytes") && tlx_system_read(&system, longest, sizeof longest, text, sizeof text) == TLX_TOO_LONG &&
+  tell("a file too long", tlx_judge_read(longest, sizeof longest, TLX_VERSION, 0, 0, 0, &judge, text, sizeof text) == TLX_TOO_LONG &&
+       !strcmp(text, "system: longer than 1048576 bytes") && tlx_system_read(longest, sizeof longest, TLX_VERSION, &system, text, sizeof text) == TLX_TOO_LONG &&
        !strcmp(text, "system: longer than 1048576 bytes"));
-  tell("a file as long as it may be", tlx_judge_read(&judge, longest, sizeof longest - 1, 0, 0, 0, text, sizeof text) == TLX_MISSING &&
-       tlx_system_read(&system, longest, sizeof longest - 1, text, sizeof text) == TLX_MISSING);
-  tell("a text that is cut off", tlx_system_read(&system, "bus = 3", 7, text, 8) == TLX_OUT_OF_RANGE && !strcmp(text, "system:"));
+  tell("a file as long as it may be", tlx_judge_read(longest, sizeof longest - 1, TLX_VERSION, 0, 0, 0, &judge, text, sizeof text) == TLX_MISSING &&
+       tlx_system_read(longest, sizeof longest - 1, TLX_VERSION, &system, text, sizeof text) == TLX_MISSING);
+  tell("a text that is cut off", tlx_system_read("bus = 3", 7, TLX_VERSION, &system, text, 8) == TLX_OUT_OF_RANGE && !strcmp(text, "system:"));
 }
 
 void check_files(void) {
-  struct tlx_judge judge = {0};
-  struct tlx_system system = {0};
+  struct tlx_judge *judge = NULL;
+  struct tlx_system *system = NULL;
   char text[128];
   for (size_t k = 0; k < sizeof FILES / sizeof *FILES; k++)
     tell(FILES[k].text, read_file_of(&judge, FILES[k].file, text, sizeof text) == FILES[k].fault && !strcmp(text, FILES[k].text) &&
@@ -75,8 +75,8 @@ void check_files(void) {
   tell("slots and operations that are wrong",
        make_model_of("slots = 257\n[[master]]\nsources = 1\nops = [\"1 get 0x1000 2\"]\n", text, sizeof text) == TLX_OK && !text[0]);
   tell("a header of another version", tlx_version() == TLX_VERSION &&
-       tlx_judge_read_at(&judge, (const uint8_t *)"", 0, 9, 9, 9, TLX_VERSION + 1, text, sizeof text, &(size_t){0}) == TLX_OTHER_VERSION &&
-       tlx_system_read_at(&system, (const uint8_t *)"", 0, TLX_VERSION - 1, text, sizeof text, &(size_t){0}) == TLX_OTHER_VERSION);
+       tlx_judge_read("", 0, TLX_VERSION + 1, 9, 9, 9, &judge, text, sizeof text) == TLX_OTHER_VERSION && !text[0] && !judge &&
+       tlx_system_read("", 0, TLX_VERSION - 1, &system, text, sizeof text) == TLX_OTHER_VERSION && !system);
 }
 
 /* ---- images */
@@ -87,13 +87,13 @@ static const char IMAGES[] =
 
 static void check_names(struct tlx_system *system) {
   char text[64];
-  tell("ports", tlx_system_ports(system) == 3 && tlx_system_ports(0) == 0);
-  tell("the file of an image", tlx_system_image_name(system, 0, text, sizeof text) == 8 && !strcmp(text, "boot.bin"));
-  tell("no file", tlx_system_image_name(system, 1, text, sizeof text) == 0 && !text[0]);
+  tell("ports", system_ports_of(system) == 3 && system_ports_of(0) == 0);
+  tell("the file of an image", image_name_of(system, 0, text, sizeof text) == 8 && !strcmp(text, "boot.bin"));
+  tell("no file", image_name_of(system, 1, text, sizeof text) == 0 && !text[0]);
   memset(text, 'a', sizeof text);
-  tell("no port", tlx_system_image_name(system, 3, text, sizeof text) == 0 && !text[0]);
-  tell("a file that is cut off", tlx_system_image_name(system, 0, text, 5) == 4 && !strcmp(text, "boot"));
-  tell("nowhere for a file", tlx_system_image_name(system, 0, 0, 9) == 0 && tlx_system_image_name(0, 0, text, 9) == 0);
+  tell("no port", image_name_of(system, 3, text, sizeof text) == 0 && !text[0]);
+  tell("a file that is cut off", image_name_of(system, 0, text, 5) == 4 && !strcmp(text, "boot"));
+  tell("nowhere for a file", image_name_of(system, 0, 0, 0) == 0 && image_name_of(system, 0, text, 0) == 0);
 }
 
 static void check_handing_in(struct tlx_system *system) {
@@ -112,8 +112,8 @@ static void check_handing_in(struct tlx_system *system) {
   tell("one too long after it", tlx_system_image(system, 0, "123456789", 9, 0, 0) == TLX_LONG_IMAGE);
 }
 
-static uint32_t make(struct tlx_judge *judge, struct tlx_system *system, char *text, size_t room) {
-  return tlx_judge_make(judge, system, TLX_MASTER_LINKS, TLX_ACCEPT_ORDER, TLX_ACCEPT_ORDER, text, room);
+static uint32_t make(struct tlx_judge **judge, struct tlx_system *system, char *text, size_t room) {
+  return tlx_judge_make(system, TLX_MASTER_LINKS, TLX_ACCEPT_ORDER, TLX_ACCEPT_ORDER, judge, text, room);
 }
 
 /* A get of a word of the ROM is answered `aa`, the reset's byte, and then what is left of the last image, and zeros. */
@@ -122,7 +122,7 @@ static void check_image_read(struct tlx_judge *judge) {
   char text[256];
   int is_well = tlx_judge_step(judge, &beat) == TLX_OK;
   beat = (struct tlx_beat){.channel = TLX_D, .opcode = 1, .size = 2, .known = 0x0f, .lanes = {0x11, 0x22}};
-  is_well &= tlx_judge_step(judge, &beat) == TLX_WRONG_REPLY && tlx_judge_text(judge, text, sizeof text) > 0 &&
+  is_well &= tlx_judge_step(judge, &beat) == TLX_WRONG_REPLY && text_of(judge, text, sizeof text) > 0 &&
              !strcmp(text, "unlawful: line 0, time 0, m0 D: wrong reply: expected AccessAckData aa220000, captured AccessAckData 11220000\n");
   beat.lanes[0] = 0xaa;
   tell("the bytes of an image", is_well && tlx_judge_step(judge, &beat) == TLX_OK);
@@ -130,61 +130,54 @@ static void check_image_read(struct tlx_judge *judge) {
 
 /* A judge and a model are made once all images were handed in, and the system stays. */
 static void check_made(struct tlx_system *system) {
-  struct tlx_judge judge = {0}, second = {0};
-  struct tlx_model model = {0};
+  struct tlx_judge *judge = NULL, *second = NULL;
+  struct tlx_model *model = NULL;
   char text[128];
-  tell("wrong words", tlx_judge_make(&judge, system, 4, 0, 0, 0, 0) == TLX_BAD_ARGUMENT && tlx_judge_make(&judge, system, 0, 3, 0, 0, 0) == TLX_BAD_ARGUMENT &&
-       tlx_judge_make(&judge, system, 0, 0, 3, 0, 0) == TLX_BAD_ARGUMENT &&
-       tlx_judge_make(0, system, 0, 0, 0, text, sizeof text) == TLX_NULL && tlx_judge_make(&judge, 0, 0, 0, 0, 0, 9) == TLX_NULL);
-  tell("a judge with images", make(&judge, system, text, sizeof text) == TLX_OK && !text[0] && tlx_system_ports(system) == 3);
-  tell("a second judge of a system", make(&judge, system, 0, 0) == TLX_FULL && make(&second, system, 0, 0) == TLX_OK);
-  tell("a model beside them", tlx_model_make(&model, system, 0, 0) == TLX_OK && tlx_model_ports(&model) == 4);
-  tell("wrong words before a full handle", tlx_judge_make(&judge, system, 4, 0, 0, 0, 0) == TLX_BAD_ARGUMENT);
-  check_image_read(&judge);
-  tlx_judge_free(&judge);
-  check_image_read(&second);
-  tlx_judge_free(&second);
-  tlx_model_free(&model);
+  tell("wrong words", tlx_judge_make(system, 4, 0, 0, &judge, 0, 0) == TLX_BAD_ARGUMENT && tlx_judge_make(system, 0, 3, 0, &judge, 0, 0) == TLX_BAD_ARGUMENT &&
+       tlx_judge_make(system, 0, 0, 3, &judge, 0, 0) == TLX_BAD_ARGUMENT &&
+       tlx_judge_make(system, 0, 0, 0, 0, text, sizeof text) == TLX_NULL && tlx_judge_make(0, 0, 0, 0, &judge, 0, 0) == TLX_NULL);
+  tell("a judge with images", make(&judge, system, text, sizeof text) == TLX_OK && !text[0] && system_ports_of(system) == 3);
+  tell("a second judge of a system", make(&second, system, 0, 0) == TLX_OK);
+  tell("a model beside them", tlx_model_make(system, &model, 0, 0) == TLX_OK && ports_of(model) == 4);
+  check_image_read(judge);
+  tlx_judge_free(judge);
+  check_image_read(second);
+  tlx_judge_free(second);
+  tlx_model_free(model);
 }
 
 /* A system without images, and one of which nothing can be made. */
 static void check_without_images(void) {
-  struct tlx_system script = {0}, system = {0};
-  struct tlx_judge judge = {0}, second = {0};
-  struct tlx_model model = {0};
+  struct tlx_system *script = NULL, *system = NULL;
+  struct tlx_judge *judge = NULL, *second = NULL;
+  struct tlx_model *model = NULL;
   char text[128];
-  tlx_system_read(&script, SYSTEM, strlen(SYSTEM), 0, 0);
-  tell("a script's system", tlx_system_ports(&script) == 2 && tlx_system_image_name(&script, 0, text, sizeof text) == 0 &&
-       tlx_system_image(&script, 0, "", 0, 0, 0) == TLX_NO_IMAGE && make(&judge, &script, 0, 0) == TLX_OK && tlx_model_make(&model, &script, 0, 0) == TLX_OK);
-  tell("a full judge before an empty system", make(&judge, &system, 0, 0) == TLX_FULL);
-  tlx_system_read(&system, TOO_MANY_SOURCES, strlen(TOO_MANY_SOURCES), 0, 0);
-  tell("a system that stays after a fault", make(&second, &system, 0, 0) == TLX_BAD_SOURCES && make(&second, &system, 0, 0) == TLX_BAD_SOURCES);
-  tlx_system_free(&system);
-  tlx_system_free(&script);
-  tlx_judge_free(&judge);
-  tlx_model_free(&model);
+  tlx_system_read(SYSTEM, strlen(SYSTEM), TLX_VERSION, &script, 0, 0);
+  tell("a script's system", system_ports_of(script) == 2 && image_name_of(script, 0, text, sizeof text) == 0 &&
+       tlx_system_image(script, 0, "", 0, 0, 0) == TLX_NO_IMAGE && make(&judge, script, 0, 0) == TLX_OK && tlx_model_make(script, &model, 0, 0) == TLX_OK);
+  tlx_system_read(TOO_MANY_SOURCES, strlen(TOO_MANY_SOURCES), TLX_VERSION, &system, 0, 0);
+  tell("a system that stays after a fault", make(&second, system, 0, 0) == TLX_BAD_SOURCES && make(&second, system, 0, 0) == TLX_BAD_SOURCES);
+  tlx_system_free(system);
+  tlx_system_free(script);
+  tlx_judge_free(judge);
+  tlx_model_free(model);
 }
 
 void check_images(void) {
-  struct tlx_system system = {0};
-  struct tlx_judge judge = {0};
+  struct tlx_system *system = NULL;
+  struct tlx_judge *judge = NULL;
   char text[128];
-  memset(text, 'a', sizeof text);
-  tell("null files", tlx_system_read(0, IMAGES, 1, text, sizeof text) == TLX_NULL && !text[0] && tlx_system_read(&system, 0, 0, 0, 9) == TLX_NULL);
-  tell("what is empty", tlx_system_ports(&system) == 0 && tlx_system_image(&system, 0, "", 0, 0, 0) == TLX_EMPTY &&
-       make(&judge, &system, text, sizeof text) == TLX_EMPTY && !text[0]);
-  tell("a file with images", tlx_system_read(&system, IMAGES, strlen(IMAGES), text, sizeof text) == TLX_OK && !text[0]);
-  tell("a second file in one handle", tlx_system_read(&system, IMAGES, strlen(IMAGES), 0, 0) == TLX_FULL);
-  check_names(&system);
-  tell("a judge without its first image", make(&judge, &system, text, sizeof text) == TLX_IMAGE_UNREADABLE &&
+  tell("a file with images", tlx_system_read(IMAGES, strlen(IMAGES), TLX_VERSION, &system, text, sizeof text) == TLX_OK && !text[0]);
+  check_names(system);
+  tell("a judge without its first image", make(&judge, system, text, sizeof text) == TLX_IMAGE_UNREADABLE &&
        !strcmp(text, "system: port 0: image can't be read"));
-  tlx_system_image(&system, 0, "", 0, 0, 0);
-  tell("a judge without its second image", make(&judge, &system, text, sizeof text) == TLX_IMAGE_UNREADABLE &&
+  tlx_system_image(system, 0, "", 0, 0, 0);
+  tell("a judge without its second image", make(&judge, system, text, sizeof text) == TLX_IMAGE_UNREADABLE &&
        !strcmp(text, "system: port 2: image can't be read"));
-  check_handing_in(&system);
-  check_made(&system);
+  check_handing_in(system);
+  check_made(system);
   check_without_images();
-  tlx_system_free(&system);
+  tlx_system_free(system);
 }
 
 /* ---- beats */
@@ -199,7 +192,7 @@ static void check_steps(struct tlx_judge *judge) {
   beat.address = 0x1000;
   beat.mask = 0x0f;
   beat.number = 1;
-  tell("a link that there is not", tlx_judge_step(judge, &beat) == TLX_NO_LINK && tlx_judge_text(judge, text, sizeof text) == 0);
+  tell("a link that there is not", tlx_judge_step(judge, &beat) == TLX_NO_LINK && text_of(judge, text, sizeof text) == 0);
   beat.number = 0;
   beat.side = 2;
   tell("a side that there is not", tlx_judge_step(judge, &beat) == TLX_BAD_ARGUMENT);
@@ -209,104 +202,72 @@ static void check_steps(struct tlx_judge *judge) {
   beat.channel = 2;
   tell("a channel that there is not", tlx_judge_step(judge, &beat) == TLX_BAD_ARGUMENT);
   beat.channel = TLX_A;
-  tell("a request", tlx_judge_step(judge, &beat) == TLX_OK && tlx_judge_requests(judge) == 1 && tlx_judge_in_flight(judge) == 1);
+  tell("a request", tlx_judge_step(judge, &beat) == TLX_OK && requests_of(judge) == 1 && in_flight_of(judge) == 1);
   beat.line = 3;
   beat.time = 12;
-  tell("a source in flight", tlx_judge_step(judge, &beat) == TLX_SOURCE_IN_FLIGHT && tlx_judge_text(judge, text, sizeof text) == 50 &&
-       !strcmp(text, "unlawful: line 3, time 12, m0 A: source in flight\n") && tlx_judge_in_flight(judge) == 1);
-  tell("an end with a request left", tlx_judge_end(judge) == TLX_INCOMPLETE && tlx_judge_text(judge, text, sizeof text) > 0 &&
+  tell("a source in flight", tlx_judge_step(judge, &beat) == TLX_SOURCE_IN_FLIGHT && text_of(judge, text, sizeof text) == 50 &&
+       !strcmp(text, "unlawful: line 3, time 12, m0 A: source in flight\n") && in_flight_of(judge) == 1);
+  tell("an end with a request left", tlx_judge_end(judge) == TLX_INCOMPLETE && text_of(judge, text, sizeof text) > 0 &&
        !strcmp(text, "incomplete: 1 requests without reply, the first: line 0, time 0, m0 s1 get 0x1000 2\n") &&
-       tlx_judge_in_flight(judge) == 1);
+       in_flight_of(judge) == 1);
   beat.channel = TLX_D;
   beat.opcode = 1;
   beat.known = 0x0f;
   beat.denied = 2;
   tell("a flag that is none", tlx_judge_step(judge, &beat) == TLX_BAD_ARGUMENT);
   beat.denied = 0;
-  tell("a wrong reply", tlx_judge_step(judge, &beat) == TLX_WRONG_REPLY && tlx_judge_text(judge, text, sizeof text) > 0 &&
+  tell("a wrong reply", tlx_judge_step(judge, &beat) == TLX_WRONG_REPLY && text_of(judge, text, sizeof text) > 0 &&
        !strcmp(text, "unlawful: line 3, time 12, m0 D: wrong reply: expected AccessAckData 00112233, captured AccessAckData 00000000\n"));
   memcpy(beat.lanes, "\x00\x11\x22\x33", 4);
-  tell("the right reply after it", tlx_judge_step(judge, &beat) == TLX_OK && tlx_judge_answered(judge) == 1 && tlx_judge_in_flight(judge) == 0);
-  tell("an end with nothing left", tlx_judge_end(judge) == TLX_OK && tlx_judge_end(0) == TLX_NULL);
+  tell("the right reply after it", tlx_judge_step(judge, &beat) == TLX_OK && answered_of(judge) == 1 && in_flight_of(judge) == 0);
+  tell("an end with nothing left", tlx_judge_end(judge) == TLX_OK);
   tell("a reply more", tlx_judge_step(judge, &beat) == TLX_NO_REQUEST);
-  tell("null beats", tlx_judge_step(judge, 0) == TLX_NULL && tlx_judge_step(0, &beat) == TLX_NULL && tlx_judge_text(judge, 0, 1) == 0);
+  tell("a text into nothing", text_of(judge, 0, 0) == 0);
   tell("a judge in use takes no memory", requests == before);
 }
 
-/* A cycle with a request and a reply on both sides of the crossbar, and arrays of beats. */
-static void check_cycles(void) {
-  static const struct tlx_beat GET = {.opcode = 4, .size = 2, .address = 0x1000, .mask = 0x0f};
-  static const struct tlx_beat GOT = {.channel = TLX_D, .opcode = 1, .size = 2, .known = 0x0f, .lanes = {0x00, 0x11, 0x22, 0x33}};
-  struct tlx_beat cycle[] = {GOT, GOT, GET, GET};
-  struct tlx_judge judge = {0};
-  size_t at = 9;
-  /* what crosses last stands first */
-  cycle[1].side = cycle[2].side = TLX_PORT;
-  tell("a cycle of an empty judge", tlx_judge_cycle(&judge, cycle, 4, &at) == TLX_EMPTY && at == 3 && tlx_judge_steps(&judge, cycle, 4, &at) == TLX_EMPTY && at == 0);
-  int is_well = tlx_judge_read(&judge, SYSTEM, strlen(SYSTEM), TLX_BOTH_LINKS, TLX_ACCEPT_ORDER, TLX_ACCEPT_ORDER, 0, 0) == TLX_OK;
-  tell("a cycle in any order", is_well && tlx_judge_cycle(&judge, cycle, 4, &at) == TLX_OK && at == 4 && tlx_judge_requests(&judge) == 1 && tlx_judge_answered(&judge) == 1);
-  cycle[0].lanes[0] = 1;
-  tell("a cycle up to what is refused", tlx_judge_cycle(&judge, cycle, 4, &at) == TLX_NOT_GIVEN && at == 0 && tlx_judge_in_flight(&judge) == 1);
-  cycle[3].channel = 2;
-  tell("a cycle with another channel", tlx_judge_cycle(&judge, cycle, 4, &at) == TLX_BAD_ARGUMENT && at == 3 && tlx_judge_in_flight(&judge) == 1);
-  cycle[2].side = 2;
-  tell("a cycle with another side", tlx_judge_cycle(&judge, cycle, 4, &at) == TLX_BAD_ARGUMENT && at == 2 && tlx_judge_requests(&judge) == 2);
-  cycle[0].lanes[0] = 0;
-  tell("beats in turn", tlx_judge_steps(&judge, cycle, 2, &at) == TLX_NO_REQUEST && at == 1 && tlx_judge_answered(&judge) == 2);
-  tell("no beats", tlx_judge_steps(&judge, 0, 0, &at) == TLX_OK && at == 0 && tlx_judge_cycle(&judge, 0, 0, &at) == TLX_OK && at == 0);
-  tell("null cycles", tlx_judge_cycle(0, cycle, 1, &at) == TLX_NULL && tlx_judge_cycle(&judge, 0, 1, &at) == TLX_NULL && tlx_judge_cycle(&judge, cycle, 1, 0) == TLX_NULL);
-  tell("null arrays", tlx_judge_steps(0, cycle, 1, &at) == TLX_NULL && tlx_judge_steps(&judge, 0, 1, &at) == TLX_NULL && tlx_judge_steps(&judge, cycle, 1, 0) == TLX_NULL);
-  tlx_judge_free(&judge);
-}
-
 void check_judges(void) {
-  struct tlx_judge judge = {0};
-  struct tlx_beat beat = {0};
+  struct tlx_judge *judge = NULL;
   char text[128];
   memset(text, 'a', sizeof text);
-  tell("a judge of no file", tlx_judge_read(&judge, 0, 0, 0, 0, 0, text, sizeof text) == TLX_NULL && !text[0] && text[1] == 'a');
-  tell("no judge", tlx_judge_read(0, SYSTEM, strlen(SYSTEM), 0, 0, 0, 0, 9) == TLX_NULL);
-  tell("an empty judge", tlx_judge_step(&judge, &beat) == TLX_EMPTY && tlx_judge_end(&judge) == TLX_EMPTY && tlx_judge_requests(&judge) == 0 && tlx_judge_answered(&judge) == 0);
-  tell("links that there are not", tlx_judge_read(&judge, SYSTEM, strlen(SYSTEM), 9, 0, 0, 0, 0) == TLX_BAD_ARGUMENT);
-  tell("an order that there is not", tlx_judge_read(&judge, SYSTEM, strlen(SYSTEM), 0, 9, 0, 0, 0) == TLX_BAD_ARGUMENT);
-  tell("an order of the ports' side that there is not", tlx_judge_read(&judge, SYSTEM, strlen(SYSTEM), 0, 0, 9, 0, 0) == TLX_BAD_ARGUMENT);
+  tell("a judge of an empty file", tlx_judge_read(0, 0, TLX_VERSION, 0, 0, 0, &judge, text, sizeof text) == TLX_MISSING && !strcmp(text, "system: missing master"));
+  tell("links that there are not", tlx_judge_read(SYSTEM, strlen(SYSTEM), TLX_VERSION, 9, 0, 0, &judge, 0, 0) == TLX_BAD_ARGUMENT);
+  tell("an order that there is not", tlx_judge_read(SYSTEM, strlen(SYSTEM), TLX_VERSION, 0, 9, 0, &judge, 0, 0) == TLX_BAD_ARGUMENT);
+  tell("an order of the ports' side that there is not", tlx_judge_read(SYSTEM, strlen(SYSTEM), TLX_VERSION, 0, 0, 9, &judge, 0, 0) == TLX_BAD_ARGUMENT);
   tell("a judge", read_file_of(&judge, SYSTEM, text, sizeof text) == TLX_OK && !text[0]);
-  tell("a second judge in one handle", read_file_of(&judge, SYSTEM, 0, 0) == TLX_FULL);
-  check_steps(&judge);
-  check_cycles();
-  tlx_judge_free(&judge);
-  tlx_judge_free(&judge);
+  check_steps(judge);
+  tlx_judge_free(judge);
   tlx_judge_free(0);
 }
 
 /* A get of 256 bytes that is answered ff, where zeros must come: its fault has the longest line, for which there is room. */
 void check_longest_line(void) {
   static const char LONG[] = "slots = 1\n[[port]]\nkind = \"ram\"\nbase = 0\nlength = 256\n[[master]]\nsources = 1\nops = []\n";
-  struct tlx_judge judge = {0};
+  struct tlx_judge *judge = NULL;
   struct tlx_beat beat = {0};
   char text[2048], expected[2048];
-  int is_well = tlx_judge_read(&judge, LONG, strlen(LONG), TLX_MASTER_LINKS, TLX_ACCEPT_ORDER, TLX_ACCEPT_ORDER, 0, 0) == TLX_OK;
+  int is_well = tlx_judge_read(LONG, strlen(LONG), TLX_VERSION, TLX_MASTER_LINKS, TLX_ACCEPT_ORDER, TLX_ACCEPT_ORDER, &judge, 0, 0) == TLX_OK;
   size_t before = requests;
   beat.line = beat.time = UINT64_MAX;
   beat.opcode = 4;
   beat.size = 8;
   beat.mask = 0xff;
-  is_well &= tlx_judge_step(&judge, &beat) == TLX_OK;
+  is_well &= tlx_judge_step(judge, &beat) == TLX_OK;
   beat.channel = TLX_D;
   beat.opcode = 1;
   beat.known = 0xff;
   memset(beat.lanes, 0xff, sizeof beat.lanes);
-  for (int number = 0; number < 31; number++) is_well &= tlx_judge_step(&judge, &beat) == TLX_OK;
-  is_well &= tlx_judge_step(&judge, &beat) == TLX_WRONG_REPLY;
+  for (int number = 0; number < 31; number++) is_well &= tlx_judge_step(judge, &beat) == TLX_OK;
+  is_well &= tlx_judge_step(judge, &beat) == TLX_WRONG_REPLY;
   char zeros[513], ones[513];
   memset(zeros, '0', 512);
   memset(ones, 'f', 512);
   zeros[512] = ones[512] = 0;
   snprintf(expected, sizeof expected, "unlawful: line %" PRIu64 ", time %" PRIu64 ", m0 D: wrong reply: expected AccessAckData %s, captured AccessAckData %s\n",
            UINT64_MAX, UINT64_MAX, zeros, ones);
-  tell("the longest line", is_well && tlx_judge_text(&judge, text, sizeof text) == strlen(expected) && !strcmp(text, expected) && strlen(text) < 1600 &&
+  tell("the longest line", is_well && text_of(judge, text, sizeof text) == strlen(expected) && !strcmp(text, expected) && strlen(text) < 1600 &&
        requests == before);
-  tlx_judge_free(&judge);
+  tlx_judge_free(judge);
 }
 
 /* ---- buses of 4, 8 and 16 bytes */
@@ -373,12 +334,12 @@ static int refuses_masks(struct tlx_judge *judge, const struct bus *bus) {
 
 void check_buses(void) {
   for (size_t k = 0; k < sizeof BUSES / sizeof *BUSES; k++) {
-    struct tlx_judge judge = {0};
+    struct tlx_judge *judge = NULL;
     const struct bus *bus = &BUSES[k];
-    int is_well = read_file_of(&judge, bus->file, 0, 0) == TLX_OK && refuses_masks(&judge, bus) && gets(&judge, bus, 8) &&
-                  puts_bytes(&judge, bus, 0xa0) && gets(&judge, bus, 0xa0);
-    tell(bus->name, is_well && tlx_judge_requests(&judge) == 3 && tlx_judge_answered(&judge) == 3 && tlx_judge_end(&judge) == TLX_OK);
-    tlx_judge_free(&judge);
+    int is_well = read_file_of(&judge, bus->file, 0, 0) == TLX_OK && refuses_masks(judge, bus) && gets(judge, bus, 8) &&
+                  puts_bytes(judge, bus, 0xa0) && gets(judge, bus, 0xa0);
+    tell(bus->name, is_well && requests_of(judge) == 3 && answered_of(judge) == 3 && tlx_judge_end(judge) == TLX_OK);
+    tlx_judge_free(judge);
   }
 }
 
@@ -394,9 +355,9 @@ static uint32_t get_answered(struct tlx_judge *judge, uint64_t address, uint64_t
 }
 
 static int judged(const char *file, uint64_t known, uint8_t denied, uint32_t expected) {
-  struct tlx_judge judge = {0};
-  int is_so = read_file_of(&judge, file, 0, 0) == TLX_OK && get_answered(&judge, 0x1000, known, denied, "\x00\x5a\x5b\x5c") == expected;
-  tlx_judge_free(&judge);
+  struct tlx_judge *judge = NULL;
+  int is_so = read_file_of(&judge, file, 0, 0) == TLX_OK && get_answered(judge, 0x1000, known, denied, "\x00\x5a\x5b\x5c") == expected;
+  tlx_judge_free(judge);
   return is_so;
 }
 
@@ -405,17 +366,17 @@ static int judged(const char *file, uint64_t known, uint8_t denied, uint32_t exp
 
 /* Bytes of which nothing is known may be anything, until they are put. */
 static void check_unknown(void) {
-  struct tlx_judge judge = {0};
+  struct tlx_judge *judge = NULL;
   struct tlx_beat put = {.size = 2, .address = 0x1000, .mask = 0x0f, .known = 0x0f, .lanes = {1, 2, 3, 4}}, done = {.channel = TLX_D, .size = 2};
   char text[256];
   tell("bytes that may be anything", judged(UNKNOWN, 0x0f, 0, TLX_OK) && judged(UNKNOWN, 0x01, 0, TLX_OK));
   tell("a byte that is known among them", judged(UNKNOWN, 0x0e, 0, TLX_WRONG_REPLY));
   tell("a memory that denies", judged(UNKNOWN, 0, 1, TLX_WRONG_REPLY));
-  int is_well = read_file_of(&judge, UNKNOWN, 0, 0) == TLX_OK && tlx_judge_step(&judge, &put) == TLX_OK && tlx_judge_step(&judge, &done) == TLX_OK;
-  is_well &= get_answered(&judge, 0x1000, 0x07, 0, "\1\2\3\4") == TLX_WRONG_REPLY && tlx_judge_text(&judge, text, sizeof text) > 0;
+  int is_well = read_file_of(&judge, UNKNOWN, 0, 0) == TLX_OK && tlx_judge_step(judge, &put) == TLX_OK && tlx_judge_step(judge, &done) == TLX_OK;
+  is_well &= get_answered(judge, 0x1000, 0x07, 0, "\1\2\3\4") == TLX_WRONG_REPLY && text_of(judge, text, sizeof text) > 0;
   tell("bytes that were put", is_well &&
        !strcmp(text, "unlawful: line 0, time 0, m0 D: wrong reply: expected AccessAckData 01020304, captured AccessAckData 010203xx\n"));
-  tlx_judge_free(&judge);
+  tlx_judge_free(judge);
 }
 
 void check_slaves(void) {

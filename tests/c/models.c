@@ -53,7 +53,8 @@ static const struct { uint8_t opcode, param; } CODES[] = {{4, 0}, {0, 0}, {1, 0}
 static void peek_bytes(struct tlx_model *model, const struct row *row, char *text) {
   *text = 0;
   for (size_t k = 0; k < strlen(row->answer) / 2; k++) {
-    uint8_t byte = 0x5a, known = 0x5a;
+    uint8_t byte = 0x5a;
+    uint32_t known = 0x5a;
     uint32_t fault = tlx_model_peek(model, row->address + k, &byte, &known);
     int is_quiet = byte == 0x5a && known == 0x5a;
     if (fault == TLX_OK && known < 2 && (known || !byte))
@@ -83,7 +84,7 @@ static void answer_row(struct tlx_model *model, uint64_t master, const struct ro
     peek_bytes(model, row, text);
   } else if (row->word == POKE) {
     if (row->given) give_bytes(&bytes, row->given);
-    strcpy(text, words_of((enum tlx_fault)tlx_model_poke(model, row->address, row->given ? bytes.bytes[0] : 0xee, row->given ? 255 : 0)));
+    strcpy(text, words_of((enum tlx_fault)tlx_model_poke(model, row->address, row->given ? bytes.bytes[0] : 0xee, row->given != NULL)));
   } else if (row->word == RESET) {
     strcpy(text, words_of((enum tlx_fault)tlx_model_reset(model)));
   } else {
@@ -104,18 +105,18 @@ static int are_answered(const char *name, struct tlx_model *model, uint64_t mast
   return is_well;
 }
 
-static uint32_t make_of(struct tlx_model *model, const char *file) {
-  struct tlx_system system = {0};
-  uint32_t fault = tlx_system_read(&system, file, strlen(file), 0, 0);
-  if (fault == TLX_OK) fault = tlx_model_make(model, &system, 0, 0);
-  tlx_system_free(&system);
+static uint32_t make_of(struct tlx_model **model, const char *file) {
+  struct tlx_system *system = NULL;
+  uint32_t fault = tlx_system_read(file, strlen(file), TLX_VERSION, &system, 0, 0);
+  if (fault == TLX_OK) fault = tlx_model_make(system, model, 0, 0);
+  tlx_system_free(system);
   return fault;
 }
 
 static void check_rows(const char *name, const char *file, const struct row *rows, size_t count) {
-  struct tlx_model model = {0};
-  tell(name, make_of(&model, file) == TLX_OK && are_answered(name, &model, 0, rows, count));
-  tlx_model_free(&model);
+  struct tlx_model *model = NULL;
+  tell(name, make_of(&model, file) == TLX_OK && are_answered(name, model, 0, rows, count));
+  tlx_model_free(model);
 }
 
 #define CHECK(name, file, ...) \
@@ -201,9 +202,9 @@ static void check_reach(void) {
   static const struct row FIRST[] = {{GET, 0, 0x1000, 0, "AccessAckData aa p0 #0"}, {GET, 0, 0x2000, 0, "AccessAckData bb p1 #0"}};
   static const struct row SECOND[] = {{GET, 0, 0x1000, 0, "AccessAckData denied 00 p2 #0"}, {GET, 0, 0x2000, 0, "AccessAckData bb p1 #1"},
                                       {PUTFULL, 0, 0x1000, "01", "AccessAck denied p2 #1"}, {PEEK, 0, 0x1000, 0, "aa00"}};
-  struct tlx_model model = {0};
-  tell("a master without a path", make_of(&model, FILE) == TLX_OK && are_answered("reach", &model, 0, FIRST, 2) && are_answered("reach", &model, 1, SECOND, 4));
-  tlx_model_free(&model);
+  struct tlx_model *model = NULL;
+  tell("a master without a path", make_of(&model, FILE) == TLX_OK && are_answered("reach", model, 0, FIRST, 2) && are_answered("reach", model, 1, SECOND, 4));
+  tlx_model_free(model);
 }
 
 static void check_large(void) {
@@ -216,19 +217,19 @@ static void check_large(void) {
 
 /* A request of 256 bytes, and one of a whole source space. */
 static void check_longest(void) {
-  struct tlx_model model = {0};
+  struct tlx_model *model = NULL;
   struct tlx_request put = {.size = 8, .address = 0x1100, .source = 65535}, get = {.opcode = 4, .size = 8, .address = 0x1100};
   struct tlx_answer answer;
   for (int k = 0; k < TLX_ROOM; k++) put.bytes[k] = (uint8_t)(255 - k);
   int is_well = make_of(&model, PORT("ram", "0x1000", "1024") "unknown = true\n[[master]]\nsources = 65536\nfirst = 0\n") == TLX_OK;
-  is_well &= tlx_model_serve(&model, 0, &put, &answer) == TLX_OK && answer.source == 65535;
-  is_well &= tlx_model_serve(&model, 0, &get, &answer) == TLX_OK && answer.count == TLX_ROOM && !memcmp(answer.bytes, put.bytes, TLX_ROOM);
+  is_well &= tlx_model_serve(model, 0, &put, &answer) == TLX_OK && answer.source == 65535;
+  is_well &= tlx_model_serve(model, 0, &get, &answer) == TLX_OK && answer.count == TLX_ROOM && !memcmp(answer.bytes, put.bytes, TLX_ROOM);
   for (int k = 0; k < TLX_ROOM; k++) is_well &= answer.known[k] == 1;
   get.address = 0x1200;
-  is_well &= tlx_model_serve(&model, 0, &get, &answer) == TLX_OK && !answer.denied && answer.place == 2;
+  is_well &= tlx_model_serve(model, 0, &get, &answer) == TLX_OK && !answer.denied && answer.place == 2;
   for (int k = 0; k < TLX_ROOM; k++) is_well &= answer.known[k] == 0 && answer.bytes[k] == 0;
   tell("256 bytes", is_well);
-  tlx_model_free(&model);
+  tlx_model_free(model);
 }
 
 /* ---- images and resets */
@@ -239,18 +240,18 @@ static const char IMAGE[] = PORT("rom", "0x1000", "8") "image = \"boot.bin\"\nun
 static void check_image(void) {
   static const struct row FIRST[] = {{GET, 3, 0x1000, 0, "AccessAckData aa2233xxxxxxxxxx p0 #0"}, {PUTFULL, 0, 0x1000, "00", "AccessAck denied p0 #1"}};
   static const struct row SECOND[] = {{GET, 2, 0x1000, 0, "AccessAckData aa778899 p0 #0"}};
-  struct tlx_system system = {0};
-  struct tlx_model first = {0}, second = {0};
+  struct tlx_system *system = NULL;
+  struct tlx_model *first = NULL, *second = NULL;
   char text[128];
-  int is_well = tlx_system_read(&system, IMAGE, strlen(IMAGE), 0, 0) == TLX_OK;
-  tell("a model without its image", is_well && tlx_model_make(&first, &system, text, sizeof text) == TLX_IMAGE_UNREADABLE &&
-       !strcmp(text, "system: port 0: image can't be read") && tlx_model_ports(&first) == 0 && tlx_system_ports(&system) == 1);
-  is_well = tlx_system_image(&system, 0, "\x11\x22\x33", 3, 0, 0) == TLX_OK && tlx_model_make(&first, &system, text, sizeof text) == TLX_OK && !text[0];
-  is_well &= tlx_system_image(&system, 0, "\x66\x77\x88\x99", 4, 0, 0) == TLX_OK && tlx_model_make(&second, &system, 0, 0) == TLX_OK;
-  tlx_system_free(&system);
-  tell("the image of a ROM", is_well && are_answered("image", &first, 0, FIRST, 2) && are_answered("image", &second, 0, SECOND, 1));
-  tlx_model_free(&first);
-  tlx_model_free(&second);
+  int is_well = tlx_system_read(IMAGE, strlen(IMAGE), TLX_VERSION, &system, 0, 0) == TLX_OK;
+  tell("a model without its image", is_well && tlx_model_make(system, &first, text, sizeof text) == TLX_IMAGE_UNREADABLE &&
+       !strcmp(text, "system: port 0: image can't be read") && ports_of(first) == 0 && system_ports_of(system) == 1);
+  is_well = tlx_system_image(system, 0, "\x11\x22\x33", 3, 0, 0) == TLX_OK && tlx_model_make(system, &first, text, sizeof text) == TLX_OK && !text[0];
+  is_well &= tlx_system_image(system, 0, "\x66\x77\x88\x99", 4, 0, 0) == TLX_OK && tlx_model_make(system, &second, 0, 0) == TLX_OK;
+  tlx_system_free(system);
+  tell("the image of a ROM", is_well && are_answered("image", first, 0, FIRST, 2) && are_answered("image", second, 0, SECOND, 1));
+  tlx_model_free(first);
+  tlx_model_free(second);
 }
 
 static void check_model_resets(void) {
@@ -287,26 +288,6 @@ static void check_faults(struct tlx_model *model) {
   tell("what is right after faults", tlx_model_serve(model, 0, &ask, &answer) == TLX_OK && answer.place == 0);
 }
 
-static void check_nulls(struct tlx_model *model) {
-  struct tlx_system system = {0};
-  struct tlx_model empty = {0};
-  struct tlx_request wrong = {.opcode = 6, .size = 9, .source = 99};
-  struct tlx_answer answer;
-  uint8_t byte = 7, known = 7;
-  char text[16];
-  memset(text, 'a', sizeof text);
-  tell("null models", tlx_model_make(0, &system, text, sizeof text) == TLX_NULL && !text[0] && text[1] == 'a' && tlx_model_make(&empty, 0, 0, 9) == TLX_NULL &&
-       tlx_model_serve(0, 0, &wrong, &answer) == TLX_NULL && tlx_model_peek(0, 0, &byte, &known) == TLX_NULL && tlx_model_poke(0, 0, 0, 1) == TLX_NULL &&
-       tlx_model_reset(0) == TLX_NULL && tlx_model_masters(0) == 0 && tlx_model_ports(0) == 0);
-  tell("null arguments", tlx_model_serve(model, 0, 0, &answer) == TLX_NULL && tlx_model_serve(model, 0, &wrong, 0) == TLX_NULL &&
-       tlx_model_peek(model, 0x1000, 0, &known) == TLX_NULL && tlx_model_peek(model, 0x1000, &byte, 0) == TLX_NULL && byte == 7 && known == 7);
-  tell("an empty model", tlx_model_serve(&empty, 9, &wrong, &answer) == TLX_EMPTY && tlx_model_peek(&empty, 0, &byte, &known) == TLX_EMPTY &&
-       tlx_model_poke(&empty, 0, 0, 1) == TLX_EMPTY && tlx_model_reset(&empty) == TLX_EMPTY && tlx_model_masters(&empty) == 0 && tlx_model_ports(&empty) == 0);
-  memset(text, 'a', sizeof text);
-  tell("a model of no system", tlx_model_make(&empty, &system, text, sizeof text) == TLX_EMPTY && !text[0]);
-  tell("a full handle before an empty system", tlx_model_make(model, &system, 0, 0) == TLX_FULL && tlx_model_ports(model) == 3);
-}
-
 /* Gets take no memory, whoever has written the bytes; nor does what is written where bytes were before. */
 static void check_memory_use(struct tlx_model *model) {
   static const struct row ROWS[] = {{GET, 5, 0x1000, 0, "AccessAckData 0011223344000000000000000000000000000000000000000000000000000000 p0 #0"},
@@ -317,43 +298,40 @@ static void check_memory_use(struct tlx_model *model) {
 }
 
 static void check_calls(void) {
-  struct tlx_model model = {0};
-  tell("a model", make_of(&model, SYSTEM) == TLX_OK && tlx_model_masters(&model) == 1 && tlx_model_ports(&model) == 3);
-  check_memory_use(&model);
-  tlx_model_free(&model);
-  tell("a handle that was freed", make_of(&model, SYSTEM) == TLX_OK);
-  check_nulls(&model);
-  check_faults(&model);
-  tlx_model_free(&model);
-  tlx_model_free(&model);
-  tlx_model_free(0);
-  tell("a system of masters alone", make_of(&model, "[[master]]\nsources = 1\n[[master]]\nsources = 1\n") == TLX_OK && tlx_model_masters(&model) == 2 && tlx_model_ports(&model) == 1);
-  tlx_model_free(&model);
+  struct tlx_model *model = NULL;
+  tell("a model", make_of(&model, SYSTEM) == TLX_OK && masters_of(model) == 1 && ports_of(model) == 3);
+  check_memory_use(model);
+  tlx_model_free(model);
+  tell("another model", make_of(&model, SYSTEM) == TLX_OK);
+  check_faults(model);
+  tlx_model_free(model);
+  tell("a system of masters alone", make_of(&model, "[[master]]\nsources = 1\n[[master]]\nsources = 1\n") == TLX_OK && masters_of(model) == 2 && ports_of(model) == 1);
+  tlx_model_free(model);
 }
 
 /* ---- one system for several models and judges */
 
 /* Frees what was made of a system, and the system, in the order that a number below 24 says. After each of them the others answer as before. */
 static int is_free_in_order(int number) {
-  struct tlx_system system = {0};
-  struct tlx_model models[2] = {{0}, {0}};
-  struct tlx_judge judge = {0};
+  struct tlx_system *system = NULL;
+  struct tlx_model *models[2] = {NULL, NULL};
+  struct tlx_judge *judge = NULL;
   struct tlx_beat beat = {.opcode = 4, .size = 2, .source = 1, .address = 0x1000, .mask = 0x0f};
-  int left[] = {0, 1, 2, 3}, is_well = tlx_system_read(&system, SYSTEM, strlen(SYSTEM), 0, 0) == TLX_OK;
-  is_well &= tlx_model_make(&models[0], &system, 0, 0) == TLX_OK && tlx_judge_make(&judge, &system, TLX_MASTER_LINKS, 0, 0, 0, 0) == TLX_OK;
-  is_well &= tlx_model_poke(&models[0], 0x1000, 0x77, 1) == TLX_OK && tlx_model_make(&models[1], &system, 0, 0) == TLX_OK;
+  int left[] = {0, 1, 2, 3}, is_well = tlx_system_read(SYSTEM, strlen(SYSTEM), TLX_VERSION, &system, 0, 0) == TLX_OK;
+  is_well &= tlx_model_make(system, &models[0], 0, 0) == TLX_OK && tlx_judge_make(system, TLX_MASTER_LINKS, 0, 0, &judge, 0, 0) == TLX_OK;
+  is_well &= tlx_model_poke(models[0], 0x1000, 0x77, 1) == TLX_OK && tlx_model_make(system, &models[1], 0, 0) == TLX_OK;
   for (int count = 4; count > 0; number /= count--) {
     int at = number % count, freed = left[at];
     for (int k = at; k + 1 < count; k++) left[k] = left[k + 1];
-    if (freed < 2) tlx_model_free(&models[freed]);
-    if (freed == 2) tlx_judge_free(&judge);
-    if (freed == 3) tlx_system_free(&system);
+    if (freed < 2) tlx_model_free(models[freed]);
+    if (freed == 2) tlx_judge_free(judge);
+    if (freed == 3) tlx_system_free(system);
     for (int k = 0; k + 1 < count; k++) {
-      uint8_t byte = 1, known = 0;
-      if (left[k] < 2) is_well &= tlx_model_peek(&models[left[k]], 0x1000, &byte, &known) == TLX_OK && known && byte == (left[k] ? 0 : 0x77);
-      uint32_t expected = tlx_judge_requests(&judge) ? TLX_SOURCE_IN_FLIGHT : TLX_OK;
-      if (left[k] == 2) is_well &= tlx_judge_step(&judge, &beat) == expected;
-      if (left[k] == 3) is_well &= tlx_system_ports(&system) == 2;
+      uint8_t byte = 1;
+      uint32_t known = 0;
+      if (left[k] < 2) is_well &= tlx_model_peek(models[left[k]], 0x1000, &byte, &known) == TLX_OK && known && byte == (left[k] ? 0 : 0x77);
+      if (left[k] == 2) is_well &= tlx_judge_step(judge, &beat) == (count == 4 ? (uint32_t)TLX_OK : (uint32_t)TLX_SOURCE_IN_FLIGHT);
+      if (left[k] == 3) is_well &= system_ports_of(system) == 2;
     }
   }
   return is_well;

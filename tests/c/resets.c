@@ -10,8 +10,8 @@ const char RESETS[] =
     "[[port]]\nkind = \"regs\"\nbase = 0x2000\nlength = 16\nreset = \"a0a1a2a3\"\non_reset = \"load\"\n"
     "[[master]]\nsources = 2\n";
 
-static uint32_t read_judge(struct tlx_judge *judge, const char *file, uint8_t links) {
-  return tlx_judge_read(judge, file, strlen(file), links, TLX_ACCEPT_ORDER, TLX_ACCEPT_ORDER, 0, 0);
+static uint32_t read_judge(struct tlx_judge **judge, const char *file, uint8_t links) {
+  return tlx_judge_read(file, strlen(file), TLX_VERSION, links, TLX_ACCEPT_ORDER, TLX_ACCEPT_ORDER, judge, 0, 0);
 }
 
 /* Beats of 4 bytes on lanes 0 to 3, at master 0 or at the port of an address. */
@@ -59,67 +59,66 @@ static int is_unknown(struct tlx_judge *judge, uint8_t side, uint64_t address) {
 
 /* A put of 16 bytes has given 8 of them. The next beat is a first one, nobody knows these 8 bytes, and the others are as they were. */
 static void check_put_under_way(void) {
-  struct tlx_judge judge = {0};
+  struct tlx_judge *judge = NULL;
   struct tlx_beat put = {.size = 4, .address = 0x1000, .mask = 0xff, .known = 0xff, .lanes = {9, 9, 9, 9, 9, 9, 9, 9}};
-  int is_well = read_judge(&judge, RESETS, TLX_MASTER_LINKS) == TLX_OK && puts_at(&judge, TLX_MASTER, 0x1008, "\1\2\3\4");
-  is_well &= tlx_judge_step(&judge, &put) == TLX_OK && ask(&judge, TLX_MASTER, 4, 0x1000, "....") == TLX_FIELD_CHANGED;
-  is_well &= tlx_judge_reset(&judge) == TLX_OK && tlx_judge_end(&judge) == TLX_OK;
-  tell("bytes that a put gave before a reset", is_well && is_unknown(&judge, TLX_MASTER, 0x1000));
-  tell("bytes that it did not give", gets_at(&judge, TLX_MASTER, 0x1008, "\1\2\3\4"));
-  tell("bytes that are put again", puts_at(&judge, TLX_MASTER, 0x1000, "\5\6\7\10") && gets_at(&judge, TLX_MASTER, 0x1000, "\5\6\7\10"));
-  tlx_judge_free(&judge);
+  int is_well = read_judge(&judge, RESETS, TLX_MASTER_LINKS) == TLX_OK && puts_at(judge, TLX_MASTER, 0x1008, "\1\2\3\4");
+  is_well &= tlx_judge_step(judge, &put) == TLX_OK && ask(judge, TLX_MASTER, 4, 0x1000, "....") == TLX_FIELD_CHANGED;
+  is_well &= tlx_judge_reset(judge) == TLX_OK && tlx_judge_end(judge) == TLX_OK;
+  tell("bytes that a put gave before a reset", is_well && is_unknown(judge, TLX_MASTER, 0x1000));
+  tell("bytes that it did not give", gets_at(judge, TLX_MASTER, 0x1008, "\1\2\3\4"));
+  tell("bytes that are put again", puts_at(judge, TLX_MASTER, 0x1000, "\5\6\7\10") && gets_at(judge, TLX_MASTER, 0x1000, "\5\6\7\10"));
+  tlx_judge_free(judge);
 }
 
 /* A whole put without a reply may have taken effect, or not. One whose reply has begun has taken effect. */
 static void check_put_in_flight(void) {
-  struct tlx_judge judge = {0};
-  int is_well = read_judge(&judge, RESETS, TLX_MASTER_LINKS) == TLX_OK && puts_at(&judge, TLX_MASTER, 0x1010, "\1\2\3\4");
-  is_well &= ask(&judge, TLX_MASTER, 0, 0x1000, "\1\2\3\4") == TLX_OK && tlx_judge_reset(&judge) == TLX_OK;
-  tell("bytes of a put without a reply", is_well && is_unknown(&judge, TLX_MASTER, 0x1000));
-  tell("bytes of a put with a reply", gets_at(&judge, TLX_MASTER, 0x1010, "\1\2\3\4"));
-  tlx_judge_free(&judge);
+  struct tlx_judge *judge = NULL;
+  int is_well = read_judge(&judge, RESETS, TLX_MASTER_LINKS) == TLX_OK && puts_at(judge, TLX_MASTER, 0x1010, "\1\2\3\4");
+  is_well &= ask(judge, TLX_MASTER, 0, 0x1000, "\1\2\3\4") == TLX_OK && tlx_judge_reset(judge) == TLX_OK;
+  tell("bytes of a put without a reply", is_well && is_unknown(judge, TLX_MASTER, 0x1000));
+  tell("bytes of a put with a reply", gets_at(judge, TLX_MASTER, 0x1010, "\1\2\3\4"));
+  tlx_judge_free(judge);
 }
 
 /* ---- what a reset loads */
 
 static void check_load(uint8_t links, uint8_t side, const char *name) {
-  struct tlx_judge judge = {0};
-  int is_well = read_judge(&judge, RESETS, links) == TLX_OK && gets_at(&judge, side, 0x2000, "\xa0\xa1\xa2\xa3");
+  struct tlx_judge *judge = NULL;
+  int is_well = read_judge(&judge, RESETS, links) == TLX_OK && gets_at(judge, side, 0x2000, "\xa0\xa1\xa2\xa3");
   for (int k = 0; k < 2; k++) {
-    is_well &= puts_at(&judge, side, 0x2000, "\1\2\3\4") && gets_at(&judge, side, 0x2000, "\1\2\3\4");
-    is_well &= puts_at(&judge, side, 0x1000, "\5\6\7\10") && tlx_judge_reset(&judge) == TLX_OK;
-    is_well &= gets_at(&judge, side, 0x2000, "\xa0\xa1\xa2\xa3") && gets_at(&judge, side, 0x1000, "\5\6\7\10");
+    is_well &= puts_at(judge, side, 0x2000, "\1\2\3\4") && gets_at(judge, side, 0x2000, "\1\2\3\4");
+    is_well &= puts_at(judge, side, 0x1000, "\5\6\7\10") && tlx_judge_reset(judge) == TLX_OK;
+    is_well &= gets_at(judge, side, 0x2000, "\xa0\xa1\xa2\xa3") && gets_at(judge, side, 0x1000, "\5\6\7\10");
   }
   /* a put to registers that the reset cut short is nothing to what it loads */
-  is_well &= ask(&judge, side, 0, 0x2000, "\1\2\3\4") == TLX_OK && tlx_judge_reset(&judge) == TLX_OK;
-  tell(name, is_well && gets_at(&judge, side, 0x2000, "\xa0\xa1\xa2\xa3"));
-  tlx_judge_free(&judge);
+  is_well &= ask(judge, side, 0, 0x2000, "\1\2\3\4") == TLX_OK && tlx_judge_reset(judge) == TLX_OK;
+  tell(name, is_well && gets_at(judge, side, 0x2000, "\xa0\xa1\xa2\xa3"));
+  tlx_judge_free(judge);
 }
 
 /* ---- what is in flight, and what goes on */
 
 static void check_flight(void) {
-  struct tlx_judge judge = {0};
+  struct tlx_judge *judge = NULL;
   char text[256], after[256];
-  int is_well = read_judge(&judge, RESETS, TLX_MASTER_LINKS) == TLX_OK && puts_at(&judge, TLX_MASTER, 0x1008, "\1\2\3\4");
-  is_well &= ask(&judge, TLX_MASTER, 4, 0x1000, "....") == TLX_OK && tlx_judge_end(&judge) == TLX_INCOMPLETE;
-  is_well &= tlx_judge_text(&judge, text, sizeof text) > 0 && tlx_judge_reset(&judge) == TLX_OK;
-  tell("the counts go on", is_well && tlx_judge_requests(&judge) == 2 && tlx_judge_answered(&judge) == 1 && tlx_judge_in_flight(&judge) == 1);
-  tell("the text stays", tlx_judge_text(&judge, after, sizeof after) > 0 && !strcmp(text, after));
-  tell("an end after a reset", tlx_judge_end(&judge) == TLX_OK);
-  tell("a reply to a request before the reset", reply(&judge, TLX_MASTER, 4, 0x1000, 0x0f, "\x00\x11\x22\x33") == TLX_NO_REQUEST);
-  tell("its source again", gets_at(&judge, TLX_MASTER, 0x1000, "\x00\x11\x22\x33") && tlx_judge_requests(&judge) == 3 &&
-       tlx_judge_answered(&judge) == 2 && tlx_judge_end(&judge) == TLX_OK);
-  tlx_judge_free(&judge);
+  int is_well = read_judge(&judge, RESETS, TLX_MASTER_LINKS) == TLX_OK && puts_at(judge, TLX_MASTER, 0x1008, "\1\2\3\4");
+  is_well &= ask(judge, TLX_MASTER, 4, 0x1000, "....") == TLX_OK && tlx_judge_end(judge) == TLX_INCOMPLETE;
+  is_well &= text_of(judge, text, sizeof text) > 0 && tlx_judge_reset(judge) == TLX_OK;
+  tell("the counts go on", is_well && requests_of(judge) == 2 && answered_of(judge) == 1 && in_flight_of(judge) == 1);
+  tell("the text stays", text_of(judge, after, sizeof after) > 0 && !strcmp(text, after));
+  tell("an end after a reset", tlx_judge_end(judge) == TLX_OK);
+  tell("a reply to a request before the reset", reply(judge, TLX_MASTER, 4, 0x1000, 0x0f, "\x00\x11\x22\x33") == TLX_NO_REQUEST);
+  tell("its source again", gets_at(judge, TLX_MASTER, 0x1000, "\x00\x11\x22\x33") && requests_of(judge) == 3 &&
+       answered_of(judge) == 2 && tlx_judge_end(judge) == TLX_OK);
+  tlx_judge_free(judge);
 }
 
 static void check_refusals(void) {
-  struct tlx_judge judge = {0};
-  tell("a reset of nothing", tlx_judge_reset(0) == TLX_NULL && tlx_judge_reset(&judge) == TLX_EMPTY);
-  int is_well = read_judge(&judge, SYSTEM, TLX_MASTER_LINKS) == TLX_OK && ask(&judge, TLX_MASTER, 4, 0x1000, "....") == TLX_OK;
-  is_well &= tlx_judge_reset(&judge) == TLX_NO_LINK && tlx_judge_end(&judge) == TLX_INCOMPLETE;
-  tell("a reset of a system without resets", is_well && reply(&judge, TLX_MASTER, 4, 0x1000, 0x0f, "\x00\x11\x22\x33") == TLX_OK);
-  tlx_judge_free(&judge);
+  struct tlx_judge *judge = NULL;
+  int is_well = read_judge(&judge, SYSTEM, TLX_MASTER_LINKS) == TLX_OK && ask(judge, TLX_MASTER, 4, 0x1000, "....") == TLX_OK;
+  is_well &= tlx_judge_reset(judge) == TLX_NO_LINK && tlx_judge_end(judge) == TLX_INCOMPLETE;
+  tell("a reset of a system without resets", is_well && reply(judge, TLX_MASTER, 4, 0x1000, 0x0f, "\x00\x11\x22\x33") == TLX_OK);
+  tlx_judge_free(judge);
 }
 
 void check_resets(void) {

@@ -1,5 +1,5 @@
 // Walks every call of tlx.hpp, right and refused, in both forms. This file has systems, models and what becomes of objects; judges.cpp is a second
-// file of the same program. What is expected was worked out by hand from tlx.h and docs/reference. It is linked with --wrap for malloc and realloc.
+// file of the same program. What is expected was worked out by hand from tlx.h and docs/reference. It is linked with --wrap for malloc, calloc and realloc.
 // The last line is 'N passed, M failed'.
 #include "check.hpp"
 
@@ -18,19 +18,19 @@ void tell(const std::string &name, bool is_so) {
   if (!is_so) std::fprintf(stderr, "tests/cpp: %s is not as it was worked out\n", name.c_str());
 }
 
-// ---- memory: the library's calls of malloc and realloc come here
+// ---- memory: the library's calls of malloc, calloc and realloc come here
 
 bool is_library_refused;
-bool is_new_refused;
 
 extern "C" {
 void *__real_malloc(std::size_t size);
+void *__real_calloc(std::size_t count, std::size_t size);
 void *__real_realloc(void *old, std::size_t size);
 void *__wrap_malloc(std::size_t size) { return is_library_refused ? nullptr : __real_malloc(size); }
+void *__wrap_calloc(std::size_t count, std::size_t size) { return is_library_refused ? nullptr : __real_calloc(count, size); }
 void *__wrap_realloc(void *old, std::size_t size) { return is_library_refused ? nullptr : __real_realloc(old, size); }
 }
 
-void *operator new(std::size_t size, const std::nothrow_t &) noexcept { return is_new_refused ? nullptr : ::operator new(size); }
 
 // ---- systems
 
@@ -299,12 +299,9 @@ static void check_ends() {
 static void check_memory() {
   tlx::System system = tlx::System::read(SYSTEM), none, images = tlx::System::read(IMAGES);
   tlx::Model model(system), other;
-  is_new_refused = true;
-  tell("no memory for a handle", none.try_read(SYSTEM) == Fault::memory && other.try_make(system) == Fault::memory &&
-       throws(Fault::memory, "", [] { tlx::System::read(SYSTEM); }) && throws(Fault::memory, "", [&] { tlx::Model of(system); }) &&
-       throws(Fault::memory, "", [&] { tlx::Judge of(system); }));
-  is_new_refused = false;
   is_library_refused = true;
+  tell("no memory for a handle", throws(Fault::memory, "", [] { tlx::System::read(SYSTEM); }) && throws(Fault::memory, "", [&] { tlx::Model of(system); }) &&
+       throws(Fault::memory, "", [&] { tlx::Judge of(system); }) && throws(Fault::memory, "", [] { tlx::Judge::read(SYSTEM); }));
   tell("no memory for what it holds", none.try_read(SYSTEM) == Fault::memory && other.try_make(system) == Fault::memory &&
        images.try_image(0, "1") == Fault::memory && throws(Fault::memory, "", [&] { images.image(0, "1"); }));
   tell("no memory for a byte", model.try_poke(0x2000, 1) == Fault::memory && throws(Fault::memory, "", [&] { model.poke(0x2000, 1); }));

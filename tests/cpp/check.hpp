@@ -12,9 +12,8 @@ extern const char SYSTEM[];
 // A memory that keeps its bytes at a reset, and registers at 0x2000 that hold again what they held before.
 extern const char RESETS[];
 
-// Whether the library, or a `new` that may answer null, is refused memory from now on.
+// Whether the library is refused memory from now on.
 extern bool is_library_refused;
-extern bool is_new_refused;
 
 #ifndef TLX_NO_EXCEPTIONS
 // Whether a call throws this fault, with this text; of no text the fault's words.

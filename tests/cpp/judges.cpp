@@ -78,7 +78,12 @@ static void check_making(const tlx::System &system) {
   tell("no such order", judge.try_make(system, TLX_BOTH_LINKS, none, TLX_ANY_ORDER, &why) == Fault::bad_argument && why.empty() &&
        judge.try_make(system, TLX_BOTH_LINKS, TLX_ANY_ORDER, none) == Fault::bad_argument &&
        throws(Fault::bad_argument, "", [&] { tlx::Judge of(system, TLX_EACH_LINK, none, none); }));
-  tell("a judge", judge.try_make(system) == Fault::ok && judge.try_make(system) == Fault::full);
+  tell("a judge", judge.try_make(system) == Fault::ok && judge.try_make(system) == Fault::full && judge.try_read(SYSTEM) == Fault::full);
+  tlx::Judge read = tlx::Judge::read(SYSTEM, TLX_MASTER_LINKS), third_read;
+  tell("a judge that is read", read.step(tlx::beat_a(TLX_MASTER, 0, tlx::get(0x1000, 2, 1), 0x0f)) == Fault::ok &&
+       third_read.try_read("bus = 3", TLX_BOTH_LINKS, TLX_ACCEPT_ORDER, TLX_ACCEPT_ORDER, &why) == Fault::out_of_range && why == "system: bus out of range" &&
+       third_read.try_read(SYSTEM, TLX_PORT_LINKS) == Fault::ok && third_read.requests() == 0 &&
+       throws(Fault::bad_argument, "", [&] { tlx::Judge::read(SYSTEM, TLX_EACH_LINK, none); }));
   tell("a request of both sides", judge.step(tlx::beat_a(TLX_MASTER, 0, tlx::get(0x1000, 2, 1), 0x0f)) == Fault::ok);
   tlx::Judge second(std::move(judge));
   tell("a judge that moved", second.requests() == 1 && judge.requests() == 0 && judge.try_end() == Fault::empty);
@@ -116,10 +121,10 @@ static void check_empty() {
   tell("an empty judge that throws", throws(Fault::empty, "", [&] { (void)judge.step(beat); }) && throws(Fault::empty, "", [&] { judge.reset(); }) &&
        throws(Fault::empty, "", [&] { (void)judge.end(); }));
   beat.side = 2;
-  tell("a fault that comes before an empty handle", judge.try_step(beat) == Fault::bad_argument);
+  tell("an empty judge before another fault", judge.try_step(beat) == Fault::empty);
 }
 
-// A put that a reset cuts short: nobody knows its bytes afterwards, so the judge needs memory for them. Without it the judge is gone.
+// A put that a reset cuts short: nobody knows its bytes afterwards, so the judge needs memory for them. Without it the judge is as it was.
 static void check_resets() {
   const tlx::System system = tlx::System::read(RESETS);
   const tlx_beat put = tlx::beat_a(TLX_MASTER, 0, tlx::put_full(0x1000, 2, 0, RIGHT), 0x0f, RIGHT);
@@ -131,8 +136,9 @@ static void check_resets() {
   is_library_refused = true;
   tell("a reset without memory", throws(Fault::memory, "", [&] { second.reset(); }));
   is_library_refused = false;
-  tell("a judge that is gone", second.try_end() == Fault::empty && second.requests() == 0);
-  tell("another one in its place", second.try_make(system, TLX_MASTER_LINKS) == Fault::ok && second.step(get) == Fault::ok && second.requests() == 1);
+  tell("a judge that is as it was", second.try_end() == Fault::incomplete && second.requests() == 1 && second.step(put) == Fault::source_in_flight);
+  second.reset();
+  tell("the same reset again", second.end() == Fault::ok && second.step(get) == Fault::ok && second.step(reply) == Fault::ok);
 }
 
 // Of a lawful beat want of memory is thrown, and the beat may be given again. The judge keeps no bytes at 0x2000 before it.
@@ -143,6 +149,52 @@ static void check_memory(const tlx::System &system) {
   tell("a beat without memory", judge.try_step(put) == Fault::memory && throws(Fault::memory, "", [&] { (void)judge.step(put); }));
   is_library_refused = false;
   tell("the same beat again", judge.requests() == 0 && judge.step(put) == Fault::ok && judge.requests() == 1);
+}
+
+// Master 0 gets what master 1 puts in the same cycle: the get is served first, since its link has the lower number.
+static void check_cycles() {
+  const tlx::System system = tlx::System::read(
+      "port = [{kind = 'ram', base = 0x1000, length = 64, reset = '00112233'}, {kind = 'ram', base = 0x2000, length = 64}]\n"
+      "master = [{sources = 1}, {sources = 1}]");
+  const tlx_beat put = tlx::beat_a(TLX_MASTER, 1, tlx::put_full(0x1000, 2, 0, WRONG), 0x0f, WRONG);
+  const tlx_beat asks[] = {put, tlx::beat_a(TLX_MASTER, 0, tlx::get(0x1000, 2), 0x0f)};
+  const tlx_beat replies[] = {tlx::beat_d(TLX_MASTER, 1, 0, 2, 0), tlx::beat_d(TLX_MASTER, 0, 1, 2, 0, WRONG)};
+  tlx::Judge answering(system, TLX_MASTER_LINKS), throwing(system, TLX_MASTER_LINKS);
+  std::size_t at = 9;
+  tell("requests of one cycle", answering.try_cycle(asks, 2, at) == Fault::ok && at == 2 && throwing.cycle(asks, 2, at) == Fault::ok);
+  tell("replies of one cycle", answering.try_cycle(replies, 2, at) == Fault::wrong_reply && at == 1 && answering.answered() == 0 &&
+       throwing.cycle(replies, 2, at) == Fault::wrong_reply && at == 1);
+  const tlx_beat right = tlx::beat_d(TLX_MASTER, 0, 1, 2, 0, RIGHT);
+  tell("the right reply after them", throwing.cycle(&right, 1, at) == Fault::ok && at == 1);
+  tell("replies in turn", answering.try_steps(replies, 2, at) == Fault::wrong_reply && at == 1 && answering.answered() == 1 &&
+       throwing.steps(replies, 1, at) == Fault::ok && at == 1 && throwing.steps(&right, 1, at) == Fault::no_request && at == 0);
+  tell("no beats", answering.try_cycle(nullptr, 0, at) == Fault::ok && at == 0 && throwing.steps(nullptr, 0, at) == Fault::ok && at == 0);
+  tlx_beat other = put;
+  other.channel = 2;
+  tell("a channel that there is not", answering.try_cycle(&other, 1, at) == Fault::bad_argument && at == 0 &&
+       throws(Fault::bad_argument, "", [&] { (void)throwing.cycle(&other, 1, at); }) && throws(Fault::bad_argument, "", [&] { (void)throwing.steps(&other, 1, at); }));
+  tell("an empty judge", tlx::Judge().try_cycle(asks, 2, at) == Fault::empty && tlx::Judge().try_steps(asks, 2, at) == Fault::empty);
+}
+
+// A clone goes on from where the other one was, and neither changes with the other.
+static void check_clones(const tlx::System &system) {
+  tlx::Model model(system), empty;
+  model.poke(0x1001, 0x77);
+  tlx::Model clone = model.clone();
+  clone.poke(0x1002, 0x88);
+  tell("a clone of a model", clone.peek(0x1001) == 0x77 && clone.peek(0x1002) == 0x88 && model.peek(0x1002) == 0x22 && clone.ports() == 4);
+  tell("a clone in a full object", model.try_clone(clone) == Fault::full && model.try_clone(empty) == Fault::ok && empty.peek(0x1001) == 0x77);
+  const tlx_beat ask = tlx::beat_a(TLX_MASTER, 0, tlx::get(0x1000, 2, 1), 0x0f), reply = tlx::beat_d(TLX_MASTER, 0, 1, 2, 1, RIGHT);
+  tlx::Judge judge(system, TLX_MASTER_LINKS), other;
+  tell("a judge with a text", judge.step(ask) == Fault::ok && judge.step(ask) == Fault::source_in_flight);
+  tlx::Judge second = judge.clone();
+  tell("a clone of a judge", second.text() == judge.text() && second.in_flight() == 1 && second.step(reply) == Fault::ok && judge.in_flight() == 1 &&
+       judge.try_clone(second) == Fault::full && judge.try_clone(other) == Fault::ok && other.end() == Fault::incomplete);
+  tell("a clone of nothing", tlx::Model().try_clone(clone = tlx::Model()) == Fault::empty && tlx::Judge().try_clone(other = tlx::Judge()) == Fault::empty &&
+       throws(Fault::empty, "", [] { tlx::Model().clone(); }) && throws(Fault::empty, "", [] { tlx::Judge().clone(); }));
+  is_library_refused = true;
+  tell("a clone without memory", model.try_clone(clone) == Fault::memory && throws(Fault::memory, "", [&] { judge.clone(); }) && clone.ports() == 0);
+  is_library_refused = false;
 }
 
 // ---- bytes and makers
@@ -203,6 +255,8 @@ void check_judges() {
   check_empty();
   check_resets();
   check_memory(system);
+  check_cycles();
+  check_clones(system);
   check_bytes();
   check_requests();
   check_beats();

@@ -11,7 +11,8 @@ Each file of this folder has dumps with their rows or their fault:
     rows         what is written behind the header of a capture, but for the line `fault` before a fault; not there if nothing at all is
                  written
     says         the line on standard error
-    fronts       each front of the body gives a front of the rows, with no fault but that of a clock that never rises
+    fronts       the dump is also cut behind each byte. A front of the header is a fault. Else the front has all rows of the times that it
+                 ends, and in their order some of the time in which it is cut, with no fault but those of a dump's end
     judged       the line that tlcheck writes of the dump, if it is given here
     refused      or the one that it writes on standard error
 
@@ -34,7 +35,10 @@ from tlxtools.common import TLCHECK, TLVCD, TOP
 HERE = os.path.dirname(os.path.abspath(__file__))
 WAVES = os.path.join(TOP, "examples", "waves")
 HEADER = common.HEADER + "\n"
-NEVER = "tlvcd: the clock never rises"
+# The faults of a front of a dump: those of its header, and those that are told at its end.
+CUT_HEADER = re.compile(r"tlvcd: line \d+: cut in its header\n")
+ENDED = re.compile(r"tlvcd: (\S+|the clock) never (rises|falls)\n|tlvcd: [^\n]+ is active at every (edge|beat)[^\n]*\n")
+TIME = re.compile(r"(?<!\S)#(\d+)(?=\s)")
 # of what does not begin as a dump
 NO_CAPTURE = "capture: line 1: wrong header\n"
 CUT = "fault\n"
@@ -76,14 +80,36 @@ def wanted(dump):
     return "" if rows is None else HEADER + rows + (CUT if says else ""), says and says + "\n", 1 if says else 0
 
 
-def is_front(answer, whole):
-    """Whether an answer is that of a dump that was cut."""
+def time_of(row):
+    return int(row.split(",")[0])
+
+
+def is_some_of(rows, others):
+    """Whether rows are some of others, in their order."""
+    left = iter(others)
+    return all(row in left for row in rows)
+
+
+def is_front(front, answer, whole):
+    """Whether an answer is that of a front of a dump, whose rows stand in `whole`."""
     rows, said, status = answer
-    if (said, status) == (NEVER + "\n", 1) and rows.endswith(CUT):
+    if not re.search(r"\$enddefinitions\s+\$end\s", front):
+        return rows == "" and status == 1 and bool(CUT_HEADER.fullmatch(said))
+    if ENDED.fullmatch(said) and status == 1 and rows.endswith(CUT):
         rows = rows.removesuffix(CUT)
     elif (said, status) != ("", 0):
         return False
-    return HEADER <= rows and whole.startswith(rows) and rows.endswith("\n")
+    now = int(([0] + TIME.findall(front))[-1])
+    found, lines = rows.removeprefix(HEADER).splitlines(), whole.splitlines()
+    ended = [row for row in lines if time_of(row) < now]
+    return rows.startswith(HEADER) and found[:len(ended)] == ended and is_some_of(found[len(ended):], [row for row in lines if time_of(row) == now])
+
+
+def fronts(dump):
+    """The fronts of a dump that is cut behind each byte, and what tlvcd writes of them."""
+    text = dump.get("head", "") + dump["body"]
+    for end in range(len(text)) if dump.get("fronts") else ():
+        yield text[:end], written(dump["system"], text[:end])
 
 
 def differs(dump):
@@ -92,9 +118,7 @@ def differs(dump):
     answer, right = written(system, head + body), wanted(dump)
     if answer != right:
         return answer
-    fronts = range(len(body)) if dump.get("fronts") else ()
-    others = (written(system, head + body[:end]) for end in fronts)
-    return next((other for other in others if not is_front(other, right[0])), None)
+    return next((other for front, other in fronts(dump) if not is_front(front, other, dump["rows"])), None)
 
 
 def views(system):
@@ -111,7 +135,18 @@ def views(system):
 def times_before(rows, says):
     """The rows of earlier times than a fault: only a beat with an unknown bit has a time."""
     found = re.match(r"tlvcd: time (\d+), ", says)
-    return "".join(row for row in rows.splitlines(keepends=True) if not found or int(row.split(",")[0]) < int(found[1]))
+    return "".join(row for row in rows.splitlines(keepends=True) if not found or time_of(row) < int(found[1]))
+
+
+def verdict_over(text, rows, says, words, folder):
+    """What tlcheck has to say of a text, by the rows of tlvcd, or None, and by its fault."""
+    if not text.lstrip().startswith("$"):
+        return "", NO_CAPTURE, 1
+    fault = ("", says.replace("tlvcd: ", "dump: ", 1).removesuffix("\n") + "\n", 1)
+    if rows is None:
+        return fault
+    judged = ran(TLCHECK, *words, "system.toml", given=HEADER + times_before(rows, says), folder=folder)
+    return fault if says and judged[2] != 3 else judged
 
 
 def wanted_verdict(dump, words, folder):
@@ -120,18 +155,11 @@ def wanted_verdict(dump, words, folder):
         return dump["judged"] + "\n", "", 3 if dump["judged"].startswith("un") else 0
     if "refused" in dump:
         return "", dump["refused"] + "\n", 1
-    if not (dump.get("head", "") + dump["body"]).lstrip().startswith("$"):
-        return "", NO_CAPTURE, 1
-    rows, says = dump.get("rows"), dump.get("says", "")
-    fault = ("", says.replace("tlvcd: ", "dump: ", 1) + "\n", 1)
-    if rows is None:
-        return fault
-    judged = ran(TLCHECK, *words, "system.toml", given=HEADER + times_before(rows, says), folder=folder)
-    return fault if says and judged[2] != 3 else judged
+    return verdict_over(dump.get("head", "") + dump["body"], dump.get("rows"), dump.get("says", ""), words, folder)
 
 
 def judges_wrongly(dump):
-    """What tlcheck says of a dump, if it is not what it has to say."""
+    """What tlcheck says of a dump or of a front of it, if it is not what it has to say."""
     words, is_named = views(dump["system"])
     with tempfile.TemporaryDirectory() as folder:
         with open(os.path.join(folder, "system.toml"), "w", encoding="utf-8", newline="") as file:
@@ -139,7 +167,14 @@ def judges_wrongly(dump):
         answer = ran(TLCHECK, *words, "system.toml", given=dump.get("head", "") + dump["body"], folder=folder)
         if not is_named and answer[1].endswith(": no signals\n"):
             return None
-        return None if answer == wanted_verdict(dump, words, folder) else answer
+        if answer != wanted_verdict(dump, words, folder):
+            return answer
+        for front, (rows, said, _) in fronts(dump):
+            answer = ran(TLCHECK, *words, "system.toml", given=front, folder=folder)
+            rows = rows.removeprefix(HEADER).removesuffix(CUT) if rows else None
+            if answer != verdict_over(front, rows, said, words, folder):
+                return answer
+        return None
 
 
 def dumps():

@@ -4,7 +4,8 @@ The script of a seed is random bytes, random words of scripts, an example with b
 values, lawful ones up to each limit or also some beyond. It runs on one thread and by threads, with histories and a random number
 of threads a port. The program must end within a minute in one of two ways. With status 0 there is nothing on standard error, and
 lines of the formats that agree in both runs. With status 1 there is nothing on standard output, and one line of docs/reference/faults.md,
-the same in both runs. Each seed is also one of a system file and a capture (tests/hostile/hostile_systems.py), and of a dump (tests/hostile/hostile_dumps.py).
+the same in both runs. Each seed is also one of a system file and a capture (tests/hostile/hostile_systems.py), and of three dumps
+(tests/hostile/hostile_dumps.py).
 The gate runs seeds 0 to 999; tests/hostile/hostile 100000 takes some minutes more. It needs the built programs (./tlx, ./tlcheck and ./tlvcd build them;
 TLX=path, TLCHECK=path and TLVCD=path take others).
 """
@@ -155,14 +156,14 @@ def judge(seed, scripts):
 def main():
     count, first = (int(word) for word in (sys.argv[1:] + ["1000", "0"][len(sys.argv) - 1:]))
     need(TLX, TLCHECK, TLVCD)
-    seeds = range(first, first + count)
+    once, thrice = range(first, first + count), range(3 * first, 3 * (first + count))
     with concurrent.futures.ThreadPoolExecutor(os.cpu_count()) as pool, tempfile.TemporaryDirectory() as folder:
         hostile_systems.put_images(folder)
         scripts, systems, dumps = examples(), hostile_systems.examples(), hostile_dumps.examples()
-        for name, program, files_of in (
-                ("scripts", lambda seed: judge(seed, scripts), lambda seed: script_of(seed, scripts)),
-                ("systems", lambda seed: hostile_systems.judge(seed, systems, folder), lambda seed: hostile_systems.files_of(seed, systems)),
-                ("dumps", lambda seed: hostile_dumps.judge(seed, dumps, folder), lambda seed: hostile_dumps.files_of(seed, dumps))):
+        for name, seeds, program, files_of in (
+                ("scripts", once, lambda seed: judge(seed, scripts), lambda seed: script_of(seed, scripts)),
+                ("systems", once, lambda seed: hostile_systems.judge(seed, systems, folder), lambda seed: hostile_systems.files_of(seed, systems)),
+                ("dumps", thrice, lambda seed: hostile_dumps.judge(seed, dumps, folder), lambda seed: hostile_dumps.files_of(seed, dumps))):
             statuses = collections.Counter()
             for seed, (wrong, status) in zip(seeds, pool.map(program, seeds)):
                 statuses[status] += 1

@@ -48,7 +48,7 @@ def changed(rng, dump):
         lines[at:at + 1] = rng.choice([[], [lines[at]] * 2, [lines[other]]])
         lines = lines or [b"\n"]
     text = bytearray(b"".join(lines))
-    for _ in range(rng.randint(0, 3)):
+    for _ in range(rng.randint(1, 3)):
         at = rng.randrange(len(text) + 1)
         text[at:at + rng.randint(0, 2)] = rng.choice(PIECES)
     return bytes(text)

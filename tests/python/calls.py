@@ -15,6 +15,7 @@ import re
 import resource
 import sys
 import tempfile
+import threading
 
 import tlx
 from harness import run_test
@@ -365,8 +366,8 @@ def check_buses(tally):
         judge.steps(array)
         tally.tell(f"a bus of {bus} bytes", (judge.requests, judge.answered, judge.in_flight) == (1, 1, 0))
     wide = tlx.Monitor(judge, {"m0": "m0_"})
-    ask = {"opcode": 4, "param": 0, "size": 3, "source": 0, "address": 0x1008, "mask": 0xFF00, "data": "x" * 128}
-    reply = {"opcode": 1, "size": 3, "source": 0, "denied": 0, "corrupt": 0, "data": format(data, "064b") + "x" * 64}
+    ask = {"opcode": 4, "param": 0, "size": 3, "source": 0, "address": 0x1008, "mask": 0xFF00, "data": "x" * 128, "corrupt": 0}
+    reply = {"opcode": 1, "param": 0, "size": 3, "source": 0, "denied": 0, "corrupt": 0, "data": format(data, "064b") + "x" * 64}
     wide.sample(signals_of(m0_a=ask))
     wide.sample(signals_of(m0_d=reply))
     tally.tell("signals of 128 bits", judge.answered == 2)
@@ -390,6 +391,29 @@ def check_cycles(tally, system):
         tally.tell("its place, before any is judged", (found.index, found.fault, judge.requests) == (3, tlx.Fault.BAD_ARGUMENT, 3))
         tally.raises("a cycle of a text", TypeError, judge.cycle, "a")
     tally.raises("a cycle of a closed judge", ValueError, judge.cycle, cycle)
+    check_links_of_cycles(tally)
+
+
+def check_links_of_cycles(tally):
+    """Two links of one turn: that of the lower number is first, so master 0 gets the bytes from before what master 1 puts."""
+    system = tlx.System("""
+port = [{kind = "ram", base = 0x1000, length = 64, reset = "00112233"}, {kind = "ram", base = 0x2000, length = 64}]
+master = [{sources = 1}, {sources = 1}]""")
+    asks = [tlx.Beat.ask("m1", tlx.Ask.PUT_FULL, 2, 0, 0x1000, 0x0F, 0x04030201), tlx.Beat.ask("m0", tlx.Ask.GET, 2, 0, 0x1000, 0x0F)]
+    replies = [tlx.Beat.reply("m1", tlx.Reply.ACCESS_ACK, 2, 0), tlx.Beat.reply("m0", tlx.Reply.ACCESS_ACK_DATA, 2, 0, 0x33221100)]
+    for order in ("accept", "reply"):
+        judge = tlx.Judge(system, "masters", order)
+        judge.cycle(asks)
+        judge.cycle(replies)
+        tally.tell(f"a get and a put of one cycle by {order}", (judge.requests, judge.answered) == (2, 2))
+        judge = tlx.Judge(system, "masters", order)
+        judge.cycle(asks)
+        found = tally.raises(f"the bytes from after it by {order}", tlx.Unlawful, judge.cycle, [replies[0], changed(replies[1], data=0x04030201)])
+        tally.tell(f"its place by {order}", (found.index, found.fault, judge.answered) == (1, tlx.Fault.WRONG_REPLY, 0))
+    puts = [tlx.Beat.ask(f"p{port}", tlx.Ask.PUT_FULL, 2, 0, 0x1000 * (port + 1), 0x0F, 1) for port in (1, 0)]
+    judge = tlx.Judge(system, "ports")
+    found = tally.raises("one source at two ports", tlx.Unlawful, judge.cycle, puts)
+    tally.tell("the second of them", (found.index, found.fault, judge.requests) == (0, tlx.Fault.SOURCE_IN_FLIGHT, 1))
 
 
 def check_arrays(tally):
@@ -436,14 +460,14 @@ def signals_of(**beats):
 
 
 def check_monitor(tally):
-    ask = {"opcode": 4, "param": 0, "size": 2, "source": 1, "address": 0x1000, "mask": "00001111", "data": "x" * 64}
-    reply = {"opcode": "001", "size": 2, "source": 1, "denied": False, "corrupt": 0, "data": "x" * 32 + format(0x33221100, "032b")}
+    ask = {"opcode": 4, "param": 0, "size": 2, "source": 1, "address": 0x1000, "mask": "00001111", "data": "x" * 64, "corrupt": 0}
+    reply = {"opcode": "001", "param": "0", "size": 2, "source": 1, "denied": False, "corrupt": 0, "data": "x" * 32 + format(0x33221100, "032b")}
 
     def fresh(links="both"):
         return tlx.Monitor(tlx.Judge(tlx.System(SYSTEM), links), {"p0": "p0_", "m0": "m0_"} if links == "both" else {"m0": "m0_"})
 
     monitor = fresh()
-    tally.tell("names", len(monitor.names) == 34 and len(set(monitor.names)) == 34 and {"m0_a_valid", "p0_d_corrupt"} <= set(monitor.names))
+    tally.tell("names", len(monitor.names) == 38 and len(set(monitor.names)) == 38 and {"m0_a_corrupt", "p0_d_param"} <= set(monitor.names))
     monitor.sample(signals_of(p0_a=ask, m0_a=ask))
     monitor.sample(signals_of(m0_d=reply, p0_d=reply))
     tally.tell("beats that pass in one cycle", (monitor.judge.requests, monitor.judge.answered, monitor.beats, monitor.edges) == (1, 1, 4, 2))
@@ -454,7 +478,13 @@ def check_monitor(tally):
     for name, others in (("a_ready unknown", {"m0_a_ready": "x"}), ("valid alone", {"m0_a_ready": 0}), ("valid unknown", {"m0_a_valid": "Z"})):
         monitor.sample({**signals_of(m0_a=ask), **others})
         tally.tell(name, monitor.beats == 0)
-    for field in ("opcode", "param", "size", "source", "address", "mask"):
+    for link, beat, fault in (("m0_a", {**ask, "corrupt": 1}, tlx.Fault.WRONG_CORRUPT_FLAG), ("m0_d", {**reply, "param": 1}, tlx.Fault.WRONG_PARAM)):
+        marked = fresh("masters")
+        if link == "m0_d":
+            marked.sample(signals_of(m0_a=ask))
+        found = tally.raises(f"a {fault.name} of a signal", tlx.Unlawful, marked.sample, signals_of(**{link: beat}))
+        tally.tell("its fault", found.fault is fault)
+    for field in ("opcode", "param", "size", "source", "address", "mask", "corrupt"):
         tally.raises(f"{field} unknown", ValueError, monitor.sample, signals_of(m0_a={**ask, field: "0x"}))
     tally.raises("a signal that is missing", KeyError, monitor.sample, {})
     tally.raises("a signal of no bits", TypeError, monitor.sample, signals_of(m0_a={**ask, "size": "two"}))
@@ -464,8 +494,8 @@ def check_monitor(tally):
     tally.raises("a time of text", TypeError, monitor.sample, signals_of(m0_a=ask), "12")
     tally.tell("nothing was judged", monitor.judge.requests == 0)
     tally.raises("a link that there is not", ValueError, tlx.Monitor, monitor.judge, {"x0": ""})
-    lean = tlx.Monitor(monitor.judge, {"m0": "m0_"}, absent=("a_param", "d_denied", "d_corrupt"))
-    lean.sample(signals_of(m0_a={name: value for name, value in ask.items() if name != "param"}), time=70)
+    lean = tlx.Monitor(monitor.judge, {"m0": "m0_"}, absent=("a_param", "a_corrupt", "d_param", "d_denied", "d_corrupt"))
+    lean.sample(signals_of(m0_a={name: value for name, value in ask.items() if name not in ("param", "corrupt")}), time=70)
     tally.tell("signals that a design lacks", monitor.judge.requests == 1 and "m0_a_param" not in lean.names)
 
 
@@ -499,6 +529,72 @@ def check_wild(tally):
         except kinds:
             raised += 1
     tally.tell(f"20,000 wild calls, of which {done} did something and {raised} raised", done + raised == 20000 and done > 1000 and raised > 1000)
+
+
+def check_clones(tally):
+    """A clone goes on from where the other one was, and neither changes with the other."""
+    system = tlx.System(SYSTEM)
+    model, judge = tlx.Model(system), tlx.Judge(system, "masters", "reply")
+    model.serve(0, tlx.Request.put(0x1000, b"\x77"))
+    clone = model.clone()
+    clone.poke(0x1001, 0x88)
+    tally.tell("a clone of a model", (clone.peek(0x1000), clone.peek(0x1001), model.peek(0x1001)) == (0x77, 0x88, 0x11))
+    tally.tell("its places", [one.serve(0, GET).place for one in (clone, clone, model)] == [1, 2, 1])
+    judge.step(get_beat())
+    second = judge.clone()
+    second.step(tlx.Beat.reply("m0", tlx.Reply.ACCESS_ACK_DATA, 2, 1, 0x33221100))
+    tally.tell("a clone of a judge", (second.in_flight, judge.in_flight, second.links, second.order) == (0, 1, "masters", "reply"))
+    model.close()
+    judge.close()
+    tally.tell("clones alone", clone.peek(0x1000) == 0x77 and second.answered == 1)
+    tally.raises("a clone of a closed model", ValueError, model.clone)
+    tally.raises("a clone of a closed judge", ValueError, judge.clone)
+
+
+def check_threads(tally):
+    """Threads that share a model and a judge: each request is served whole, and each beat is judged once. Then they are closed in use."""
+    system = tlx.System('port = [{kind = "ram", base = 0x1000, length = 64}]\nmaster = [{sources = 8}]')
+    model, judge, wrong, times = tlx.Model(system), tlx.Judge(system, "masters"), [], 400
+
+    def work(number):
+        address, places = 0x1000 + 8 * number, []
+        for turn in range(times):
+            data = bytes([number, turn & 255, 7, 9])
+            places.append(model.serve(0, tlx.Request.put(address, data, number)).place)
+            answer = model.serve(0, tlx.Request.get(address, 2, number))
+            places.append(answer.place)
+            if (answer.data, answer.source, model.peek(address)) != (data, number, number):
+                wrong.append(answer)
+            judge.cycle([tlx.Beat.ask("m0", tlx.Ask.GET, 2, number, address, 0xF)])
+            judge.step(tlx.Beat.reply("m0", tlx.Reply.ACCESS_ACK_DATA, 2, number, 0))
+        wrong.extend(place for place, next_place in zip(places, places[1:]) if place >= next_place)
+
+    def use_until_closed():
+        try:
+            while True:
+                model.serve(0, tlx.Request.get(0x1000, 2))
+                judge.end()
+        except ValueError as closed:
+            ends.append(str(closed))
+
+    run_threads([threading.Thread(target=work, args=(number,)) for number in range(8)])
+    tally.tell("what threads are answered", not wrong and model.serve(0, tlx.Request.get(0x1000, 2)).place == 16 * times)
+    tally.tell("what threads had judged", (judge.requests, judge.answered, judge.in_flight) == (8 * times, 8 * times, 0))
+    ends = []
+    run_threads([threading.Thread(target=use_until_closed) for _ in range(4)], lambda: (model.close(), judge.close()))
+    tally.tell("what is closed in use", ends == ["it is closed"] * 4)
+
+
+def run_threads(threads, meanwhile=lambda: None):
+    """Runs threads to their end, with many changes among them."""
+    interval = sys.getswitchinterval()
+    sys.setswitchinterval(1e-5)
+    for thread in threads:
+        thread.start()
+    meanwhile()
+    for thread in threads:
+        thread.join()
+    sys.setswitchinterval(interval)
 
 
 class Mallinfo(ctypes.Structure):
@@ -599,7 +695,8 @@ def check_want(tally):
 def main():
     tally = Tally("calls")
     check_faults(tally, sys.argv[-1])
-    for check in (check_systems, check_model, check_described, check_judge, check_resets, check_images, check_buses, check_arrays, check_monitor, check_wild):
+    for check in (check_systems, check_model, check_described, check_judge, check_resets, check_images, check_buses, check_arrays, check_monitor,
+                  check_clones, check_threads, check_wild):
         check(tally)
     if "--no-memory" not in sys.argv:
         check_memory(tally)

@@ -106,6 +106,16 @@ use Rattle.made.proofs.lib.next.Given as goal
 abbrev pub invariant-loop : goal.invariant-loop
 invariant-loop l = so_far l.place
 """
+CLONE = """\
+impl Clone for Count {
+    ghost is_clone = { λ count copy. copy ≡ count };
+
+    fn clone(&self) -> Result<Count, AllocError> {
+        Ok(Count { number: self.number, place: self.place })
+    }
+}
+
+"""
 FILES = {
     "src/lib.rt": SOURCE,
     "src/other.rt": OTHER,
@@ -133,6 +143,7 @@ FRESH = [
     ("a definition that is not used", "specs/Rule.antt", "unused count = count", "unused count = 2"),
     ("a type that is not used", "src/other.rt", "Unused(u8)", "Unused(u16)"),
     ("a new function", "src/other.rt", "pub struct Unused", "fn fresh() {}\n\npub struct Unused"),
+    ("a clone of its type that nobody makes", "src/other.rt", "pub struct Unused", CLONE + "pub struct Unused"),
     ("a path that only others use", "src/lib.rt", "use near::Reply", "use distant::Reply"),
     ("the crate of the repository that a name comes from", "src/lib.rt", "use tl_types::Moved", "use tl_ops::bank::Moved"),
     ("the invariants of another function", "proofs/Kept/hidden/Invariants.antt", "abbrev", "unfoldable"),
@@ -182,6 +193,9 @@ def cone_faults():
     other = Edit("made", "made/limit.edit", "file: src/other.rt\nold: pub const LIMIT: u16 = 9;\nnew: pub const LIMIT: u16 = 8;\n")
     if made(FILES, other, "lower: returns") in (None, made({**FILES, "src/lib.rt": SOURCE.replace("count - 1", "count - 3")}, other, "lower: returns")):
         found.append("the function whose goal stays open does not count")
+    clones, asks = OTHER + CLONE, Edit("made", "made/copy.edit", EDIT.text.replace("lower(count)\n", "lower(count.clone())\n"))
+    if made({**FILES, "src/other.rt": clones}, asks) == made({**FILES, "src/other.rt": clones.replace("copy ≡ count", "copy ≡ copy")}, asks):
+        found.append("a clone that is made does not count")
     if made(FILES, EDIT, "gone: returns") is not None or made({**FILES, "src/lib.rt": OTHER}) is not None:
         found.append("a cone is found that can't be known")
     return found

@@ -698,6 +698,32 @@ def check_report(folder, system, one):
     tell("the page has a table for what each port gave", shown.tags.count("h2") == 5 and "<h2>ram</h2>" in text and shown.tags.count("table") >= 8)
 
 
+def check_reach(folder, system, one):
+    """Bins that a file says can't be hit are no goals, and each of its lines has some. One that was hit is named."""
+    def report(text):
+        return run("report", system, one, "--unreachable", write(folder, "bins.txt", text))
+    _, said, _ = run("report", system, one)
+    bins = {line.removeprefix("never: ") for line in said.splitlines() if line.startswith("never: ")}
+    gone = {bin for bin in bins if bin.startswith("mask m0 p0 ") and bin.split()[3] in "345" or bin.startswith("after p1 ")}
+    status, told, _ = report("# a comment\n\nmask m0 * 3-5 *: no such put\nafter p1 * *  : a ROM\n")
+    left = {line.removeprefix("never: ") for line in told.splitlines() if line.startswith("never: ")}
+    tell("unreachable bins are no goals", status == 0 and left == bins - gone and len(gone) == 27 + 16)
+    tell("unreachable bins are counted", "unreachable: mask m0 * 3-5 *: 27: no such put" in told and "unreachable: after p1 * *: 16: a ROM" in told)
+    before, after = (int(re.search(r"^all: \d+ of (\d+),", text, re.M)[1]) for text in (said, told))
+    tell("so many goals are left", before - after == len(gone))
+    status, told, _ = report("edge p1 0 last|first: never asked\nlatency p1 2|3: two or three\n")
+    tell("words between bars", "unreachable: edge p1 0 last|first: 2: never asked" in told and "unreachable: latency p1 2|3: 2: two or three" in told)
+    seen = SEEN[0].split()
+    status, told, why = report(f"{' '.join(seen)}: it was seen\n")
+    tell("a bin that was hit is named", status == 1 and f"reached: {SEEN[0]}: unreachable by {SEEN[0]}" in told and "1 of these bins were reached" in why)
+    for text, why in (("mask m0 p0 3 all\n", "line 1: not `BINS: REASON`"), ("masks m0 p0 3 all: no\n", "line 1: no such bins: masks"),
+                      ("\nmask m0 p0: no\n", "line 2: no such bins: mask m0 p0"), ("mask m9 * * *: no\n", "no bin of the system is left for: mask m9")):
+        status, _, said = report(text)
+        tell(f"{text!r} is refused", status == 1 and why in said and said.count("\n") == 1)
+    status, _, said = run("report", system, one, "--unreachable", os.path.join(folder, "none"))
+    tell("a file that is not there", status == 1 and "can't be read" in said or "No such file" in said)
+
+
 def check_order(folder):
     """No reply overtakes at a master whose replies come in order. The order at a port says nothing of the masters' links."""
     text = SYSTEM.replace("sources = 1\n", "sources = 2\n").replace("[[master]]", "[[master]]\nfifo = true", 1).replace('"rom"', '"rom"\nfifo = true')
@@ -781,7 +807,9 @@ def main():
     need(TLCHECK)
     with tempfile.TemporaryDirectory() as folder:
         system = write(folder, "system.toml", SYSTEM)
-        check_report(folder, system, check_capture(folder, system))
+        one = check_capture(folder, system)
+        check_report(folder, system, one)
+        check_reach(folder, system, one)
         check_order(folder)
         check_mirror(folder)
         check_further(folder)

@@ -82,6 +82,7 @@ STANDARD = dump(scope("tb", CLOCK, "$var wire 1 rst rst_ni $end\n", scope("dut",
                 + get("R", 0x1010, 5) + "#25 1clk " + "#30 0clk 0Ra_valid #35 1clk #40\n")
 STANDARD_TEXT = HEAD + """\
 clock = "tb.clk"
+period = 10
 reset = "tb.rst_ni"
 reset_active = "low"
 """ + PORT.format(name="ram", told="0x1004 to 0x1013 crossed; base = 0x1000 and length = 0x20 hold them") + """\
@@ -98,6 +99,7 @@ CHISEL = dump(scope("TOP", "$var wire 1 clk clock $end\n", HIGH, "$var wire 1 v 
     body="#0 0clk 1rst 0Oa_valid 0Od_valid " + get("I", 0x2000, 2, param=None) + "#5 1clk #10 0clk 0rst #15 1clk #20\n")
 CHISEL_TEXT = HEAD + """\
 clock = "TOP.clock"
+period = 10
 reset = "TOP.reset"
 """ + PORT.format(name="auto_out_1", told="no request crossed") + """\
 signals = "TOP.xbar.auto_out_1_"
@@ -172,7 +174,7 @@ TWO = dump(scope("soc", CLOCK, "$var wire 1 clk aclk $end\n", HIGH, scope("host0
            body="#0 0clk 1rst 0Pa_valid 0Qa_valid 0Pd_valid 0Qd_valid 0Ma_corrupt " + get("M", 0x100, 1) + get("N", 0x8f8, 7, 3)
            + "#5 1clk #10 0clk 0rst #15 1clk #20 0clk 0Ma_valid 0Na_valid " + get("P", 0x100, 1) + get("Q", 0x8f8, size=3)
            + "#25 1clk #30\n")
-TWO_TEXT = HEAD + 'clock = "soc.clk"\nreset = "soc.reset"\n' + PORT.format(
+TWO_TEXT = HEAD + 'clock = "soc.clk"\nperiod = 10\nreset = "soc.reset"\n' + PORT.format(
     name="device_0", told="0x100 to 0x103 crossed; base = 0x100 and length = 0x4 hold them") + """\
 signals = "soc.x.device_0_"
 """ + PORT.format(name="device_1", told="0x8f8 to 0x8ff crossed; base = 0x8f8 and length = 0x8 hold them") + """\
@@ -244,8 +246,93 @@ signals = "tb.slave."
 EDGES = dump(scope("tb", CLOCK, variables("R", "ram_")),
              body=get("R", 0x9000, 1) + "#5 1clk #10 0clk $comment x$end hello $end 0Ra_valid " + get("R", 0x1000, 1)
              + "#15 " + get("R", 0x1008, 1) + "#15 1clk #20 0clk #20 1clk #25 0clk 0Ra_valid #30\n")
-EDGES_TEXT = STANDARD_TEXT.replace("tb.dut.", "tb.").replace('reset = "tb.rst_ni"\nreset_active = "low"\n', NO_RESET).replace(
+EDGES_TEXT = STANDARD_TEXT.replace("tb.dut.", "tb.").replace('period = 10\nreset = "tb.rst_ni"\nreset_active = "low"\n', NO_RESET).replace(
     "0x1004 to 0x1013 crossed; base = 0x1000 and length = 0x20", "0x1000 to 0x1003 crossed; base = 0x1000 and length = 0x4")
+# A link whose scope has a clock of its own, that rises at other times, and a reset that is active at 0 up to 10. In reset a get of 0x4000 stands
+# at the edge at 7, and at 17 one of 0x1004 crosses. The clock of the other link is one more net that rises with that at the top.
+OWN = dump(scope("tb", CLOCK, HIGH, "$var wire 1 p clk_peri $end\n",
+                 scope("slow", "$var wire 1 k clk $end\n$var wire 1 n rst_n $end\n", variables("R", "ram_")),
+                 scope("quick", "$var wire 1 c clk_i $end\n", variables("S", "dram_"))),
+           body="#0 0clk 0k 0c 1rst 0n 0Sa_valid " + get("R", 0x4000, 1) + "#5 1clk 1c #7 1k #10 0clk 0k 0c 0rst 1n " + get("R", 0x1004, 3)
+           + get("S", 0x20, 1) + "#15 1clk 1c #17 1k #18 0Ra_valid #20 0clk 0k 0c 0Sa_valid #25 1clk 1c #27 1k #30\n")
+OWN_TEXT = HEAD + """\
+clock = "tb.clk"
+period = 10
+# TODO tb.clk_peri: another clock? A link that has it needs `clock` and `link_reset`
+reset = "tb.reset"
+""" + PORT.format(
+    name="ram", told="0x1004 to 0x1007 crossed; base = 0x1004 and length = 0x4 hold them") + """\
+clock = "tb.slow.clk"
+link_reset = "tb.slow.rst_n"
+reset_active = "low"
+signals = "tb.slow.ram_"
+""" + PORT.format(name="dram", told="0x20 to 0x23 crossed; base = 0x20 and length = 0x4 hold them") + """\
+signals = "tb.quick.dram_"
+
+# TODO master: no link of a master was found, and a system has at least one
+# [[master]]
+# sources = 1
+"""
+# A design that leaves a_corrupt open: it is z when the get crosses. The parameter of replies is known at the one beat of a reply.
+OPEN = dump(scope("tb", CLOCK, variables("H", "host_", bits=EXTRAS)),
+            body="#0 0clk zHa_corrupt bx Hd_param " + get("H", 0x40, 1) + "#5 1clk #10 0clk 0Ha_valid 1Hd_valid 1Hd_ready b0 Hd_param b1 Hd_opcode "
+            "b10 Hd_size b1 Hd_source 0Hd_denied 0Hd_corrupt b0 Hd_data #15 1clk #16\n")
+OPEN_TEXT = HEAD + 'clock = "tb.clk"\nperiod = 10\n' + NO_RESET + """
+[[master]]
+name = "host"
+# a_source has 4 bits, at most 16 sources; the greatest that crossed is 1
+sources = 2
+bus = 4
+signals = "tb.host_"
+
+[master.wires]
+a_corrupt = "-"  # it is unknown
+"""
+# A link whose handshakes stand elsewhere.
+PARTIAL = dump(scope("tb", CLOCK, variables("R", "ram_", leave=("a_valid", "a_ready", "d_valid", "d_ready"))))
+PARTIAL_TEXT = HEAD + 'clock = "tb.clk"\n' + NO_RESET + PORT.format(name="ram", told="no request crossed") + """\
+signals = "tb.ram_"
+
+[port.wires]
+""" + "".join(f'# TODO {signal} = "..": the dump has no such signal\n' for signal in ("a_valid", "a_ready", "d_valid", "d_ready")) + """
+# TODO master: no link of a master was found, and a system has at least one
+# [[master]]
+# sources = 1
+"""
+# Two structs in two vectors, the highest member first: a get of 4 bytes at 0x40 by source 5 waits, and the port is ready. The dump leaves the
+# leading zeros of the replies out. Two other vectors are called so, and have other widths.
+H2D = "1" "100" "000" "10" "00000101" f"{0x40:032b}" "1111" f"{0:032b}" "0"
+PACKED = dump(scope("tb", CLOCK, "$var wire 120 x tl_h2d [119:0] $end\n$var wire 79 y tl_d2h [78:0] $end\n", scope(
+    "soc", "$var wire 86 h ram_h2d [85:0] $end\n$var wire 52 d ram_d2h [51:0] $end\n")), body=f"#0 0clk b{H2D} h b1 d #5 1clk #10\n")
+PACKED_TEXT = HEAD + 'clock = "tb.clk"\n' + NO_RESET + """\
+# TODO tb.tl_h2d, tb.tl_d2h: two packed structs of a link, of 120 and 79 bits? If so, name bits of them in wires
+""" + PORT.format(
+    name="ram", told="0x40 to 0x43 crossed; base = 0x40 and length = 0x4 hold them") + """
+[port.wires]
+a_valid = "tb.soc.ram_h2d[85]"
+a_ready = "tb.soc.ram_d2h[0]"
+a_opcode = "tb.soc.ram_h2d[84:82]"
+a_param = "tb.soc.ram_h2d[81:79]"
+a_size = "tb.soc.ram_h2d[78:77]"
+a_source = "tb.soc.ram_h2d[76:69]"
+a_address = "tb.soc.ram_h2d[68:37]"
+a_mask = "tb.soc.ram_h2d[36:33]"
+a_data = "tb.soc.ram_h2d[32:1]"
+d_valid = "tb.soc.ram_d2h[51]"
+d_ready = "tb.soc.ram_h2d[0]"
+d_opcode = "tb.soc.ram_d2h[50:48]"
+d_param = "tb.soc.ram_d2h[47:45]"
+d_size = "tb.soc.ram_d2h[44:43]"
+d_source = "tb.soc.ram_d2h[42:35]"
+d_denied = "tb.soc.ram_d2h[1]"
+d_data = "tb.soc.ram_d2h[33:2]"
+a_corrupt = "-"  # the dump has no such signal
+d_corrupt = "-"  # the dump has no such signal
+
+# TODO master: no link of a master was found, and a system has at least one
+# [[master]]
+# sources = 1
+"""
 # A source that is declared bit by bit, in some order: 5 asks for 4 bytes at 0x40. Without one of its bits there is a gap.
 SOURCE = "$var wire 1 s2 host_a_source [2] $end\n$var wire 1 s0 host_a_source[0] $end\n$var wire 1 s3 host_a_source [3] $end\n"
 SPLIT_BODY = "#0 0clk " + get("H", 0x40) + "1s0 0s1 1s2 0s3 #5 1clk #10\n"
@@ -313,7 +400,7 @@ GATES_TEXT = SPLIT_TEXT.replace('signals = "tb.host_"\n', "\n[master.wires]\n" +
 VHDL = dump(scope("tb", CLOCK, "$var wire 1 rst rst_n $end\n", scope("ram(0)", variables("R", spell=ranged))),
             body="#0 Lclk Urst URa_valid WRd_valid -Rd_ready bUU-- Ra_source #5 Hclk 0rst #10 Lclk Hrst "
             + get("R", 0x20, 3).replace("1R", "HR").replace("b11 Ra_source", "bLLHH Ra_source") + "#15 Hclk #20 Lclk\n")
-VHDL_TEXT = HEAD + 'clock = "tb.clk"\nreset = "tb.rst_n"\nreset_active = "low"\n' + PORT.format(
+VHDL_TEXT = HEAD + 'clock = "tb.clk"\nperiod = 10\nreset = "tb.rst_n"\nreset_active = "low"\n' + PORT.format(
     name="ram_0", told="0x20 to 0x23 crossed; base = 0x20 and length = 0x4 hold them") + """\
 signals = "tb.ram(0)."
 
@@ -325,7 +412,7 @@ TEXTS = ((STANDARD, [], STANDARD_TEXT), (CHISEL, [], CHISEL_TEXT), (STRUCTS, [],
          (dump(SEEN), ["--top", "tb.dut"], INNER_TEXT), (dump(SEEN), ["--top=tb.dut"], INNER_TEXT), (TWO, [], TWO_TEXT),
          (DOUBT, [], DOUBT_TEXT), (POLARITY, [], POLARITY_TEXT), (EDGES, [], EDGES_TEXT), (SPLIT, [], SPLIT_TEXT), (GAP, [], GAP_TEXT),
          (ARRAYS, [], ARRAYS_TEXT), (ESCAPED_ARRAYS, [], ESCAPED_ARRAYS_TEXT), (ARRAY_GAP, [], ARRAY_GAP_TEXT), (GATES, [], GATES_TEXT),
-         (VHDL, [], VHDL_TEXT),
+         (VHDL, [], VHDL_TEXT), (OWN, [], OWN_TEXT), (PACKED, [], PACKED_TEXT), (OPEN, [], OPEN_TEXT), (PARTIAL, [], PARTIAL_TEXT),
          (STANDARD[:-3], [], STANDARD_TEXT))
 # Which side a prefix is on, by the rules of tools/draft; none is told by the other words.
 SIDES = (("tb.cpu.", "master"), ("tb.HOST2_", "master"), ("tb.client[1].", "master"), ("tb.dram_", "port"), ("tb.master_port_", None),
@@ -503,6 +590,9 @@ ROWS = (
     (ARRAYS, [(0x1000, 64)], "5,p0,A,4,0,2,1,1000,0f,0000000a0000000f,,\n", "master"),
     (ESCAPED_ARRAYS, [(0x1000, 64)], "5,p0,A,4,0,2,1,1000,0f,0000000a0000000f,,\n", "master"),
     (VHDL, [(0x20, 4)], "15,p0,A,4,0,2,3,20,f,00000000,,\n", "master"),
+    (OWN, [(0x1000, 64), (0x20, 4)], "15,p1,A,4,0,2,1,20,f,00000000,,\n17,p0,A,4,0,2,3,1004,f,00000000,,\n", "master"),
+    (OPEN, [], "5,m0,A,4,0,2,1,40,f,00000000,,\n15,m0,D,1,0,2,1,,,00000000,0,0\n"),
+    (PACKED, [(0x40, 4)], "5,p0,A,4,0,2,5,40,f,00000000,,\n", "master"),
     *((TWO, [(0x100, 64), (0x800, 256)], "15,m0,A,4,0,2,1,100,f,00000000,,0\n15,m1,A,4,0,3,7,8f8,0f,0000000000000000,,\n"
        "25,p0,A,4,0,2,1,100,f,00000000,,\n25,p1,A,4,0,3,0,8f8,f,00000000,,\n", None, lists)
       for lists in (("", ""), ("hosts = [\"host1\", 0]\n", "sources = [{ master = 1, first = 0, stride = 2 }]\n"))),

@@ -12,7 +12,7 @@ The fourth system has links whose replies come in order, core's and `ram`'s.
 Replies that are late, and requests that wait for too long, are of the first system, with resets, and of the third.
 """
 
-from tlxtools.causes import ADAPTED
+from tlxtools.causes import ADAPTED, EXCHANGED
 
 SYSTEM = """[[port]]
 name = "ram"
@@ -114,6 +114,38 @@ CHANGED = f"""10,m1,A,0,0,3,1,2008,ff,{LOW},,
 REFUSED = """10,p0,A,4,0,0,0,1000,01,,,
 11,p0,D,1,,0,0,,,0000000000000000,1,1
 """
+# core gets the four bytes that dma got just before. Source 1 of core got them too, and eight of them were read last.
+TWICE = """8,m0,A,4,0,2,1,2000,0f,,,
+9,m0,D,1,,2,1,,,0000000033221100,0,0
+10,m1,A,4,0,2,0,2000,0f,,,
+11,m1,D,1,,2,0,,,0000000033221100,0,0
+11,m1,A,4,0,3,1,2000,ff,,,
+12,m1,D,1,,3,1,,,7766554433221100,0,0
+12,m0,A,4,0,2,0,1000,0f,,,
+13,m0,D,1,,2,0,,,0000000033221100,0,0
+"""
+# The same, but only core has got them.
+TWICE_OF_ONE = "".join(row + "\n" for row in TWICE.splitlines() if ",m1," not in row)
+# Of two gets in flight at ram the first is answered by the bytes of the second, which dma has put there.
+AHEAD = f"""10,m1,A,0,0,3,0,1008,ff,{LOW},,
+10,p0,A,0,0,3,2,1008,ff,{LOW},,
+11,p0,D,0,,3,2,,,,0,0
+11,m1,D,0,,3,0,,,,0,0
+12,m0,A,4,0,3,0,1000,ff,,,
+12,m1,A,4,0,3,0,1008,ff,,,
+12,p0,A,4,0,3,0,1000,ff,,,
+13,p0,A,4,0,3,2,1008,ff,,,
+14,p0,D,1,,3,0,,,{LOW},0,0
+"""
+# dma gets the word of a reply before, in which core read one lane alone; nothing wrote it.
+WORD = """10,p0,A,4,0,0,0,1002,04,,,
+11,p0,D,1,,0,0,,,8877665544002211,0,0
+12,p0,A,4,0,3,2,1008,ff,,,
+13,p0,D,1,,3,2,,,8877665544002211,0,0
+"""
+ANSWERED = "the captured bytes: another master's request has this answer: "
+SAME_WORD = "the captured bytes: a reply before it has the same word: "
+OF_DMA = ANSWERED + "dma, source 0: get 0x2000 of 4 bytes, line 4, time 10; answered at line 5, time 11"
 BETWEEN = "all beats at the ports' links are lawful up to there, and this reply at core's link is not"
 CASES = (
     ([], OTHER_SOURCE % "7766554433221100", (
@@ -169,6 +201,16 @@ CASES = (
     (["--links", "ports"], ALONE, (
         "the request: ram, source 0 (source 0 of core): get 0x1000 of 1 byte, line 3, time 11",
         "in ram: this reply is unlawful by what crossed at its link alone; all requests there are lawful up to there")),
+    (["--links", "masters"], TWICE, (OF_DMA, *EXCHANGED)),
+    (["--links", "masters"], TWICE_OF_ONE, (
+        f"!{ANSWERED}core, source 1: get 0x2000 of 4 bytes, line 2, time 8; answered at line 3, time 9",
+        SAME_WORD + "core, source 1: get 0x2000 of 4 bytes, line 2, time 8; answered at line 3, time 9")),
+    ([], AHEAD, (ANSWERED + "ram, source 2 (source 0 of dma): get 0x1008 of 8 bytes, line 9, time 13; not answered yet", *EXCHANGED)),
+    (["--links", "ports"], WORD, (
+        SAME_WORD + "ram, source 0 (source 0 of core): get 0x1002 of 1 byte, line 2, time 10; answered at line 3, time 11", *EXCHANGED)),
+    (["--links", "ports"], WORD.replace("3,2,,,88", "3,2,,,99"), (
+        f"!{SAME_WORD}ram, source 0 (source 0 of core): get 0x1002 of 1 byte, line 2, time 10; answered at line 3, time 11",
+        *(f"!{cause}" for cause in EXCHANGED))),
     (["--links", "ports"], REFUSED, (
         "ram supports get of 1 byte there, so it is not denied", "`sizes`, `kind` and `ranges` of the port in the system file")),
     ([], NOBODYS, (

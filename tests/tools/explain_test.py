@@ -1,4 +1,4 @@
-"""Tests tools/explain: on the captures of the examples that are not lawful, with facts worked out by hand, and on 200 random captures with
+"""Tests tools/explain: on the captures of the examples, of which those that are not lawful have facts worked out by hand, and on 200 random captures with
 one wrong reply each, whose wrong byte and whose writers are noted as the capture is made. Then on a dump, on standard input, and on words that
 it has to refuse; pages and save files of GTKWave are compared with what was worked out by hand. The last line is 'N passed, M failed'.
 """
@@ -14,14 +14,16 @@ import tempfile
 
 from explain_cases import APART, APART_CASES, CASES, QUEUED, QUEUED_CASES, RESETTING, SOCKET_CASES, SOCKETS, TIMED_APART_CASES, TIMED_CASES
 from explain_cases import SYSTEM as OF_CASES
+from explained import fault_of_explanation
 from harness import run_test, tell_cases
+from tlxtools import causes
 from tlxtools.bus import Bus
 from tlxtools.causes import ADAPTED, CAUSES, DENIED, SHIFTED
 from tlxtools.common import HEADER, TLCHECK, TOP, system_of
 from tlxtools.explanation import explained, shown
 
 EXPLAIN = os.path.join(TOP, "tools", "explain")
-CAPTURES = os.path.join(TOP, "examples", "captures")
+CAPTURES, SYSTEMS = os.path.join(TOP, "examples", "captures"), os.path.join(TOP, "examples", "systems", "*")
 SEEDS = 200
 SYSTEM = "[[port]]\nkind = 'ram'\nbase = 0x1000\nlength = 32\n" + "[[master]]\nsources = 4\n" * 2
 # Captures of the examples, and lines that are printed below the verdict: by the captures themselves.
@@ -109,6 +111,15 @@ def is_below(front):
     words = words_of(front)
     (verdict, status), (text, ended) = ran(TLCHECK, words), ran(EXPLAIN, words)
     return text.startswith(verdict) and ended == status and (status != 3 or len(text) > len(verdict))
+
+
+def is_named(front):
+    """Whether the object for programs names the fault of a capture, its row and its request."""
+    words = words_of(front)
+    fault = fault_of_explanation(words, ran(TLCHECK, words)[0], front + ".csv")
+    if fault:
+        print(f"tests/tools/explain_test: {front}: {fault}", file=sys.stderr)
+    return not fault
 
 
 def explanation_of(words):
@@ -307,11 +318,11 @@ def rows_of_table(page, head):
 
 def has_causes():
     """Whether docs/reference/causes.md has the causes of tools/tlxtools/causes.py, and these are of the faults of beats in docs/reference/faults.md."""
-    table = {fault.strip("`"): causes.split("<br>") for fault, causes in rows_of_table("reference/causes.md", "| Fault | Look at |")}
+    table = {fault.strip("`"): said.split("<br>") for fault, said in rows_of_table("reference/causes.md", "| Fault | Look at |")}
     faults = {row[0].split("`")[1].partition(":")[0] for row in rows_of_table("reference/faults.md", "| Text | When | Capture |")}
     page = " ".join(content(os.path.join(TOP, "docs", "reference", "causes.md")).split())
     return table == CAUSES and faults == set(CAUSES) and f"in their place: {'; '.join(DENIED)}." in page and (
-        f"stands before them: {'; '.join(SHIFTED)}." in page and f"at its port: {'; '.join(ADAPTED)}." in page)
+        all(f"stands before them: {'; '.join(said)}." in page for said in (causes.EXCHANGED, SHIFTED)) and f"at its port: {'; '.join(ADAPTED)}." in page)
 
 
 def is_shown(page, files, part=slice(1, None)):
@@ -322,8 +333,9 @@ def is_shown(page, files, part=slice(1, None)):
 
 
 def main():
-    fronts = sorted(path.removesuffix(".verdict") for path in glob.glob(os.path.join(CAPTURES, "*.verdict")))
-    cases = [*((is_below, (front,)) for front in fronts), *((has_fact, fact) for fact in FACTS), *((has_lines, case) for case in CASES),
+    fronts = sorted(path.removesuffix(".verdict") for folder in (CAPTURES, SYSTEMS) for path in glob.glob(os.path.join(folder, "*.verdict")))
+    cases = [*((is_below, (front,)) for front in fronts), *((is_named, (front,)) for front in fronts),
+             *((has_fact, fact) for fact in FACTS), *((has_lines, case) for case in CASES),
              *((has_lines, (*case, SOCKETS)) for case in SOCKET_CASES), *((has_lines, (*case, APART)) for case in APART_CASES),
              *((has_lines, (*case, QUEUED)) for case in QUEUED_CASES), *((has_lines, (*case, RESETTING)) for case in TIMED_CASES),
              *((has_lines, (*case, APART)) for case in TIMED_APART_CASES),

@@ -92,6 +92,10 @@ def faults_of(places, call):
     return made
 
 
+# The faults that objects of C++ and Python answer, and no call of C.
+OF_OBJECTS = {"EMPTY", "FULL"}
+
+
 def of_orders(places):
     """The lists of the header: each name is there, each number of a reader is in its list, and two lists of one file agree."""
     numbers = {said.key: said.text for said in places.header}
@@ -116,7 +120,7 @@ def of_orders(places):
     used = {name for names in lists.values() for _, name in names}
     beats = {said.text for function in ("form_number", "beat_number") for said in places.numbers(function)}
     for said in places.header:
-        places.tell(said.key in used or said.key == "OK" or said.text in beats, f"{said.at}: TLX_{said.key} is in no list of faults")
+        places.tell(said.key in used or said.key in OF_OBJECTS or said.key == "OK" or said.text in beats, f"{said.at}: TLX_{said.key} is in no list of faults")
     names = places.files.words("docs/guide/embedding.md", r"\bTLX_(?P<text>[A-Z_]+)\b", every=r"\bTLX_")
     enums = re.findall(r"\bTLX_([A-Z_]+)\b", places.files.text(HEADER))
     for said in names:

@@ -16,6 +16,33 @@ WAVES = [os.path.join(EXAMPLES, "waves", name) for name in ("system.toml", "get.
 LOST = [os.path.join(EXAMPLES, "captures", name) for name in ("system.toml", "lost_write.csv")]
 # A RAM of zeros on a bus of 8 bytes, and two masters: the wide sources of the first are 0 to 3, those of the second 4 to 7.
 SYSTEM = "[[port]]\nkind = 'ram'\nbase = 0x1000\nlength = 256\n[[master]]\nsources = 4\n[[master]]\nname = 'dma'\nsources = 4\n"
+# The same with a clock of ten units of time.
+TIMED = "period = 10\n" + SYSTEM
+# Two links of masters, of which one has a clock of its own: what says the clocks, and constants but for the valid of the first one's requests.
+WIRES = "".join(f"{signal} = {json.dumps(value)}\n" for signal, value in {
+    "a_ready": "1", "a_opcode": ["1", "0", "0"], "a_param": "0", "a_size": "0", "a_source": "0", "a_address": "0", "a_mask": ["0"] * 7 + ["1"],
+    "a_data": "0", "d_valid": "0", "d_ready": "0", "d_opcode": "0", "d_size": "0", "d_source": "0", "d_data": "0", "d_denied": "0",
+    "d_corrupt": "0"}.items())
+CLOCKED = f"""clock = "c"
+%s
+[[master]]
+sources = 1
+[master.wires]
+a_valid = "v"
+{WIRES}
+[[master]]
+sources = 1
+clock = "%s"
+edge = "rising"
+[master.wires]
+a_valid = "0"
+{WIRES}"""
+# The clock c rises at 10 and 20, and falls at 15 and 22; k rises at 4, 10 and 16. A request stands there up to 15.
+CHANGES = {0: "0c 0k 1v", 4: "1k", 7: "0k", 10: "1c 1k", 13: "0k", 15: "0c 0v", 16: "1k", 20: "1c", 22: "0c"}
+CLOCKED_DUMP = ("".join(f"$var wire 1 {name} {name} $end\n" for name in "ckv") + "$enddefinitions $end\n"
+                + "".join(f"#{time} {changed}\n" for time, changed in CHANGES.items()))
+# What SYSTEM says at the top, the second clock, and how many units a clock has.
+PERIODS = (("", "c", 10), ('edge = "falling"', "c", 7), ("", "k", 6), ("period = 4", "c", 4))
 ZEROS = "0" * 16
 # Latencies of ten gets, by rising order 1 to 10: the 5th is the median, the 9th is the 90th percentile, and the 10th the 99th.
 DISTANCES = (7, 1, 10, 4, 2, 9, 3, 8, 6, 5)
@@ -117,6 +144,8 @@ REFUSED = (
     ("a word for a period", ["--period", "fast", "S", "C"], None, 2, "a whole number from 1 on is wanted"),
     ("a period too long", ["--period", "50", "S", "C"], [get(0, "m0", 0), get(20, "m0", 1)], 2,
      "latency: --period 50 is longer than a clock: m0 A has beats at times 0 and 20\n"),
+    ("a period of SYSTEM too long", ["P", "C"], [get(0, "m0", 0), get(9, "m0", 1)], 2,
+     "latency: period = 10 of SYSTEM is longer than a clock: m0 A has beats at times 0 and 9\n"),
     ("no words", [], None, 2, "usage: "),
     ("no such view", ["--links", "all", "S", "C"], None, 2, "invalid choice"),
     ("no folder", ["--csv", "no/file.csv", "S", "C"], None, 1, "latency: no/file.csv: can't be written: "),
@@ -135,10 +164,10 @@ def content(path):
         return file.read()
 
 
-def laid(folder, rows):
+def laid(folder, rows, system=SYSTEM):
     """Writes the system and a capture of these rows into a folder: their paths."""
     paths = [os.path.join(folder, name) for name in ("system.toml", "capture.csv")]
-    for path, text in zip(paths, (SYSTEM, "".join(f"{row}\n" for row in [HEADER, *rows]))):
+    for path, text in zip(paths, (system, "".join(f"{row}\n" for row in [HEADER, *rows]))):
         with open(path, "w", encoding="utf-8") as file:
             file.write(text)
     return paths
@@ -174,7 +203,10 @@ def is_measured_apart():
 def is_refused(_, words, rows, status, text):
     with tempfile.TemporaryDirectory() as folder:
         system, capture = laid(folder, TEN if rows is None else rows)
-        places = {"S": system, "C": capture, "D": WAVES[1]}
+        timed = os.path.join(folder, "timed.toml")
+        with open(timed, "w", encoding="utf-8") as file:
+            file.write(TIMED)
+        places = {"S": system, "C": capture, "D": WAVES[1], "P": timed}
         written, said, ended = ran([places.get(word, word) for word in words], folder)
     return ended == status and text in said and not written and "Traceback" not in said
 
@@ -186,9 +218,36 @@ def is_no_program():
                                  "and TLCHECK=path takes another\n")
 
 
+def has_period(text, period, clocks):
+    """Whether what is told has this period, and so many clocks."""
+    told = json.loads(text)
+    return (told["period"], told["clocks"]) == (period, clocks)
+
+
+def is_timed_by_system():
+    """`period` of SYSTEM says how many units a clock has, and --period goes before it: a get from 0 to 30 takes three clocks of 10, and six of 5."""
+    with tempfile.TemporaryDirectory() as folder:
+        words = laid(folder, [get(0, "m0", 0), data(30, "m0", 0)], TIMED)
+        told = [ran(["--json", *options, *words])[0] for options in ([], ["--period", "5"])]
+        table = ran(words)[0].splitlines()[0]
+    return has_period(told[0], 10, 4) and has_period(told[1], 5, 7) and table == "2 rows, 4 clocks of 10 from time 0 to 30"
+
+
+def is_timed_by_dump(said_at_top, other, period):
+    """Of a dump the first two edges of the fastest clock say it, at which beats cross; `period` of SYSTEM goes before them."""
+    with tempfile.TemporaryDirectory() as folder:
+        system, dump = os.path.join(folder, "system.toml"), os.path.join(folder, "dump.vcd")
+        for path, text in ((system, CLOCKED % (said_at_top, other)), (dump, CLOCKED_DUMP)):
+            with open(path, "w", encoding="utf-8") as file:
+                file.write(text)
+        text, said, status = ran(["--json", "--links", "masters", system, dump])
+    return (status, said) == (0, "") and json.loads(text)["rows"] == 1 and has_period(text, period, 1)
+
+
 def is_dump(*words, given=b""):
     """The get of the dump is asked at 15 and answered at 25, at both links: one clock of 10; it moves a byte in two clocks."""
-    text, said, status = ran(["--period", "10", "--json", WAVES[0], *words], given=given)
+    options = ["--period", "10"] if words and words[0].endswith("csv") else []
+    text, said, status = ran([*options, "--json", WAVES[0], *words], given=given)
     return (status, said) == (0, "") and agrees(json.loads(text), 2, {key: {"bytes_a_clock": 0.5, "busy": 1, **same(1)} for key in BOTH})
 
 
@@ -248,7 +307,8 @@ def is_well(test, words, others=None):
 def main():
     cases = [*((is_measured, case) for case in CASES), *((is_refused, case) for case in REFUSED), (is_no_program, ()), (is_cut, ()),
              (is_dump, (WAVES[1],)), (is_dump, ("-",), {"given": content(WAVES[1])}), (is_dump, (), {"given": content(WAVES[1])}),
-             (is_dump, (WAVES[1].removesuffix("vcd") + "csv",)), (is_spelled_otherwise, ()), (is_measured_apart, ()), (is_table, ()), (is_page, ())]
+             (is_dump, (WAVES[1].removesuffix("vcd") + "csv",)), (is_spelled_otherwise, ()), (is_measured_apart, ()),
+             (is_timed_by_system, ()), *((is_timed_by_dump, case) for case in PERIODS), (is_table, ()), (is_page, ())]
     for (test, words, *_), (holds, why) in zip(cases, side_by_side(is_well, cases)):
         tell(f"{test.__name__} {words[:1]}", holds, why)
 

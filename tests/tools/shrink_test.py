@@ -169,6 +169,18 @@ def check_fifo(folder):
         tell("fifo", done.stdout == wanted, done.stdout + done.stderr)
 
 
+def check_unaligned(folder):
+    """Unaligned requests stay lawful while there is one."""
+    script = os.path.join(folder, "unaligned.toml")
+    master = '[[master]]\nsources = 1\nops = [\n  "0 get {}",\n]\n'
+    with open(script, "w", encoding="utf-8") as file:
+        file.write('unaligned = true\n[[master]]\nsources = 1\nops = ["0 get 0x1001 1", "0 get 0x1000 0"]\n')
+    for text, wanted in (("any(int(ask[3], 0) % (1 << int(ask[4])) for ask in asks)", f"unaligned = true\n\n{master.format('0x1001 1')}"),
+                         ("asks", master.format("0x1000 0"))):
+        done = shrink("--quiet", script, "--", program(folder, f"{FRONT}sys.exit(3 if {text} else 0)\n"))
+        tell("unaligned", done.stdout == wanted, done.stdout + done.stderr)
+
+
 def check_refusals(folder):
     script, command = stimulated(folder, 13, 5), program(folder, FRONT)
     for name, status, why, words in (
@@ -182,7 +194,8 @@ def check_refusals(folder):
 
 def main():
     with tempfile.TemporaryDirectory() as folder:
-        for check in (check_cases, check_order, check_status, check_images, check_lists, check_crossing, check_fifo, check_refusals):
+        for check in (check_cases, check_order, check_status, check_images, check_lists, check_crossing, check_fifo, check_unaligned,
+                      check_refusals):
             check(folder)
 
 

@@ -13,13 +13,17 @@ import tempfile
 import tomllib
 
 from harness import run_test, tell
+from tlxtools import capture
 from tlxtools.common import HEADER, OPERATIONS, SECONDS, TLCHECK, TLX, TOP, carries_data
 
 STIMULATE = os.path.join(TOP, "tools", "stimulate")
+COVERAGE = os.path.join(TOP, "tools", "coverage")
+# The kinds of bins that a run of one request after the other can hit.
+SERIAL = ("asked", "answered", "beats", "mask", "source", "range", "edge", "refused", "lane", "after")
 RTL = os.path.join(TOP, "examples", "rtl", "system.toml")
 CONTROLLER = os.path.join(TOP, "examples", "systems", "microcontroller", "system.toml")
 # What the SHA-256 of a script begins with, by the words that it was made with.
-SUMS = {(RTL, 1, 400, "tlx"): "b54423e2bfd8d430", (RTL, 18446744073709551615, 50, "tlx"): "f45d5a438716774f", (CONTROLLER, 7, 300, "judge"): "06babf5012cefd0f"}
+SUMS = {(RTL, 1, 400, "tlx"): "d74fd2205178d63f", (RTL, 18446744073709551615, 50, "tlx"): "4eba361ae57be1e9", (CONTROLLER, 7, 300, "judge"): "06babf5012cefd0f"}
 SEEDS = range(20)
 OPERATIONS_A_SEED = 400
 
@@ -241,8 +245,50 @@ def check_widths():
         tell(f"{words} is refused", run(RTL, "--seed", 1, "--ops", 1, *words).returncode == 2)
 
 
+def report_of(folder, script_text=None):
+    """What tools/coverage says of the serial run of a script, or of no run."""
+    counts = os.path.join(folder, "counts")
+    paths = [os.path.join(folder, name) for name in ("script.toml", "capture.csv")]
+    with open(counts, "w", encoding="ascii") as file:
+        if script_text is None:
+            file.write("coverage 2\n")
+        else:
+            for path, text in zip(paths, (script_text, "\n".join([HEADER, *capture.capture_of(script_text)[0]]) + "\n")):
+                with open(path, "w", encoding="ascii") as other:
+                    other.write(text)
+            subprocess.run([COVERAGE, "count", *paths], stdout=file, timeout=SECONDS, check=True)
+    return subprocess.run([COVERAGE, "report", RTL, counts], capture_output=True, text=True, timeout=SECONDS, check=True).stdout.splitlines()
+
+
+def check_aims():
+    """A script that aims at bins hits them: each that a run of one request after the other can hit. Other bins have operations too."""
+    with tempfile.TemporaryDirectory() as folder:
+        report, aim = report_of(folder), os.path.join(folder, "report")
+
+        def aimed(lines, count):
+            with open(aim, "w", encoding="ascii") as file:
+                file.writelines(line + "\n" for line in lines)
+            return script(RTL, 1, count, "--aim", aim)
+        for kind in SERIAL:
+            never = [line for line in report if line.startswith(f"never: {kind} ")]
+            for part in (never[at:at + 100] for at in range(0, len(never), 100)):
+                left = set(report_of(folder, aimed(part, 12 * len(part) + 20))) & set(part)
+                tell(f"aimed at {kind}: {sorted(left)[:3]}", not left)
+        for kind in ("in_flight", "at_port", "overtook", "again", "contested", "latency", "gap"):
+            never = [line for line in report if line.startswith(f"never: {kind} ")]
+            tell(f"operations for {kind}", never and len(lines_of(aimed(never, 200))) >= 200)
+        tell("nothing is left: random operations", aimed(["all: 5 of 5, 100 %"], 50) == script(RTL, 1, 50))
+        tell("the same words give the same script", aimed(report, 300) == aimed(report, 300))
+        for text in ("never: asked m0 p0 got 2 aligned\n", "never: asked m0\n", "never: none m0\n"):
+            with open(aim, "w", encoding="ascii") as file:
+                file.write(text)
+            done = run(RTL, "--seed", 1, "--ops", 1, "--aim", aim)
+            tell(f"{text!r} is refused", done.returncode == 2 and "no such bin" in done.stderr and not done.stdout)
+        tell("a report that is not there", run(RTL, "--seed", 1, "--ops", 1, "--aim", os.path.join(folder, "none")).returncode == 2)
+
+
 def main():
-    for check in (check_sums, check_kinds, check_mixes, check_words, check_tables, check_paths, check_no_paths, check_widths):
+    for check in (check_sums, check_kinds, check_mixes, check_words, check_tables, check_paths, check_no_paths, check_widths, check_aims):
         check()
 
 

@@ -65,7 +65,7 @@ CHANGES = (
     ("crates/tl_c/specs/Numbers.antt", "beat.NotSent = 47", "beat.NotSent = 48"),
     ("include/tlx.h", "TLX_WRONG_MASK = 36", "TLX_WRONG_MASK = 37"),
     ("include/tlx.h", "TLX_WRONG_MASK = 36", "TLX_WRONG_MASC = 36"),
-    ("include/tlx.h", "TLX_EMPTY, TLX_NO_BYTE, TLX_DEVICE.", "TLX_EMPTY, TLX_NO_BYTE, TLX_DEVISE."),
+    ("include/tlx.h", "TLX_NULL, TLX_NO_BYTE, TLX_DEVICE.", "TLX_NULL, TLX_NO_BYTE, TLX_DEVISE."),
     ("include/tlx.h", "handed in), TLX_BAD_PORTS, TLX_BAD_SOURCES. After", "handed in), TLX_BAD_SOURCES, TLX_BAD_PORTS. After"),
     ("include/tlx.h", "TLX_TWO_CALLED, TLX_IMAGE_UNREADABLE (of", "TLX_IMAGE_UNREADABLE, TLX_TWO_CALLED (of"),
     ("python/tlx/faults.py", "WRONG_MASK = 36", "WRONG_MASC = 36"),

@@ -38,6 +38,8 @@ CAUSES = {
                          "a deadlock: each of several waits until another one goes on",
                          "`--within N`: N counts units of the capture's time, and not clocks"],
 }
+# Before these, of a wrong reply whose bytes are the answer of another master's request, or whose word is that of a reply before.
+EXCHANGED = ["what keeps the data of replies apart: a register or a queue that several requests share, and when it is loaded"]
 # Before these, of a request at a port whose source would be right with another shift.
 SHIFTED = ["how far the socket at the port shifts sources: `hosts` or `sources` of the port, `stride` of the master"]
 # Before these, of a part of a master's request at a port; behind these, of a request there that is a master's but for its source, and of a reply

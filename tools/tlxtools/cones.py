@@ -5,7 +5,8 @@ new text. From each item the cone goes on to all items of the crate that have a 
 only the contract counts. If an item uses a name that its file takes from elsewhere, the path of that name counts too. Of a name of
 another crate of the repository the crate and the module do not count: such a name has one definition before its reader (tests/tools/names_test).
 
-A function of an impl block is reached if it is called by name, and the rest of the block with its type. A definition of proofs/ is reached
+A function of an impl block is reached if it is called by name, and the rest of the block with its type; of a block of Clone with its
+function. A definition of proofs/ is reached
 only from what says the invariants of a function (Invariants.antt, Proof.antt), or from another that is reached so.
 """
 
@@ -25,6 +26,8 @@ OF_GOALS = ("Invariants.antt", "Proof.antt")
 # the name of a function of an impl block where it is called, or where its contract is cited
 CALLED = re.compile(r"(?:::\s*|\.\s*(?=\w+\s*(?:\(|::|\.\{)))(\w+)")
 TYPES = ("struct", "enum", "trait", "type", "union")
+# the block of a trait of which nothing counts unless its function is called by name
+CLONES = re.compile(r"impl(?:<[^>]*>)? Clone for\b")
 
 
 def sum_of(*parts):
@@ -99,6 +102,9 @@ class Crate:
         self.calls, self.methods, self.stated, self.lemmas = Names(), Names(), Names(), collections.defaultdict(Names)
         for item in self.items:
             if item.kind == "use" and all(place_of(name, path) == name for name in item.names for path in item.file.taken[name]):
+                continue
+            if item.kind == "impl" and CLONES.match(item.whole):
+                self.methods.add(item, {"clone"})
                 continue
             # an impl block belongs to the types and traits of its head, or to all its words if none is of this crate
             self._names_of(item).add(item, item.names | (item.head & types or item.head if item.kind == "impl" else frozenset()))

@@ -1,14 +1,16 @@
-"""The links of a crossbar by the names of a dump's signals: the standard's names behind a prefix, Chisel's, or the members of two structs.
-For tools/draft, which has the rules at its top.
+"""The links of a crossbar by the names of a dump's signals: the standard's names behind a prefix, Chisel's, or the members of two structs, named
+or by their place in a vector. For tools/draft, which has the rules at its top.
 """
 
 import re
 
 from tlxtools.common import BUSES, with_bits
+from tlxtools.draft_structs import partners, structs_of
 from tlxtools.gtkwave_save import SIGNALS
 
-# The signals without which a prefix is no link.
-CORE = ("a_valid", "a_opcode", "a_address", "d_valid", "d_opcode")
+# The signals without which a prefix is no link. The handshakes may stand elsewhere, as in vectors of all links; then they have to be named.
+CORE = ("a_opcode", "a_address", "d_opcode")
+VALIDS = ("a_valid", "d_valid")
 # Signals that designs may not have, for which a constant stands.
 CONSTANTS = ("a_param", "d_denied", "d_corrupt")
 # Those that most designs have not: tlvcd looks for them behind a prefix, and leaves their columns empty.
@@ -17,8 +19,6 @@ EXTRAS = ("a_corrupt", "d_param")
 IN_ARRAYS = ("a_mask", "a_data", "d_data")
 # How many bits tlvcd takes; those of mask and data follow from the bus.
 WIDTHS = {"a_opcode": 8, "a_param": 8, "a_size": 8, "d_opcode": 8, "d_param": 8, "d_size": 8, "a_source": 16, "d_source": 16, "a_address": 64}
-# The marks of the struct with the requests, and of the one with the replies.
-PARTS = (("_i", "_o"), ("_o", "_i"), ("h2d", "d2h"), ("req", "rsp"))
 MASTER_WORDS = {"host", "master", "client", "cpu"}
 PORT_WORDS = {"device", "slave", "ram", "dram", "sram", "port"}
 # What a name has to be (docs/reference/formats.md, "The system file").
@@ -47,14 +47,6 @@ def members(prefix, variables):
         if name := next((name for place in places for name in names if name in place), None):
             found[signal] = name
     return found
-
-
-def partners(prefix):
-    """The prefixes that the replies of a struct of requests may have, each with the name that both share."""
-    for mark, other in PARTS:
-        head, found, tail = prefix.rpartition(mark)
-        if found and not tail[:1].isalnum():
-            yield head + other + tail, head
 
 
 def words_in(part):
@@ -87,8 +79,9 @@ class Link:
                 return names
         return None
 
-    def depth(self):
-        return self.names["a_valid"].count(".")
+    def rank(self):
+        """Where it stands among links of the same nets: those with most signals come first, then the outermost."""
+        return -len(self.names.keys() - {*EXTRAS}), self.names["a_opcode"].count(".")
 
     def is_same(self, other):
         """Whether both are one link: each signal that both have is one net."""
@@ -131,30 +124,42 @@ class Link:
 def link_at(prefix, variables):
     """The link whose requests stand behind a prefix, or None."""
     names, called, prefixes = members(prefix, variables), prefix, [prefix]
-    if "d_valid" not in names:
+    if "d_opcode" not in names:
         for other, head in partners(prefix):
             replies = members(other, variables)
-            if "d_valid" in replies and "a_valid" not in replies:
+            if "d_opcode" in replies and "a_opcode" not in replies:
                 names, called, prefixes = names | replies, head, [prefix, other]
                 break
-    if any(signal not in names for signal in CORE):
+    if any(signal not in names for signal in CORE) or len(names.keys() & {*VALIDS}) == 1:
         return None
     return Link(prefixes, {signal: names[signal] for signal in SIGNALS if signal in names}, called, variables)
 
 
+def found_links(variables):
+    """The links of a dump in its order, behind a prefix and then in two vectors."""
+    prefixes = {}
+    for signal in ("a_valid", "a_opcode", "a_bits_opcode"):
+        for name in variables.named:
+            prefix = name.removesuffix(signal).removesuffix("\\")
+            if name.endswith(signal) and not prefix[-1:].isalnum():
+                prefixes.setdefault(prefix.replace("\\", ""), prefix)
+    yield from filter(None, (link_at(prefix, variables) for prefix in [*prefixes.values()]))
+    for name, called, names in structs_of(variables):
+        yield Link([name], {signal: names[signal] for signal in SIGNALS if signal in names}, called, variables)
+
+
 def links_of(variables, top=None):
-    """The links of a dump in its order. Of the same nets in several scopes the outermost are taken; the others are its aliases."""
+    """The links of a dump. Of the same nets in several scopes those with most signals are taken, and of these the outermost; the others are its
+    aliases."""
     groups = []
-    for name in variables.named:
-        prefix = name.removesuffix("a_valid")
-        inside = top is None or name.startswith(top + ".")
-        if prefix != name and not prefix[-1:].isalnum() and inside and (link := link_at(prefix, variables)):
+    for link in found_links(variables):
+        if top is None or link.names["a_opcode"].startswith(top + "."):
             group = next((group for group in groups if group[0].is_same(link)), None)
             if group is None:
                 groups.append(group := [])
             group.append(link)
     for group in groups:
-        link = min(group, key=Link.depth)
+        link = min(group, key=Link.rank)
         link.aliases = [other for other in group if other is not link]
         yield link
 

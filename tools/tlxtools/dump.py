@@ -3,11 +3,13 @@ that are declared, and not on the length of the dump. For tools/draft.
 """
 
 import re
+import typing
 
 BLOCK = 1 << 16
 LONGEST_WORD = 1 << 20
-# What is sampled of a link at an edge.
-SAMPLED = ("a_valid", "a_ready", "a_address", "a_size", "a_source")
+# What is sampled of a link at an edge. Those that many designs leave open are looked at whether they are known, by their channel.
+OPEN = {"a": "a_corrupt", "d": "d_param"}
+SAMPLED = ("a_valid", "a_ready", "a_address", "a_size", "a_source", "d_valid", "d_ready", *OPEN.values())
 # The range behind a name, and the index of an element of an array.
 RANGE = re.compile(r"\[([0-9]+)(?::([0-9]+))?\]$")
 INDEX = re.compile(r"\[([0-9]+)\]$")
@@ -20,6 +22,14 @@ PLAIN = str.maketrans("lhuw-", "01xxx")
 
 class NoDump(Exception):
     """Why a text is no dump."""
+
+
+class Slice(typing.NamedTuple):
+    """Some bits of a vector whose lowest bit is 0: its identifier and its width, and the highest and the lowest of these bits."""
+    identifier: str
+    width: int
+    high: int
+    low: int
 
 
 def words_of(file):
@@ -48,10 +58,11 @@ class Variables:
     """What a header declares: for each name with its scopes the identifier and the width, in the order of the dump. If a name stands twice
     with one identifier, it is as wide as its widest declaration. A net that is declared bit by bit has the identifiers of its bits, the
     highest first. Names that two signals have are in `twice`: tlvcd refuses them. `arrays` has the elements of arrays that are declared as
-    one signal each, the highest index first."""
+    one signal each, the highest index first. `vectors` are the names of those whose bits are declared from the highest down to 0, and `scoped`
+    has the names of each scope."""
 
     def __init__(self):
-        self.named, self.twice, self.scopes, self.arrays = {}, set(), [], {}
+        self.named, self.twice, self.scopes, self.arrays, self.vectors, self.scoped = {}, set(), [], {}, set(), {}
         # the identifiers of each index of the names that are declared bit by bit, and the names of other signals
         self.bits, self.whole = {}, set()
 
@@ -68,6 +79,9 @@ class Variables:
             self.bits.setdefault(name, {}).setdefault(int(span[1]), set()).add(net[0])
         else:
             self.whole.add(name)
+        self.scoped.setdefault(".".join(self.scopes), []).append(name)
+        if span and span[2] == "0":
+            self.vectors.add(name)
         identifier, bits = self.named.setdefault(name, net)
         if identifier != net[0]:
             self.twice.add(name)
@@ -142,14 +156,14 @@ def time_of(word, before):
 
 
 def steps_of(words, tracked):
-    """What changes at each time: the new values of the tracked identifiers. Of several values at one time the last one counts."""
+    """Each time with what changes then: the new values of the tracked identifiers. Of several values at one time the last one counts."""
     changed, time = {}, 0
     for word in words:
         mark, rest = word[0].lower(), word[1:]
         if mark == "#":
             moment = time_of(word, time)
             if moment > time:
-                yield changed
+                yield time, changed
                 changed, time = {}, moment
         elif mark in DIGITS:
             if rest in tracked:
@@ -162,16 +176,25 @@ def steps_of(words, tracked):
             section(words)
         elif mark != "$":
             raise NoDump(f"no change of a value: {word[:40]}")
-    yield changed
+    yield time, changed
 
 
 def parts_of(identifier):
     """The identifiers of a signal: one, or those of its bits."""
+    if isinstance(identifier, Slice):
+        return (identifier.identifier,)
     return identifier if isinstance(identifier, tuple) else (identifier,)
 
 
 def value_of(identifier, now):
     """The digits of a signal, or None if some are not told. Of a bit's identifier the lowest digit counts."""
+    if isinstance(identifier, Slice):
+        digits = now.get(identifier.identifier)
+        if digits is None:
+            return None
+        # the digits that a dump leaves out are 0, or as unknown as the first
+        digits = digits.rjust(identifier.width, "0" if digits[0] == "1" else digits[0])
+        return digits[identifier.width - 1 - identifier.high:identifier.width - identifier.low]
     parts = [now.get(part) for part in parts_of(identifier)]
     if None in parts:
         return None
@@ -200,46 +223,82 @@ class Crossed:
             self.add(other.source, other.low, other.high)
 
 
-class Watch:
-    """Follows the changes, and keeps what crossed at each rising edge of the clock. Which value of the reset is active is known at the end
-    alone, so what crosses is kept for each of its values."""
+class Rises:
+    """The rising edges of a clock: how many, the times of the first two, and a digest of all."""
 
-    def __init__(self, clock, reset, links):
-        """Each link has the identifiers of its signals by name."""
-        self.clock, self.reset, self.links = clock, reset, links
-        self.seen = {}
-        self.last_reset = None
+    def __init__(self):
+        self.count, self.first, self.digest = 0, [], 0
+
+    def add(self, time):
+        self.count += 1
+        self.digest = hash((self.digest, time))
+        if self.count <= 2:
+            self.first.append(time)
+
+    def period(self):
+        """How far the first two are from each other, or None."""
+        return self.first[1] - self.first[0] if self.count > 1 else None
+
+    def is_same(self, other):
+        return (self.count, self.digest) == (other.count, other.digest)
+
+
+class Watch:
+    """Follows the changes, and keeps what crossed at each rising edge of a clock. Which value of a reset is active is known at the end alone,
+    so what crosses is kept for each of its values."""
+
+    def __init__(self, links, pairs):
+        """Each link has the identifiers of its signals by name, and the pairs of a clock and a reset that it may have; either may be None."""
+        self.links, self.pairs = links, pairs
+        self.at = {}
+        for place, those in enumerate(pairs):
+            for clock, reset in those:
+                if clock is not None:
+                    self.at.setdefault(clock, []).append((place, reset))
+        self.rises = {clock: Rises() for clock in self.at}
+        self.resets = {reset for those in pairs for _, reset in those} - {None}
+        # `unknown` has the signals that were unknown at a beat, each with the place of its link
+        self.seen, self.last, self.unknown = {}, {}, set()
 
     def tracked(self):
         """The identifiers whose values are needed."""
-        identifiers = {self.clock, self.reset, *(link.get(signal) for link in self.links for signal in SAMPLED)} - {None}
+        identifiers = {*self.at, *self.resets, *(link.get(signal) for link in self.links for signal in SAMPLED)} - {None}
         return {part for identifier in identifiers for part in parts_of(identifier)}
 
     def follow(self, steps):
         """Reads to the end. An edge samples what stood before its time, as tlvcd does."""
         now = {}
-        for changed in steps:
-            if changed.get(self.clock) == "1" and now.get(self.clock) == "0":
-                for place, link in enumerate(self.links):
-                    self.sample(place, link, now)
+        for time, changed in steps:
+            for clock, links in self.at.items():
+                if changed.get(clock) == "1" and now.get(clock) == "0":
+                    self.rises[clock].add(time)
+                    for place, reset in links:
+                        self.sample(place, (clock, reset), now)
             now.update(changed)
-            if (level := now.get(self.reset)) in ("0", "1"):
-                self.last_reset = level
+            for reset in self.resets & changed.keys():
+                if changed[reset] in ("0", "1"):
+                    self.last[reset] = changed[reset]
 
-    def sample(self, place, link, now):
+    def sample(self, place, pair, now):
         """Keeps the request of a link, if a beat of channel A crosses. A design without a source has source 0."""
-        if now.get(link.get("a_valid")) != "1" or now.get(link.get("a_ready")) != "1":
+        link = self.links[place]
+        crossing = {channel for channel in OPEN if all(f"{channel}_{signal}" in link and value_of(link[f"{channel}_{signal}"], now) == "1"
+                                                       for signal in ("valid", "ready"))}
+        for signal in (OPEN[channel] for channel in crossing if OPEN[channel] in link):
+            if number_of(value_of(link[signal], now)) is None:
+                self.unknown.add((place, signal))
+        if "a" not in crossing:
             return
         address, size, source = (number_of(value_of(link.get(signal), now)) for signal in ("a_address", "a_size", "a_source"))
         source = source if "a_source" in link else 0
         if None not in (address, size, source):
-            crossed = self.seen.setdefault((place, now.get(self.reset)), Crossed())
+            crossed = self.seen.setdefault((place, pair, now.get(pair[1])), Crossed())
             crossed.add(source, address, address | (1 << min(size, 8)) - 1)
 
-    def crossed(self, place, active):
-        """What crossed at a link while the reset did not have its active value."""
+    def crossed(self, place, pair, active):
+        """What crossed at a link by a clock while the reset did not have its active value."""
         total = Crossed()
-        for (where, level), crossed in self.seen.items():
-            if where == place and (active is None or level != active):
+        for (where, which, level), crossed in self.seen.items():
+            if (where, which) == (place, pair) and (active is None or level != active):
                 total.join(crossed)
         return total

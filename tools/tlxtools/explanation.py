@@ -6,7 +6,7 @@ import itertools
 import re
 
 from tlxtools.bus import reply_of
-from tlxtools.causes import ADAPTED, CAUSES, DENIED, SHIFTED
+from tlxtools.causes import ADAPTED, CAUSES, DENIED, EXCHANGED, SHIFTED
 from tlxtools.common import carries_data
 from tlxtools.partial_memory import port_of
 from tlxtools.sides import MOST, Sides, Views
@@ -15,8 +15,10 @@ from tlxtools.story import ANSWERS, NAMES, Story, System, turn_of
 
 VERDICT = re.compile(r"unlawful: line (\d+), time (\d+), (\S+) ([AD]): (.*)")
 WRONG = re.compile(r"wrong reply: expected (\w+)( denied)?(?: ([0-9a-fx]+))?, captured (\w+)( denied)?(?: ([0-9a-fx]+))?")
-# So many wrong bytes are explained.
-MOST_BYTES = 8
+# So many wrong bytes are explained, and so many requests of other masters in flight are asked for the bytes of a wrong reply.
+MOST_BYTES, MOST_OTHERS = 8, 8
+# Before what other requests got of the captured bytes.
+OF_OTHER = "the captured bytes"
 # The faults of a request at a port that a source with another shift has.
 OF_SHIFTS = ("no such source", "no master sent this request")
 
@@ -68,8 +70,8 @@ class Explainer:
         return f"{self.name(message)}; {self.state(message)}"
 
     def in_flight(self):
-        """The requests in flight, the oldest first."""
-        return sorted(self.story.flights.values(), key=lambda message: (message.asked[0].time, message.asked[0].line))
+        """The requests in flight, the oldest first: in the order in which their first beats crossed."""
+        return sorted(self.story.flights.values(), key=lambda message: message.asked[0].turned())
 
     # ---- requests
 
@@ -284,7 +286,49 @@ class Explainer:
             if not (runs and joined(runs[-1], run)):
                 runs.append(run)
         more = len(wrong) - MOST_BYTES
-        return [f"{counted(more, 'wrong byte')} more"] * (more > 0), runs
+        lines = [f"{counted(more, 'wrong byte')} more"] * (more > 0)
+        lines += [f"{OF_OTHER}: another master's request has this answer: {self.text(other)}" for other in self.of_others(message, found[6])]
+        return lines + [f"{OF_OTHER}: a reply before it has the same word: {self.text(other)}" for other in self.of_same_word()], runs
+
+    def of_same_word(self):
+        """The last request of this side, but for that of the beat, that got the word of the beat in all lanes. A word that has no known digit but 0
+        tells nothing."""
+        row, message = self.story.last, self.story.flights.get((self.story.last.link, self.story.last.number(6)))
+        word = row.words[9].lower()
+        if set(word) <= set("0xz"):
+            return []
+        found = (other for before, other in reversed(self.story.recent) if before.channel == "D" and before.link[0] == row.link[0]
+                 and other not in (None, message) and before.words[9].lower() == word)
+        return [*itertools.islice(found, 1)]
+
+    def of_others(self, message, captured):
+        """The request of another master that these bytes are the answer of, if there is one: one in flight, or else the last of its master that
+        was answered. Zeros tell nothing."""
+        data = [int(pair, 16) for pair in re.findall("..", captured or "") if pair != "xx"]
+        owner = self.system.owner(message.link, message.source)
+        if owner is None or len(data) < 1 << message.size or not any(data):
+            return []
+        flying = [other for other in reversed(self.in_flight()) if self.is_of_another(other, message.link, owner[0], len(data))]
+        over = [other for other in self.story.over.values() if self.is_of_another(other, message.link, owner[0], len(data))]
+        over.sort(key=lambda other: other.answered[-1].turned(), reverse=True)
+        last = {self.system.owner(other.link, other.source)[0]: other for other in reversed(over)}
+        found = (other for other in [*flying[:MOST_OTHERS], *last.values()] if self.answer(other) == data)
+        return [*itertools.islice(found, 1)]
+
+    def is_of_another(self, other, link, master, count):
+        """Whether a request at this port's link, or at some master's, is of another master than this, and its reply has so many bytes."""
+        is_near = other.link == link or "m" == link[0] == other.link[0]
+        owner = self.system.owner(other.link, other.source) if is_near else None
+        return owner is not None and owner[0] != master and 1 << other.size == count and reply_of(other.name) == "AccessAckData"
+
+    def answer(self, message):
+        """What a request was answered, or has to be by what has crossed; None if it is denied."""
+        if message.is_over:
+            return None if message.denied else message.reply
+        if message.port == len(self.system.tables["p"]) or not self.system.slave(message.port).permits(message.ask()):
+            return None
+        history = self.story.history(message, message.port)
+        return [history[at][-1][1] for at in message.window()]
 
     def of_writer(self, history, writer, message, wrong):
         """How much of what a request wrote there is wrong, and whether it was answered before. Of the reset there is nothing to say."""
@@ -377,7 +421,8 @@ class Explainer:
         adapters = self.of_adapter(row, fault)
         # a reply without a request at the port is one that something before it gives
         is_adapted = bool(adapters) or fault == "the port gave no such reply" and other is None
-        hints = {"is_shifted": any(self.of_shift(row, fault)), "is_part": any(is_part for _, is_part in adapters), "is_adapted": is_adapted}
+        hints = {"is_exchanged": any(line.startswith(OF_OTHER) for line in lines),
+                 "is_shifted": any(self.of_shift(row, fault)), "is_part": any(is_part for _, is_part in adapters), "is_adapted": is_adapted}
         is_late = fault == "late reply" or self.waiting()
         where = self.sides.where_waited(row, asked, port) if is_late else self.sides.where(row, asked, port, self.views, lawful)
         return {"line": row.line, "time": row.time, "seen": self.story.seen, "link": found[3], "channel": row.channel, "why": lines, "where": [*where],
@@ -386,10 +431,11 @@ class Explainer:
                 "in_flight": [self.record(message) for message in self.in_flight()], "look_at": causes_of(fault, wrong, lawful, **hints)}
 
 
-def causes_of(fault, wrong, lawful, is_shifted, is_part, is_adapted):
-    """What to look at: first an order of requests with which all is lawful, the shift of a source, or an adapter of which a part of a request comes;
-    last one that may have changed a request otherwise."""
-    first = [f"the order in which requests take effect: with --order {order} all is lawful" for order in lawful[:1]] + SHIFTED * is_shifted
+def causes_of(fault, wrong, lawful, is_exchanged, is_shifted, is_part, is_adapted):
+    """What to look at: first an order of requests with which all is lawful, replies that are exchanged, the shift of a source, or an adapter of
+    which a part of a request comes; last one that may have changed a request otherwise."""
+    first = [f"the order in which requests take effect: with --order {order} all is lawful" for order in lawful[:1]]
+    first += EXCHANGED * is_exchanged + SHIFTED * is_shifted
     causes = DENIED if wrong and bool(wrong[2]) != bool(wrong[5]) else CAUSES[fault.partition(":")[0]]
     return first + ADAPTED * is_part + causes + ADAPTED * (is_adapted and not is_part)
 

@@ -2,7 +2,7 @@
 
 import re
 
-from tlxtools.causes import ADAPTED, CAUSES, DENIED, SHIFTED
+from tlxtools.causes import ADAPTED, CAUSES, DENIED, EXCHANGED, SHIFTED
 from tlxtools.markdown import wrapped
 from tlxtools.system_keys import page_rows
 
@@ -17,6 +17,7 @@ LIKELY = ("For an engineer with an unlawful beat: what `tools/explain` prints be
 # What else stands there if the capture shows more, with its causes.
 ELSE = (
     ("If a wrong reply is lawful with another `--order`, that stands before them.", ()),
+    ("If the bytes of a wrong reply are the answer of another master's request, or its word is that of a reply before, this stands before them:", EXCHANGED),
     ("If the source of a request at a port would be right with another shift, this stands before them:", SHIFTED),
     ("If a request at a port is a part of a master's, this stands before them too, and behind them if such a request is a master's but for its "
      "source, or if a master has a reply to a request that has not crossed at its port:", ADAPTED),

@@ -57,7 +57,10 @@ class Row:
     def lanes(self, bus):
         """The bytes of the bus from lane 0 on, None for one that is unknown. A row without data has zeros."""
         word = self.words[9] or "0" * bus.data_digits
-        pairs = (word[at:at + 2] for at in range(len(word) - 2, -2, -2))
+        try:
+            return list(bytes.fromhex(word)[::-1])
+        except ValueError:
+            pairs = (word[at:at + 2] for at in range(len(word) - 2, -2, -2))
         return [None if set(pair) & set("xXzZ") else int(pair, 16) for pair in pairs]
 
     def turned(self):
@@ -78,17 +81,35 @@ class Message:
     name: str
     address: int
     size: int
+    bus: Bus
     asked: list = dataclasses.field(default_factory=list)
-    data: list = dataclasses.field(default_factory=list)
     is_whole: bool = False
     is_over: bool = False
     # how many writes of its side took effect before it; None if it has not taken effect
     before: int = None
     answered: list = dataclasses.field(default_factory=list)
-    reply: list = dataclasses.field(default_factory=list)
     denied: bool = False
     # the number of the port to which it goes
     port: int = None
+
+    def lanes(self):
+        return self.bus.lanes(self.address, self.size)[1]
+
+    # most requests are never asked for their bytes
+    @property
+    def data(self):
+        """The bytes that its beats so far have carried, None for one that is not given."""
+        found = []
+        for row in self.asked if carries_data(self.name) else ():
+            mask, word = row.mask(), row.lanes(self.bus)
+            found += [word[lane] if mask >> lane & 1 else None for lane in self.lanes()]
+        return found
+
+    @property
+    def reply(self):
+        """The bytes that the beats of its reply so far have carried."""
+        carrying = [row.lanes(self.bus) for row in self.answered if ANSWERS[row.number(3)] == "AccessAckData"]
+        return [word[lane] for word in carrying for lane in self.lanes()]
 
     def ask(self):
         return Ask(self.name, self.address, self.size, self.data)
@@ -100,7 +121,10 @@ class Message:
     def byte(self, address):
         """The byte that it carries for an address, or None."""
         place = address - self.address
-        return self.data[place] if 0 <= place < len(self.data) else None
+        if not 0 <= place < 1 << self.size:
+            return None
+        data = self.data
+        return data[place] if place < len(data) else None
 
 
 @dataclasses.dataclass(slots=True)
@@ -222,6 +246,8 @@ class Story:
 
     def __init__(self, system, order, view="both"):
         self.system, self.order, self.sides = system, order, SIDES[view]
+        # the order of each port and side, once it was asked for
+        self.orders = {}
         self.flights, self.over, self.under = {}, {}, {}
         self.writes, self.resets = {"m": [], "p": []}, []
         # the requests that a reset has dropped, each with the reset, by link and source until the source is used again
@@ -283,13 +309,16 @@ class Story:
         self.open.clear()
 
     def order_of(self, message):
-        tables = self.system.tables["p"]
-        return order_at(tables[message.port] if message.port < len(tables) else {}, message.link[0], self.order)
+        key = message.port, message.link[0]
+        if key not in self.orders:
+            tables = self.system.tables["p"]
+            self.orders[key] = order_at(tables[message.port] if message.port < len(tables) else {}, message.link[0], self.order)
+        return self.orders[key]
 
     def begun(self, row):
         """The request that a row begins."""
         name, link = NAMES[row.number(3), row.number(4)], row.link
-        message = Message(link, row.number(6), name, row.address(), row.number(5))
+        message = Message(link, row.number(6), name, row.address(), row.number(5), self.system.buses[link])
         message.port = self.system.port_to(message) if link[0] == "m" else int(link[1:])
         self.flights[link, message.source] = self.under[link, "A"] = message
         self.dropped.pop((link, message.source), None)
@@ -303,12 +332,7 @@ class Story:
         bus = self.system.buses[row.link]
         message.asked.append(row)
         self.recent.append((row, message))
-        carries = carries_data(message.name)
-        if carries:
-            mask, word = row.mask(), row.lanes(bus)
-            _, lanes = bus.lanes(message.address, message.size)
-            message.data += [word[lane] if mask >> lane & 1 else None for lane in lanes]
-        if len(message.asked) == bus.count(message.size, carries):
+        if len(message.asked) == bus.count(message.size, carries_data(message.name)):
             message.is_whole = True
             del self.under[row.link, "A"]
             if self.order_of(message) != "reply":
@@ -318,7 +342,7 @@ class Story:
         """A request takes effect. With `--order any` that is its acceptance here."""
         writes = self.writes[message.link[0]]
         message.before = len(writes)
-        if message.data:
+        if carries_data(message.name):
             writes.append(message)
 
     def take_reply(self, row):
@@ -331,10 +355,6 @@ class Story:
         message.answered.append(row)
         self.recent.append((row, message))
         bus, carries = self.system.buses[row.link], ANSWERS[row.number(3)] == "AccessAckData"
-        if carries:
-            _, lanes = bus.lanes(message.address, message.size)
-            word = row.lanes(bus)
-            message.reply += [word[lane] for lane in lanes]
         if len(message.answered) == bus.count(message.size, carries):
             message.is_over = True
             self.open[row.link] -= 1
@@ -354,7 +374,7 @@ class Story:
             if isinstance(event, Reset):
                 changed = self.changed_by(event, slave, message.link[0], port)
             else:
-                changed = self.written_by(event, slave, places)
+                changed = self.written_by(event, slave, places) if event.port == port else ()
             for place, writer in changed:
                 if place in addresses:
                     found[addresses[place]].append((writer, slave.byte(place)))
@@ -372,9 +392,10 @@ class Story:
 
     def written_by(self, other, slave, places):
         """Has a slave take a write that meets these places: each place that it may have changed, with the write."""
-        if meet(places, self.places(slave, other)) and slave.permits(other.ask()):
-            slave.answer(other.ask())
-            yield from ((place, other) for place in slave.writes(other.ask()))
+        if meet(places, self.places(slave, other)) and slave.permits(other):
+            ask = other.ask()
+            slave.answer(ask)
+            yield from ((place, other) for place in slave.writes(ask))
 
     @staticmethod
     def changed_by(reset, slave, side, port):
@@ -390,7 +411,7 @@ class Story:
     @staticmethod
     def places(slave, message):
         """Where the bytes of a request stand at a slave."""
-        start = slave.start_of(message.ask())
+        start = slave.start_of(message)
         return range(start, start + (1 << message.size))
 
     def later(self, message, address, value):

@@ -8,6 +8,7 @@ MAKE = """\
 #   make SEED=2 REQUESTS=1000                      other requests, and how many each master sends
 #   make PLUSARGS="+window=1 +dump=dump.vcd"       other plusargs of the parts (hdl/README.md)
 #   make TLX_PREFIX=/opt/tlx                       where tools/install put the library, for the judge in the simulation
+#   make MODEL=1                                   slaves whose memory is the library's model of the system
 #   make JUDGE=                                    no judge in the simulation: monitors write a capture, and TLCHECK judges it
 #   make LINKS=masters ORDER=any                   as --links and --order of tlcheck
 #   make JOBS=1                                    how many processors compile
@@ -30,6 +31,8 @@ TLX_LIBS = $(shell pkg-config --libs tlx 2>/dev/null)
 endif
 JUDGE = $(if $(strip $(TLX_LIBS)),1)
 PARTS = tb.sv $(HDL)/tl_master.sv $(HDL)/tl_slave.sv
+MODEL =
+CALLED = $(HDL)/judge.c $(if $(MODEL),$(HDL)/slave.c)
 ARGUMENTS = +seed=$(SEED) +random=$(REQUESTS) +images=$(dir $(SYSTEM)) $(PLUSARGS)
 JOBS = $(shell nproc)
 WORDS = --timing --top-module tb --timescale 1ns/1ns -Wno-fatal -Wno-lint
@@ -56,10 +59,10 @@ icarus: tb.vvp
 \t@vvp -n $< $(ARGUMENTS) +capture=$@.csv >$@.log; status=$$?; $(SHOW); $(JUDGED); exit $$status
 
 obj_judge/Vtb obj_monitors/Vtb: LOG = $(@D).log
-obj_judge/Vtb: $(PARTS) $(HDL)/tl_judge.sv $(HDL)/judge.c $(wildcard $(SOURCES)) words
+obj_judge/Vtb: $(PARTS) $(HDL)/tl_judge.sv $(CALLED) $(HDL)/system.h $(wildcard $(SOURCES)) words
 \t@$(LINT) -DTL_JUDGE $(FLAGS) $(SOURCES) $(PARTS) $(HDL)/tl_judge.sv $(BUILD); $(FIT)
-\t$(VERILATOR) -DTL_JUDGE -CFLAGS "$(TLX_CFLAGS)" -LDFLAGS "$(TLX_LIBS)" --Mdir obj_judge $(FLAGS) \\
-\t  $(SOURCES) $(PARTS) $(HDL)/tl_judge.sv $(abspath $(HDL))/judge.c $(BUILD)
+\t$(VERILATOR) -DTL_JUDGE $(if $(MODEL),-DTL_MODEL) -CFLAGS "$(TLX_CFLAGS)" -LDFLAGS "$(TLX_LIBS)" --Mdir obj_judge $(FLAGS) \\
+\t  $(SOURCES) $(PARTS) $(HDL)/tl_judge.sv $(abspath $(CALLED)) $(BUILD)
 
 obj_monitors/Vtb: $(PARTS) $(HDL)/tl_monitor.v $(wildcard $(SOURCES)) words
 \t@$(LINT) $(FLAGS) $(SOURCES) $(PARTS) $(HDL)/tl_monitor.v $(BUILD); $(FIT)
@@ -71,7 +74,7 @@ tb.vvp: $(PARTS) $(HDL)/tl_monitor.v $(wildcard $(SOURCES)) words
 
 # what a build depends on besides its files
 words: FORCE
-\t@echo '$(SOURCES) $(FLAGS) $(TLX_CFLAGS) $(TLX_LIBS)' | cmp -s - $@ || echo '$(SOURCES) $(FLAGS) $(TLX_CFLAGS) $(TLX_LIBS)' >$@
+\t@echo '$(SOURCES) $(FLAGS) $(MODEL) $(TLX_CFLAGS) $(TLX_LIBS)' | cmp -s - $@ || echo '$(SOURCES) $(FLAGS) $(MODEL) $(TLX_CFLAGS) $(TLX_LIBS)' >$@
 FORCE:
 
 clean:

@@ -12,6 +12,7 @@ use crate::fault::FormFault;
 use crate::lanes::push_beat;
 use crate::rules::LinkRules;
 use check_cells::AskSoFar;
+use std::alloc::AllocError;
 use std::marker::Model;
 use tl_types::{Ask, Bytes, MAX_BYTES};
 
@@ -37,6 +38,21 @@ impl Model for Asking {
     ghost view = { λ a. record { bus = bus_bytes a.bus; begun = ask_begun a.first a.beats a.bytes } };
 
     ghost invariant = { λ a. IsAskKept (bus_bytes a.bus) (ask_begun a.first a.beats a.bytes) };
+}
+
+impl Clone for Asking {
+    ghost use Rattle.std.specs.Prelude.{◌≡◌};
+
+    ghost is_clone = { λ asking copy. copy ≡ asking };
+
+    fn clone(&self) -> Result<Asking, AllocError> {
+        Ok(Asking {
+            bus: self.bus,
+            first: self.first,
+            beats: self.beats,
+            bytes: self.bytes.copy(),
+        })
+    }
 }
 
 impl Asking {

@@ -11,6 +11,7 @@ use crate::reply::{
     lawful_reply_op, next_reply_fault, push_seen, put_reply, reply_beats, reply_fault,
 };
 use check_cells::{Cells, Pattern};
+use std::alloc::AllocError;
 use std::marker::Model;
 use tl_types::MAX_BYTES;
 
@@ -33,6 +34,21 @@ impl Model for Replying {
     ghost view = { λ a. record { bus = bus_bytes a.bus; begun = reply_begun a.first a.beats a.bytes } };
 
     ghost invariant = { λ a. IsReplyKept (bus_bytes a.bus) (reply_begun a.first a.beats a.bytes) };
+}
+
+impl Clone for Replying {
+    ghost use Rattle.std.specs.Prelude.{◌≡◌};
+
+    ghost is_clone = { λ replying copy. copy ≡ replying };
+
+    fn clone(&self) -> Result<Replying, AllocError> {
+        Ok(Replying {
+            bus: self.bus,
+            first: self.first,
+            beats: self.beats,
+            bytes: self.bytes.copy(),
+        })
+    }
 }
 
 impl Replying {

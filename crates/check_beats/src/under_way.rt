@@ -13,6 +13,7 @@ use crate::reply::is_known_reply;
 use crate::replying::Replying;
 use crate::rules::LinkRules;
 use check_cells::{AskSoFar, Pattern};
+use std::alloc::AllocError;
 use std::marker::Model;
 use tl_types::Ask;
 
@@ -34,6 +35,19 @@ impl Model for UnderWay {
     ghost view = { λ u. record { bus = u.asking.bus; asking = u.asking.begun; replying = u.replying.begun } };
 
     ghost invariant = { λ u. u.replying.bus ≡ u.asking.bus };
+}
+
+impl Clone for UnderWay {
+    ghost use Rattle.std.specs.Prelude.{◌≡◌};
+
+    ghost is_clone = { λ under copy. copy ≡ under };
+
+    fn clone(&self) -> Result<UnderWay, AllocError> {
+        Ok(UnderWay {
+            asking: self.asking.clone()?,
+            replying: self.replying.clone()?,
+        })
+    }
 }
 
 impl UnderWay {

@@ -217,6 +217,17 @@ impl Cells {
         self.len = other.len;
     }
 
+    /// The same bytes.
+    pub fn copy(&self) -> Cells
+        ensures { result ≡ self.now }
+    {
+        Cells {
+            words: self.words,
+            masks: self.masks,
+            len: self.len,
+        }
+    }
+
     /// So many bytes that are zero, or that are unknown.
     pub fn fill(&mut self, known: bool, width: usize)
         requires { width ≤ MAX_BYTES }
@@ -273,7 +284,7 @@ impl Cells {
     }
 
     /// So many bytes of one word, from a place on, as one number, if all are known.
-    fn known_part(&self, start: usize, width: usize) -> Option<u64>
+    pub fn known_part(&self, start: usize, width: usize) -> Option<u64>
         requires some { 0 < width }
         requires in_word { start % WORD_BYTES + width ≤ WORD_BYTES }
         requires inside { start + width ≤ length self.now }

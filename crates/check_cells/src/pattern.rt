@@ -88,6 +88,15 @@ impl Pattern {
         self.denied = other.denied;
     }
 
+    /// The same reply.
+    pub fn copy(&self) -> Pattern
+        ensures { result ≡ self.now }
+    {
+        let mut copy = Pattern::blank();
+        copy.refill_from(self);
+        copy
+    }
+
     /// All but the bytes of the answer to a request.
     pub fn head(&mut self, ask: &Ask, denied: Option<bool>)
         ensures { self.new ≡ record {

@@ -29,6 +29,18 @@ impl Model for Contests {
     ghost view = { λ c. c.kept.items };
 }
 
+impl Clone for Contests {
+    ghost use Rattle.std.specs.Prelude.{◌≡◌};
+
+    ghost is_clone = { λ contests copy. copy ≡ contests };
+
+    fn clone(&self) -> Result<Contests, AllocError> {
+        Ok(Contests {
+            kept: self.kept.clone()?,
+        })
+    }
+}
+
 /// Makes each byte of what is due to a request unknown that one of those kept may write.
 fn hide_each(memory: &PartialMemory, kept: &[Accepted], ask: &Ask, due: &mut Pattern)
     ensures { due.new ≡ due_beside memory.now ask.now (one_may_write memory.now kept.now) due.old }

@@ -19,5 +19,6 @@ pub mod Contents
 pub mod Sizes
 pub mod Order
 pub mod Port
+pub mod Buses
 pub mod Slave
 pub mod Laws

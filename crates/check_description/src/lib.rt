@@ -18,6 +18,7 @@
 #![tactic(auto)]
 
 mod apart;
+mod buses;
 mod called;
 mod contents;
 mod crossing;
@@ -44,6 +45,7 @@ mod slave;
 mod unknown;
 mod volatile;
 
+pub use buses::{master_buses, port_buses};
 pub use crossing::PortCrossing;
 pub use description::{Described, Description, describe};
 pub use kind::PortKind;

@@ -4,7 +4,7 @@ ghost use Rattle.std.specs.Fmt.{decimal};
 ghost use Rattle.check_beats.specs.Bus.{bus_bytes};
 ghost use Rattle.check_rows.specs.Buses.{HasBus, IsLinkOf, IsLinkOfRow};
 ghost use Rattle.check_rows.specs.Column.{column_parts};
-ghost use Rattle.check_rows.specs.Row.{ask_of_words, asks_for_mark, reply_of_words, row_of, seen_beat, seen_row};
+ghost use Rattle.check_rows.specs.Row.{ask_of_words, reply_of_words, row_of, seen_beat, seen_row};
 ghost use Rattle.check_samples.specs.Resets.{reset_line};
 ghost use Rattle.check_samples.specs.Row.{ask_line, reply_line};
 ghost use Rattle.check_due.specs.Rows.{IsDueRow, ask_words, reply_words};
@@ -13,7 +13,7 @@ use crate::columns::{
     field_of, field_or_zero, flag_of, flag_or, lanes_of, mark_or_zero, mask_of, source_of,
 };
 use check_beats::{AskHead, Bus, MAX_LANES, ReplyHead};
-use check_rows::{Buses, Row};
+use check_rows::{Buses, Row, asks_for_mark};
 use check_samples::{DueAsk, DueReply, DueRow};
 use check_watch::{Beat, Link};
 
@@ -26,13 +26,6 @@ fn bus_of(buses: &Buses<'_>, link: Link) -> Option<Bus>
         Link::Master(number) => buses.masters.get(number).copied(),
         Link::Port(number) => buses.ports.get(number).copied(),
     }
-}
-
-/// Whether the standard asks that a beat of a reply is marked corrupt.
-fn asks_for_mark(opcode: u8, denied: bool) -> bool
-    ensures { result ≡ asks_for_mark opcode denied }
-{
-    denied && opcode == 1
 }
 
 /// The beat of a row of channel A, and which of its lanes are known.
@@ -144,23 +137,7 @@ fn row_of_reset(buses: &Buses<'_>, line: u64, time: u64, lanes: &mut [u8; MAX_LA
         return None;
     }
     lanes[0] = 0;
-    Some(Row {
-        line,
-        time,
-        is_reset: true,
-        link: Link::Master(0),
-        bus: Bus::One,
-        beat: Beat::A(AskHead {
-            opcode: 0,
-            param: 0,
-            size: 0,
-            source: 0,
-            address: 0,
-            mask: 0,
-            corrupt: false,
-        }),
-        known: 0,
-    })
+    Some(Row::reset(line, time))
 }
 
 /// The row of a capture that a row of a dump is on this line, in a system whose links have these buses. The lanes of the row

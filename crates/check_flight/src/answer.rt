@@ -33,10 +33,8 @@ impl Answer {
     pub fn copy(&self) -> Answer
         ensures { result ≡ self.now }
     {
-        let mut reply = Pattern::blank();
-        reply.refill_from(&self.reply);
         Answer {
-            reply,
+            reply: self.reply.copy(),
             port: self.port,
             index: self.index,
         }

@@ -5,6 +5,7 @@ ghost use Rattle.check_flight.specs.Crossing.{given, IsSameReply};
 
 use crate::answer::Answer;
 use check_cells::{Cells, Pattern};
+use std::alloc::AllocError;
 use std::marker::Model;
 
 /// How far a request has come.
@@ -32,6 +33,19 @@ impl Model for Crossing {
     ghost Value = { Crossing };
 
     ghost view = { λ c. crossing_kept c.reach c.answer };
+}
+
+impl Clone for Crossing {
+    ghost use Rattle.std.specs.Prelude.{◌≡◌};
+
+    ghost is_clone = { λ crossing copy. copy ≡ crossing };
+
+    fn clone(&self) -> Result<Crossing, AllocError> {
+        Ok(Crossing {
+            reach: self.reach,
+            answer: self.answer.copy(),
+        })
+    }
 }
 
 /// Whether the same bytes are known, and are the same.

@@ -47,6 +47,21 @@ impl Model for Flight {
     ghost view = { λ f. record { turn = turn_kept f.stage f.ask; due = due_kept f.is_due f.due } };
 }
 
+impl Clone for Flight {
+    ghost use Rattle.std.specs.Prelude.{◌≡◌};
+
+    ghost is_clone = { λ flight copy. copy ≡ flight };
+
+    fn clone(&self) -> Result<Flight, AllocError> {
+        Ok(Flight {
+            stage: self.stage,
+            ask: self.ask.copy(),
+            is_due: self.is_due,
+            due: self.due.copy(),
+        })
+    }
+}
+
 impl Flight {
     /// Nothing in flight.
     pub fn idle() -> Flight

@@ -31,6 +31,19 @@ impl Model for Side {
     ghost view = { λ s. record { links = s.links.items; flights = s.flights.items } };
 }
 
+impl Clone for Side {
+    ghost use Rattle.std.specs.Prelude.{◌≡◌};
+
+    ghost is_clone = { λ side copy. copy ≡ side };
+
+    fn clone(&self) -> Result<Side, AllocError> {
+        Ok(Side {
+            links: self.links.clone()?,
+            flights: self.flights.clone()?,
+        })
+    }
+}
+
 /// A link of each of these buses, with no message under way.
 fn fresh_links(alloc: Global, buses: &[Bus]) -> Result<Vec<UnderWay>, AllocError>
     ensures counted { IfOk result (λ links. length links.items ≡ length buses.now) }

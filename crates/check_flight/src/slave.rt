@@ -40,6 +40,22 @@ impl Model for PortSlave {
     } };
 }
 
+impl Clone for PortSlave {
+    ghost use Rattle.std.specs.Prelude.{◌≡◌};
+
+    ghost is_clone = { λ slave copy. copy ≡ slave };
+
+    fn clone(&self) -> Result<PortSlave, AllocError> {
+        Ok(PortSlave {
+            kept: self.kept.clone()?,
+            order: self.order,
+            unknown: self.unknown,
+            served: self.served,
+            contests: self.contests.clone()?,
+        })
+    }
+}
+
 /// Puts what is due to a request that is kept as this one in the place of another answer.
 fn kept_into(port: usize, ask: &Ask, entry: &Accepted, answer: &mut Answer)
     ensures { Some answer.new ≡ answer_of_kept port ask.now (Some entry.now) }

@@ -1,9 +1,9 @@
 //! The names of the links of a system.
-ghost use Rattle.std.specs.Prelude.{◌≡◌, option_map};
+ghost use Rattle.std.specs.Prelude.{◌≡◌, IfOk, option_map, string_bytes};
 ghost use Rattle.check_lines.specs.Names.{name_at, name_of_link, no_names, texts_of};
 
 use check_watch::Link;
-use std::alloc::Global;
+use std::alloc::{AllocError, Global};
 use std::marker::Model;
 
 /// The names of a system's masters and ports, if they have one, by their numbers.
@@ -19,6 +19,41 @@ impl Model for Names {
     ghost Value = { NamesView };
 
     ghost view = { λ n. record { masters = texts_of n.masters.items; ports = texts_of n.ports.items } };
+}
+
+impl Clone for Names {
+    ghost use Rattle.std.specs.Prelude.{◌≡◌};
+
+    ghost is_clone = { λ names copy. copy ≡ names };
+
+    fn clone(&self) -> Result<Names, AllocError> {
+        let alloc = *self.masters.allocator();
+        Ok(Names {
+            masters: copy_names(alloc, &self.masters)?,
+            ports: copy_names(alloc, &self.ports)?,
+        })
+    }
+}
+
+/// A copy of a name, if there is one.
+fn copy_name(name: &Option<String>) -> Result<Option<String>, AllocError>
+    ensures { IfOk result (λ copy. option_map string_bytes copy ≡ option_map string_bytes name.now) }
+{
+    match name {
+        Some(name) => Ok(Some(name.clone()?)),
+        None => Ok(None),
+    }
+}
+
+/// A copy of names.
+fn copy_names(alloc: Global, names: &[Option<String>]) -> Result<Vec<Option<String>>, AllocError>
+    ensures { IfOk result (λ copies. texts_of copies.items ≡ texts_of names.now) }
+{
+    let mut copies = Vec::with_capacity(alloc, names.len())?;
+    for name in names {
+        copies.push(copy_name(name)?)?;
+    }
+    Ok(copies)
 }
 
 /// The name at a place, if there is one.

@@ -53,6 +53,23 @@ impl Model for PartialMemory {
     ghost invariant = { λ m. AreWithin m.ranges.items (2 ^ 64) × IsLawfulTable m.sizes };
 }
 
+impl Clone for PartialMemory {
+    ghost use Rattle.std.specs.Prelude.{◌≡◌};
+
+    ghost is_clone = { λ memory copy. copy ≡ memory };
+
+    fn clone(&self) -> Result<PartialMemory, AllocError> {
+        Ok(PartialMemory {
+            kind: self.kind,
+            sizes: self.sizes,
+            ranges: self.ranges.clone()?,
+            mirrors: self.mirrors.clone()?,
+            volatile: self.volatile.clone()?,
+            pages: self.pages.clone()?,
+        })
+    }
+}
+
 impl PartialMemory {
     /// A memory that nothing has written: its bytes are zero, or unknown. Its first range is also seen from the addresses
     /// `mirrors` on. The bytes of the volatile ranges change by themselves.

@@ -40,6 +40,21 @@ impl Model for Pages {
     ghost invariant = { λ p. AreIndexed p.slots.slots p.first p.run (get nat_eq p.index) };
 }
 
+impl Clone for Pages {
+    ghost use Rattle.std.specs.Prelude.{◌≡◌};
+
+    ghost is_clone = { λ pages copy. copy ≡ pages };
+
+    fn clone(&self) -> Result<Pages, AllocError> {
+        Ok(Pages {
+            slots: self.slots.clone()?,
+            first: self.first,
+            run: self.run,
+            index: self.index.clone()?,
+        })
+    }
+}
+
 impl Pages {
     /// No pages, where a byte that nothing has written is zero, or unknown.
     pub fn new(alloc: Global, known: bool) -> Pages

@@ -51,6 +51,19 @@ impl Model for Sheet {
     ghost invariant = { λ s. IsSheet s.lanes s.masks };
 }
 
+impl Clone for Sheet {
+    ghost use Rattle.std.specs.Prelude.{◌≡◌};
+
+    ghost is_clone = { λ sheet copy. copy ≡ sheet };
+
+    fn clone(&self) -> Result<Sheet, AllocError> {
+        Ok(Sheet {
+            lanes: self.lanes.clone()?,
+            masks: self.masks,
+        })
+    }
+}
+
 impl Sheet {
     /// A sheet whose bytes are zero, or unknown.
     pub fn new(alloc: Global, known: bool) -> Result<Sheet, AllocError>

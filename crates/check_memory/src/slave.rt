@@ -16,6 +16,19 @@ pub enum Slave {
     Device,
 }
 
+impl Clone for Slave {
+    ghost use Rattle.std.specs.Prelude.{◌≡◌};
+
+    ghost is_clone = { λ slave copy. copy ≡ slave };
+
+    fn clone(&self) -> Result<Slave, AllocError> {
+        match self {
+            Slave::Memory(memory) => Ok(Slave::Memory(memory.clone()?)),
+            Slave::Device => Ok(Slave::Device),
+        }
+    }
+}
+
 impl Slave {
     /// Serves a request: the slave is the one after it, and what its answer has to fit stands in the place of another.
     /// If there is no memory for a page of the bytes that it takes, nothing is changed.

@@ -34,6 +34,20 @@ impl Model for Slots {
     ghost invariant = { λ s. AreFilled (length s.numbers.items) s.sheets.items s.known };
 }
 
+impl Clone for Slots {
+    ghost use Rattle.std.specs.Prelude.{◌≡◌};
+
+    ghost is_clone = { λ slots copy. copy ≡ slots };
+
+    fn clone(&self) -> Result<Slots, AllocError> {
+        Ok(Slots {
+            numbers: self.numbers.clone()?,
+            sheets: self.sheets.clone()?,
+            known: self.known,
+        })
+    }
+}
+
 impl Slots {
     /// No pages, where a byte that nothing has written is zero, or unknown.
     pub fn new(alloc: Global, known: bool) -> Slots

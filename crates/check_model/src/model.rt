@@ -47,6 +47,21 @@ impl Model for SystemModel {
         × (length m.loads ≡ length m.wiring.ports + 1) };
 }
 
+impl Clone for SystemModel {
+    ghost use Rattle.std.specs.Prelude.{◌≡◌};
+
+    ghost is_clone = { λ model copy. copy ≡ model };
+
+    fn clone(&self) -> Result<SystemModel, AllocError> {
+        Ok(SystemModel {
+            wiring: self.wiring.clone()?,
+            ports: self.ports.clone()?,
+            resets: self.resets,
+            loads: self.loads.clone()?,
+        })
+    }
+}
+
 impl SystemModel {
     /// A system before any request. Images has the bytes of the image of each port by its number, none of a port that names
     /// no image.
@@ -60,7 +75,7 @@ impl SystemModel {
     {
         let parts = system.into_parts();
         let ports = ports_of(alloc, &parts.ports, images)?;
-        let loads = Loads::of(alloc, parts.ports, images)?;
+        let loads = Loads::of(alloc, &parts.ports, images)?;
         // a model has no links
         let wiring = Wiring {
             links: Links::Masters,
@@ -167,11 +182,11 @@ impl SystemModel {
     }
 
     /// A reset of the whole system. If there is no memory for what it loads, nothing is changed.
-    pub fn reset(&mut self, alloc: Global) -> Result<(), AllocError>
+    pub fn reset(&mut self) -> Result<(), AllocError>
         ensures reset { OnOk result (self.new ≡ after_reset self.old) }
         ensures unchanged { OnErr result (self.new ≡ self.old) }
     {
-        let mut loaded = self.loads.make(alloc)?;
+        let mut loaded = self.loads.make()?;
         load_ports(&mut self.ports, &mut loaded);
         Ok(())
     }

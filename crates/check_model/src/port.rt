@@ -26,6 +26,19 @@ pub struct ModelPort {
     pub served: usize,
 }
 
+impl Clone for ModelPort {
+    ghost use Rattle.std.specs.Prelude.{◌≡◌};
+
+    ghost is_clone = { λ port copy. copy ≡ port };
+
+    fn clone(&self) -> Result<ModelPort, AllocError> {
+        Ok(ModelPort {
+            slave: self.slave.clone()?,
+            served: self.served,
+        })
+    }
+}
+
 impl ModelPort {
     /// A port that has served nothing.
     fn new(slave: Slave) -> ModelPort

@@ -12,7 +12,8 @@ use Rattle.check_start.specs.Loads.{SystemPlan}
 use Rattle.check_signals.specs.Names.{SignalNames, names_of_file}
 use Rattle.check_signals.specs.declared.fault.KeyFault.{KeyFault}
 use Rattle.check_signals.specs.declared.fault.KeyFault.TheVariants as key
-use Rattle.check_start.specs.Start.{master_buses, port_buses, system_names}
+use Rattle.check_description.specs.Buses.{master_buses, port_buses}
+use Rattle.check_start.specs.Start.{system_names}
 use Rattle.check_text.specs.Buses.{LinkBuses}
 use Rattle.check_text.specs.declared.fault.Verdict.{Verdict}
 use Rattle.check_waves.specs.Capture.{IsOpened, IsUnopened}

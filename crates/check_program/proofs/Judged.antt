@@ -7,7 +7,8 @@ use Rattle.check_rows.specs.Row.{SeenRow}
 use Rattle.check_records.specs.Text.{TextPlace, text_start}
 use Rattle.check_rows.specs.PortNumbers.{PortNumbers}
 use Rattle.check_start.specs.Numbers.{numbers_of}
-use Rattle.check_start.specs.Start.{ByThePlan, master_buses, port_buses}
+use Rattle.check_description.specs.Buses.{master_buses, port_buses}
+use Rattle.check_start.specs.Start.{ByThePlan}
 use Rattle.check_watch.specs.declared.links.Links.{Links}
 use Rattle.check_text.specs.Buses.{LinkBuses}
 use Rattle.check_text.specs.Capture.{IsCovered, IsFault, IsVerdict, IsWritten, OfCapture, TellsCovered}

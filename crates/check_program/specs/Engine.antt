@@ -17,7 +17,8 @@ use Rattle.check_rows.specs.PortNumbers.{PortNumbers, numbers_in}
 use Rattle.check_start.specs.Numbers.{numbers_of}
 use Rattle.check_start.specs.declared.start.Terms.{Terms}
 use Rattle.check_watch.specs.declared.links.Links.{Links}
-use Rattle.check_start.specs.Start.{ByThePlan, master_buses, system_names, port_buses}
+use Rattle.check_description.specs.Buses.{master_buses, port_buses}
+use Rattle.check_start.specs.Start.{ByThePlan, system_names}
 use Rattle.check_text.specs.Buses.{LinkBuses}
 use Rattle.check_text.specs.Capture.{IsFault, IsVerdict, IsWritten, TellsCovered}
 use Rattle.check_text.specs.declared.fault.CaptureFault.{CaptureFault}

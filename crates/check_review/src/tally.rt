@@ -301,7 +301,7 @@ impl Tally {
         ensures { IfOk result (λ own. IsTrue (are_apart self.now.watch.layout) → own.items ≡ self.now.loads) }
     {
         if self.watch.are_apart() {
-            self.loads.make(alloc)
+            self.loads.make()
         } else {
             Ok(Vec::new(alloc))
         }
@@ -356,7 +356,7 @@ impl Tally {
             (text : List ℕ) → row.is_reset ≡ true → KeptIn system before course self.old
             → OnOk result (KeepsOn system before course (row ∷ before) self.old.trace self.new text text) }
     {
-        let loaded = self.loads.make(alloc)?;
+        let loaded = self.loads.make()?;
         let own = self.own_loads(alloc)?;
         self.watch.reset(alloc, loaded, own)?;
         self.reset_pending();

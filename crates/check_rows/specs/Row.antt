@@ -2,6 +2,7 @@
 use Rattle.std.specs.Prelude.{ℕ, ◌^◌, ◌-◌, ◌==◌, Bool, true, false, ◌&&◌, List, [], ◌∷◌, map, length, drop, take, Option, Some, None, Result, Ok, Err, if◌then◌else◌}
 use Rattle.check_beats.specs.Bus.{bus_bytes}
 use Rattle.check_beats.specs.declared.bus.Bus.{Bus}
+use Rattle.check_beats.specs.declared.bus.Bus.TheVariants.{One}
 use Rattle.check_watch.specs.Plan.{Sighting, seen_at}
 use Rattle.check_watch.specs.declared.beat.Beat.{Beat}
 use Rattle.check_watch.specs.declared.beat.Beat.TheVariants as beat
@@ -58,6 +59,18 @@ nothing_seen =
       mask = 0;
       corrupt = false;
     })) 0 (0 ∷ [])
+
+-- the row of a reset, on a line and of a time: its other fields mean nothing
+abbrev pub row_at_reset : ℕ → ℕ → Row
+row_at_reset line time = record {
+  line = line;
+  time = time;
+  is_reset = true;
+  link = Master 0;
+  bus = One;
+  beat = nothing_seen.beat;
+  known = 0;
+}
 
 -- a beat of channel A is never denied, and not corrupt if that column is empty
 unfoldable pub ask_of_words : ℕ → List (List ℕ) → Result SeenBeat RowFault

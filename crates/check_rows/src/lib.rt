@@ -34,4 +34,4 @@ pub use fault::RowFault;
 pub use moment::Moment;
 pub use port_numbers::{PortNumbers, SourcePlace, number_row};
 pub use request::{Began, Left, Open};
-pub use row::{Row, read_bare_row, read_row};
+pub use row::{Row, asks_for_mark, read_bare_row, read_row};

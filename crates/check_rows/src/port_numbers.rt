@@ -4,6 +4,7 @@ ghost use Rattle.check_rows.specs.PortNumbers.{numbered_beat, numbers_at, number
 
 use crate::row::Row;
 use check_watch::{Beat, Link};
+use std::alloc::AllocError;
 use tl_map::Owner;
 
 /// The sources of a master: as they are numbered at a port's link, and as the system numbers them.
@@ -20,6 +21,20 @@ pub struct PortNumbers {
     pub places: Vec<SourcePlace>,
     /// The system's source for all others: nobody has it.
     pub nobody: u16,
+}
+
+impl Clone for PortNumbers {
+    ghost use Rattle.std.specs.Prelude.{◌≡◌};
+    ghost use Rattle.check_rows.specs.PortNumbers.{numbers_view};
+
+    ghost is_clone = { λ numbers copy. numbers_view copy ≡ numbers_view numbers };
+
+    fn clone(&self) -> Result<PortNumbers, AllocError> {
+        Ok(PortNumbers {
+            places: self.places.clone()?,
+            nobody: self.nobody,
+        })
+    }
 }
 
 /// The source of an owner that has this wide source, if one has.

@@ -5,7 +5,7 @@ ghost use Rattle.check_beats.specs.Bus.{bus_bytes};
 ghost use Rattle.check_rows.specs.Buses.{IsLinkOf, IsLinkOfRow};
 ghost use Rattle.check_rows.specs.Column.{column_parts, column_words};
 ghost use Rattle.check_rows.specs.declared.fault.RowFault.TheVariants.{Cut, Columns as WrongCount};
-ghost use Rattle.check_rows.specs.Row.{ask_of_words, asks_for_mark, beat_in, beat_of, reply_of_words, row_or_reset, row_in, row_of};
+ghost use Rattle.check_rows.specs.Row.{ask_of_words, asks_for_mark, beat_in, beat_of, reply_of_words, row_at_reset, row_or_reset, row_in, row_of};
 
 use crate::buses::Buses;
 use crate::column::{Column, Columns, columns_of, cut_line, is_cut_line, is_cut_record};
@@ -53,6 +53,31 @@ impl Default for Row {
     }
 }
 
+impl Row {
+    /// The row of a reset of the whole system. It has no link and no beat: what stands there means nothing.
+    pub fn reset(line: u64, time: u64) -> Row
+        ensures { result ≡ row_at_reset line time }
+    {
+        Row {
+            line,
+            time,
+            is_reset: true,
+            link: Link::Master(0),
+            bus: Bus::One,
+            beat: Beat::A(AskHead {
+                opcode: 0,
+                param: 0,
+                size: 0,
+                source: 0,
+                address: 0,
+                mask: 0,
+                corrupt: false,
+            }),
+            known: 0,
+        }
+    }
+}
+
 /// The beat of channel A that the columns spell, and which of its lanes are known.
 #[tactic(auto, unfolding(crate::specs::Row::ask_of_words))]
 fn read_ask(
@@ -85,7 +110,7 @@ fn read_ask(
 
 /// Whether the standard asks that a beat of a reply is marked corrupt.
 #[inline(always)]
-pub(crate) fn asks_for_mark(opcode: u8, denied: bool) -> bool
+pub fn asks_for_mark(opcode: u8, denied: bool) -> bool
     ensures { result ≡ asks_for_mark opcode denied }
 {
     denied && opcode == 1
@@ -185,23 +210,7 @@ fn read_reset_row(
         return Err(RowFault::Number);
     }
     lanes[0] = 0;
-    Ok(Row {
-        line,
-        time,
-        is_reset: true,
-        link: Link::Master(0),
-        bus: Bus::One,
-        beat: Beat::A(AskHead {
-            opcode: 0,
-            param: 0,
-            size: 0,
-            source: 0,
-            address: 0,
-            mask: 0,
-            corrupt: false,
-        }),
-        known: 0,
-    })
+    Ok(Row::reset(line, time))
 }
 
 /// The row that columns spell, in a system whose links have these buses, or the first fault that they have, from the

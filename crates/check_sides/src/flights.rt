@@ -34,6 +34,19 @@ impl Model for Flights {
     ghost invariant = { λ f. f.nothing ≡ idle };
 }
 
+impl Clone for Flights {
+    ghost use Rattle.std.specs.Prelude.{◌≡◌};
+
+    ghost is_clone = { λ flights copy. copy ≡ flights };
+
+    fn clone(&self) -> Result<Flights, AllocError> {
+        Ok(Flights {
+            kept: self.kept.clone()?,
+            nothing: Flight::idle(),
+        })
+    }
+}
+
 /// The place of what is in flight of a source at a port's own link.
 fn place_at(port: usize, source: u16) -> FlightPlace
     ensures { result ≡ record { link = port; wide = source; port = port } }

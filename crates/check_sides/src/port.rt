@@ -22,7 +22,7 @@ use check_beats::{AskHead, Bus, LinkRules, ReplyHead, UnderWay};
 use check_cells::Pattern;
 use check_flight::{Answer, PortSlave};
 use check_watch::{Beat, Fault, Reason, Seen, SeenEntry, answer_reason, due_reason, fault_of};
-use std::alloc::Global;
+use std::alloc::{AllocError, Global};
 use std::marker::Model;
 use tl_map::AddressMap;
 
@@ -43,13 +43,18 @@ impl Model for PortLink {
     ghost view = { λ p. record { under = p.under; flights = p.flights; slave = p.slave } };
 }
 
-/// The same reply.
-fn copy_of(reply: &Pattern) -> Pattern
-    ensures { result ≡ reply.now }
-{
-    let mut copy = Pattern::blank();
-    copy.refill_from(reply);
-    copy
+impl Clone for PortLink {
+    ghost use Rattle.std.specs.Prelude.{◌≡◌};
+
+    ghost is_clone = { λ link copy. copy ≡ link };
+
+    fn clone(&self) -> Result<PortLink, AllocError> {
+        Ok(PortLink {
+            under: self.under.clone()?,
+            flights: self.flights.clone()?,
+            slave: self.slave.clone()?,
+        })
+    }
 }
 
 impl PortLink {
@@ -237,7 +242,7 @@ impl PortLink {
         self.capture(beat, known, lanes, &mut reply);
         let mut room = Answer::blank();
         match self.due(port, beat.source, &mut room) {
-            Some(due) => Fault::WrongReply(copy_of(&due.reply), reply),
+            Some(due) => Fault::WrongReply(due.reply.copy(), reply),
             None => Fault::NotGiven,
         }
     }

@@ -44,6 +44,19 @@ impl Model for Watch {
     }) };
 }
 
+impl Clone for Watch {
+    ghost use Rattle.std.specs.Prelude.{◌≡◌};
+
+    ghost is_clone = { λ watch copy. copy ≡ watch };
+
+    fn clone(&self) -> Result<Watch, AllocError> {
+        Ok(Watch {
+            shared: self.shared.clone()?,
+            ports: self.ports.clone()?,
+        })
+    }
+}
+
 /// The links of these buses with these slaves, before any beat.
 fn links_of(
     alloc: Global,

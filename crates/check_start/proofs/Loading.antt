@@ -1,8 +1,8 @@
--- What a reset loads is what the slaves held at the beginning, of the images that are kept.
+-- What a reset loads is what the slaves held at the beginning.
 use Rattle.std.proofs.Common.{◌≡◌, ◌∙◌, ℕ, zero, suc, ◌+◌, ◌<◌, ◌≤◌, Bool, true, false, nat_lt, List, [], ◌∷◌, ◌++◌, get_or, length, map, Option, Some, None, Ok, slice_get, refl, sym, subst, ap, arith}
 use Rattle.std.specs.Prelude.{if◌then◌else◌, option_map}
 use Rattle.std.proofs.lemmas.Bool.{ltb-false}
-use Rattle.std.proofs.lemmas.List.{append_assoc, length_push}
+use Rattle.std.proofs.lemmas.List.{length_push}
 use Rattle.std.proofs.lemmas.Option.{slice_get-get_or, slice_get-map}
 use Rattle.check_memory.specs.declared.slave.Slave.{Slave}
 use Rattle.check_flight.specs.PortSlave.{PortSlave, fresh_slave}
@@ -15,7 +15,7 @@ use Rattle.check_description.specs.Port.{Port, may_answer_unknown, port_view}
 use Rattle.check_description.specs.Ranges.{first_length}
 use Rattle.check_description.specs.Slave.{error_slave, kept_at_reset, slave_at_reset}
 use Rattle.check_description.specs.declared.port.Port as code
-use Rattle.check_start.specs.Loads.{AreLoads, ImagesFit, is_loaded, kept_image, kept_images, load_of, loads_at_reset, loads_from, loads_of}
+use Rattle.check_start.specs.Loads.{AreLoads, ImagesFit, is_loaded, loads_at_reset, loads_from, loads_of}
 use Rattle.check_start.specs.Slaves.{image_at, order_of, slaves_at_reset, slaves_from}
 use Rattle.check_start.specs.declared.slaves.SlaveSide.{SlaveSide}
 use Rattle.check_start.proofs.Counted.{rest_of, same_slaves, step}
@@ -118,66 +118,7 @@ pub loads_counted : (images : List (List ℕ)) (ports : List Port) → length (l
 loads_counted images ports =
     length_push (loads_from images 0 ports) None ∙ ap (λ n. n + 1) (from_counted images 0 ports)
 
--- ---- the images that are kept
-
-same_load_by : (loaded : Bool) (port : Port) (image : List ℕ)
-    → (if loaded then Some (kept_at_reset port (if loaded then image else [])) else None)
-    ≡ (if loaded then Some (kept_at_reset port image) else None)
-same_load_by true port image = refl
-same_load_by false port image = refl
-
--- what is loaded is the same by the image that is kept
-same_load : (port : Port) (image : List ℕ) → load_of port (kept_image port image) ≡ load_of port image
-same_load port image = same_load_by (is_loaded port.on_reset) port image
-
-image_next : (front rest : List (List ℕ)) (image : List ℕ) → image_at (front ++ image ∷ rest) (length front) ≡ image
-image_next [] rest image = refl
-image_next (other ∷ front) rest image = image_next front rest image
-
-same_from : (images front : List (List ℕ)) (number : ℕ) (ports : List Port) → length front ≡ number
-    → loads_from (front ++ kept_images images number ports) number ports ≡ loads_from images number ports
-same_from images front number [] counted = refl
-same_from images front number (port ∷ ports) counted =
-    let kept = kept_image port (image_at images number) in
-    let rest = kept_images images (number + 1) ports in
-    let here : image_at (front ++ kept ∷ rest) number ≡ kept =
-    subst (λ n. image_at (front ++ kept ∷ rest) n ≡ kept) counted (image_next front rest kept) in
-    let first : load_of port (image_at (front ++ kept ∷ rest) number) ≡ load_of port (image_at images number) =
-    ap (load_of port) here ∙ same_load port (image_at images number) in
-    let others : loads_from (front ++ kept ∷ rest) (number + 1) ports ≡ loads_from images (number + 1) ports =
-    subst (λ all. loads_from all (number + 1) ports ≡ loads_from images (number + 1) ports) (append_assoc front (kept ∷ []) rest)
-    (same_from images (front ++ kept ∷ []) (number + 1) ports (length_push front kept ∙ ap (λ n. n + 1) counted)) in
-    rw (first, others) refl
-
-pub same_loads : (images : List (List ℕ)) (ports : List Port)
-    → loads_at_reset (kept_images images 0 ports) ports ≡ loads_at_reset images ports
-same_loads images ports = ap (λ (loads : List (Option Slave)). loads ++ None ∷ []) (same_from images [] 0 ports refl)
-
-shorter_by : (loaded : Bool) (image : List ℕ) → length (if loaded then image else []) ≤ length image
-shorter_by true image = omega arith
-shorter_by false image = omega arith
-
-kept_fit_from : (images : List (List ℕ)) (number : ℕ) (ports : List Port) (place : ℕ) (port : Port)
-    → slice_get ports place ≡ Some port
-    → length (image_at (kept_images images number ports) place) ≤ length (image_at images (number + place))
-kept_fit_from images number [] place port at = absurd cc
-kept_fit_from images number (first ∷ ports) zero port at =
-    let here : number ≡ number + 0 = omega arith in
-    subst (λ n. length (kept_image first (image_at images number)) ≤ length (image_at images n)) here
-    (shorter_by (is_loaded first.on_reset) (image_at images number))
-kept_fit_from images number (first ∷ ports) (suc place) port at =
-    let next : number + 1 + place ≡ number + suc place = omega arith in
-    subst (λ n. length (image_at (kept_images images (number + 1) ports) place) ≤ length (image_at images n)) next
-    (kept_fit_from images (number + 1) ports place port at)
-
--- they fit if all images do
-pub kept_fit : (images : List (List ℕ)) (ports : List Port) → ImagesFit images ports
-    → ImagesFit (kept_images images 0 ports) ports
-kept_fit images ports fit number port at =
-    let here : 0 + number ≡ number = omega arith in
-    let less = subst (λ n. length (image_at (kept_images images 0 ports) number) ≤ length (image_at images n)) here
-    (kept_fit_from images 0 ports number port at) in
-    omega (arith, fit number port at, less)
+-- ---- a port that is there
 
 -- what contracts see of the port at a place
 pub port_at : (ports : List code.Port) (number : ℕ) (port : code.Port) → number < length ports

@@ -62,16 +62,6 @@ loads_from images number (port ∷ ports) = load_of port (image_at images number
 abbrev pub loads_at_reset : List (List ℕ) → List Port → List (Option Slave)
 loads_at_reset images ports = loads_from images 0 ports ++ None ∷ []
 
--- the bytes of a port's image that are kept for resets: all, or none if the port is not loaded
-abbrev pub kept_image : Port → List ℕ → List ℕ
-kept_image port image = if is_loaded port.on_reset then image else []
-
--- the same of ports, the first of which has this number
-abbrev pub kept_images : List (List ℕ) → ℕ → List Port → List (List ℕ)
-kept_images images number [] = []
-kept_images images number (port ∷ ports) =
-    kept_image port (image_at images number) ∷ kept_images images (number + 1) ports
-
 -- the image of each port fits in its first range
 abbrev pub ImagesFit : List (List ℕ) → List Port → Type 0
 ImagesFit images ports =

@@ -1,6 +1,6 @@
 -- How the judge of a system begins. This project's own.
 use Rattle.std.specs.Prelude.{◌≡◌, ℕ, List, map, Ok, IsTrue}
-use Rattle.check_beats.specs.declared.bus.Bus.{Bus}
+use Rattle.check_description.specs.Buses.{master_buses, port_buses}
 use Rattle.check_description.specs.Port.{Port, apart_of, port_fifos}
 use Rattle.check_description.specs.Description.{Description, ranges_of}
 use Rattle.check_description.specs.Master.{Master, master_fifos}
@@ -10,14 +10,6 @@ use Rattle.check_lines.specs.Names.{NamesView}
 use Rattle.check_start.specs.Loads.{SystemPlan, loads_of}
 use Rattle.check_start.specs.Slaves.{own_slaves, shared_slaves}
 use Rattle.check_start.specs.declared.start.Terms.{Terms}
-
--- the bus of each master's link
-abbrev pub master_buses : List Master → List Bus
-master_buses masters = map (λ (master : Master). master.bus) masters
-
--- the bus of each port's link
-abbrev pub port_buses : List Port → List Bus
-port_buses ports = map (λ (port : Port). port.bus) ports
 
 -- what a judge knows of the system ahead
 abbrev pub layout_of : Terms → Description → Layout

@@ -6,8 +6,8 @@
 //! bus that the file gives it. An image that is longer than its range is refused. The only other refusal is want of memory.
 //!
 //! A [`Beginning`] has the names and buses of the links beside the judge, and whether there may be resets of the whole
-//! system. Of a port that lists masters it has the numbers of sources at its link (`specs/Numbers.antt`). Its [`Loads`] make
-//! what a reset loads into the slaves, anew for each reset (`specs/Loads.antt`). Read on in `docs/design/model.md`, "How a judge
+//! system. Of a port that lists masters it has the numbers of sources at its link (`specs/Numbers.antt`). Its [`Loads`] are
+//! what a reset loads into the slaves (`specs/Loads.antt`). Read on in `docs/design/model.md`, "How a judge
 //! begins".
 #![tactic(auto)]
 

@@ -2,8 +2,7 @@
 ghost use Rattle.std.specs.Prelude.{◌≡◌, ◌≤◌, IfOk, length, map};
 ghost use Rattle.check_description.specs.Port.{port_view};
 ghost use Rattle.check_description.specs.Ranges.{first_length};
-ghost use Rattle.check_start.specs.Loads.{ImagesFit, is_loaded, kept_image, kept_images, load_of, loads_at_reset, loads_from};
-ghost use Rattle.check_start.specs.Slaves.{image_at as image_of_port};
+ghost use Rattle.check_start.specs.Loads.{ImagesFit, is_loaded, load_of, loads_at_reset, loads_from};
 
 use crate::slaves::image_at;
 use check_description::{OnReset, Port, kept_at_reset};
@@ -11,25 +10,31 @@ use check_memory::Slave;
 use std::alloc::{AllocError, Global};
 use std::marker::Model;
 
-/// What a reset loads into each slave of a system, the error port's last: the ports, and the images of those that it loads.
-/// It is made anew for each reset.
+/// What a reset loads into each slave of a system, the error port's last. A copy of it is made for each reset.
 #[derive(Drop)]
 pub struct Loads {
-    ports: Vec<Port>,
-    images: Vec<Vec<u8>>,
+    slaves: Vec<Option<Slave>>,
 }
 
 impl Model for Loads {
-    ghost use Rattle.std.specs.Prelude.{List, Option, map};
+    ghost use Rattle.std.specs.Prelude.{List, Option};
     ghost use Rattle.check_memory.specs.declared.slave.Slave.{Slave};
-    ghost use Rattle.check_description.specs.Port.{port_view};
-    ghost use Rattle.check_start.specs.Loads.{ImagesFit, loads_at_reset};
 
     ghost Value = { List (Option Slave) };
 
-    ghost view = { λ l. loads_at_reset (map (λ image. image.items) l.images.items) (map port_view l.ports.items) };
+    ghost view = { λ l. l.slaves.items };
+}
 
-    ghost invariant = { λ l. ImagesFit (map (λ image. image.items) l.images.items) (map port_view l.ports.items) };
+impl Clone for Loads {
+    ghost use Rattle.std.specs.Prelude.{◌≡◌};
+
+    ghost is_clone = { λ loads copy. copy ≡ loads };
+
+    fn clone(&self) -> Result<Loads, AllocError> {
+        Ok(Loads {
+            slaves: self.slaves.clone()?,
+        })
+    }
 }
 
 /// Whether a reset loads a port.
@@ -37,39 +42,6 @@ fn is_loaded(port: &Port) -> bool
     ensures { result ≡ is_loaded (port_view port.now).on_reset }
 {
     matches!(port.on_reset, OnReset::Load)
-}
-
-/// A copy of the image of the port of this number, if a reset loads the port; else nothing.
-fn copy_image(
-    alloc: Global,
-    number: usize,
-    port: &Port,
-    images: &[Vec<u8>],
-) -> Result<Vec<u8>, AllocError>
-    ensures { IfOk result (λ copy. copy.items
-        ≡ kept_image (port_view port.now) (image_of_port (map (λ image. image.items) images.now) number)) }
-{
-    if is_loaded(port) {
-        Vec::from_slice(alloc, image_at(images, number))
-    } else {
-        Ok(Vec::new(alloc))
-    }
-}
-
-/// Copies of the images of the ports that a reset loads, and nothing of any other.
-fn copy_images(
-    alloc: Global,
-    ports: &[Port],
-    images: &[Vec<u8>],
-) -> Result<Vec<Vec<u8>>, AllocError>
-    ensures { IfOk result (λ copies. map (λ image. image.items) copies.items
-        ≡ kept_images (map (λ image. image.items) images.now) 0 (map port_view ports.now)) }
-{
-    let mut copies = Vec::with_capacity(alloc, ports.len())?;
-    for (number, port) in ports.iter().enumerate() {
-        copies.push(copy_image(alloc, number, port, images)?)?;
-    }
-    Ok(copies)
 }
 
 /// What a reset loads into a port with these bytes of its image.
@@ -102,22 +74,21 @@ fn loads_of_ports(
 }
 
 impl Loads {
-    /// What a reset loads into these ports, of whose images copies are kept.
-    pub fn of(alloc: Global, ports: Vec<Port>, images: &[Vec<u8>]) -> Result<Loads, AllocError>
-        requires { ImagesFit (map (λ image. image.items) images.now) (map port_view ports.items) }
+    /// What a reset loads into these ports, with these bytes of their images.
+    pub fn of(alloc: Global, ports: &[Port], images: &[Vec<u8>]) -> Result<Loads, AllocError>
+        requires { ImagesFit (map (λ image. image.items) images.now) (map port_view ports.now) }
         ensures { IfOk result (λ loads. loads
-            ≡ loads_at_reset (map (λ image. image.items) images.now) (map port_view ports.items)) }
+            ≡ loads_at_reset (map (λ image. image.items) images.now) (map port_view ports.now)) }
     {
-        let images = copy_images(alloc, &ports, images)?;
-        Ok(Loads { ports, images })
+        let mut slaves = loads_of_ports(alloc, ports, images)?;
+        slaves.push(None)?;
+        Ok(Loads { slaves })
     }
 
     /// What a reset loads: `None` says that it loads nothing into a slave.
-    pub fn make(&self, alloc: Global) -> Result<Vec<Option<Slave>>, AllocError>
+    pub fn make(&self) -> Result<Vec<Option<Slave>>, AllocError>
         ensures { IfOk result (λ loaded. loaded.items ≡ self.now) }
     {
-        let mut loaded = loads_of_ports(alloc, &self.ports, &self.images)?;
-        loaded.push(None)?;
-        Ok(loaded)
+        self.slaves.clone()
     }
 }

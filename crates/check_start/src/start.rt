@@ -2,6 +2,7 @@
 ghost use Rattle.std.specs.Prelude.{◌≡◌, ◌≢◌, ◌≤◌, [], length, map, option_map, string_bytes, Err, IfOk, IfErr, IsTrue, Ok};
 ghost use Rattle.tl_map.specs.declared.limits.TheConstants.{MAX_JUDGED_MASTERS, MAX_JUDGED_PORTS};
 ghost use Rattle.check_keys.specs.declared.fault.SystemFault.TheVariants.{Memory};
+ghost use Rattle.check_description.specs.Buses.{master_buses as buses_of_masters, port_buses as buses_of_ports};
 ghost use Rattle.check_description.specs.Port.{port_view};
 ghost use Rattle.check_description.specs.Master.{master_view};
 ghost use Rattle.check_turns.specs.View.{is_some_alone as is_some_by, KeepsOrdered};
@@ -11,7 +12,7 @@ ghost use Rattle.check_rows.specs.PortNumbers.{numbers_in};
 ghost use Rattle.check_start.specs.Loads.{AreLoadsOf};
 ghost use Rattle.check_start.specs.Numbers.{numbers_of};
 ghost use Rattle.check_start.specs.Slaves.{own_slaves as slaves_of_links, shared_slaves};
-ghost use Rattle.check_start.specs.Start.{ByThePlan, layout_of, master_buses as buses_of_masters, system_names, port_buses as buses_of_ports};
+ghost use Rattle.check_start.specs.Start.{ByThePlan, layout_of, system_names};
 
 use crate::crossing::apart_of;
 use crate::fifos::fifos_of;
@@ -19,14 +20,13 @@ use crate::loads::Loads;
 use crate::numbers::numbers_by;
 use crate::slaves::{SlaveSide, shared_side, slaves_of};
 use check_beats::Bus;
-use check_description::{Described, Description, Master, Port};
+use check_description::{Described, Description, Master, Port, master_buses, port_buses};
 use check_flight::{PortSlave, SideOrders};
 use check_keys::SystemFault;
 use check_lines::Names;
 use check_rows::PortNumbers;
 use check_turns::{Links, OrderedWatch, Paths, Wiring, is_some_alone};
 use std::alloc::{AllocError, Global};
-use tl_map::{AddressMap, SourceOwners};
 
 /// By what terms beats are judged: which links are watched, when the requests of a port take effect on a side for which
 /// the system does not say it, and the longest time from a request's first beat to that of its reply, if there is a limit.
@@ -94,36 +94,6 @@ fn system_names(alloc: Global, system: &Description) -> Result<Names, AllocError
     Ok(Names::new(masters, ports))
 }
 
-/// The buses of the ports' links.
-fn port_buses(alloc: Global, addresses: &AddressMap, ports: &[Port]) -> Result<Vec<Bus>, AllocError>
-    requires { length addresses.now ≡ length ports.now }
-    ensures buses { IfOk result (λ buses. buses.items ≡ buses_of_ports (map port_view ports.now)) }
-    ensures few { IfOk result (λ buses. length buses.items ≤ MAX_JUDGED_PORTS) }
-{
-    let mut buses = Vec::with_capacity(alloc, addresses.ports() - 1)?;
-    for port in ports {
-        buses.push(port.bus)?;
-    }
-    Ok(buses)
-}
-
-/// The buses of the masters' links.
-fn master_buses(
-    alloc: Global,
-    sources: &SourceOwners,
-    masters: &[Master],
-) -> Result<Vec<Bus>, AllocError>
-    requires { length sources.now ≡ length masters.now }
-    ensures buses { IfOk result (λ buses. buses.items ≡ buses_of_masters (map master_view masters.now)) }
-    ensures few { IfOk result (λ buses. length buses.items ≤ MAX_JUDGED_MASTERS) }
-{
-    let mut buses = Vec::with_capacity(alloc, sources.masters())?;
-    for master in masters {
-        buses.push(master.bus)?;
-    }
-    Ok(buses)
-}
-
 /// The buses of the links of a system's masters and ports, by their numbers.
 #[derive(Drop)]
 struct LinkBuses {
@@ -141,8 +111,11 @@ fn buses_of(alloc: Global, parts: &Described) -> Result<LinkBuses, AllocError>
     ensures few_masters { IfOk result (λ buses. length buses.masters.items ≤ MAX_JUDGED_MASTERS) }
     ensures few_ports { IfOk result (λ buses. length buses.ports.items ≤ MAX_JUDGED_PORTS) }
 {
-    let masters = master_buses(alloc, &parts.sources, &parts.masters)?;
-    let ports = port_buses(alloc, &parts.addresses, &parts.ports)?;
+    // these two are called for their clauses: there are few masters and few ports
+    let _owners = parts.sources.masters();
+    let _slots = parts.addresses.ports();
+    let masters = master_buses(alloc, &parts.masters)?;
+    let ports = port_buses(alloc, &parts.ports)?;
     Ok(LinkBuses { masters, ports })
 }
 
@@ -230,7 +203,7 @@ pub fn begin(
     let told = buses_of(alloc, &parts)?;
     let numbers = numbers_by(alloc, terms.links, &apart, &parts)?;
     let paths = Paths::new(parts.paths);
-    let loads = Loads::of(alloc, parts.ports, images)?;
+    let loads = Loads::of(alloc, &parts.ports, images)?;
     let wiring = Wiring {
         links: terms.links,
         apart,

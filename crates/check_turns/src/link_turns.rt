@@ -32,6 +32,20 @@ impl Model for LinkTurns {
     ghost invariant = { λ t. length t.numbers.items ≡ 65536 };
 }
 
+impl Clone for LinkTurns {
+    ghost use Rattle.std.specs.Prelude.{◌≡◌};
+
+    ghost is_clone = { λ turns copy. copy ≡ turns };
+
+    fn clone(&self) -> Result<LinkTurns, AllocError> {
+        Ok(LinkTurns {
+            asked: self.asked,
+            answered: self.answered,
+            numbers: self.numbers.clone()?,
+        })
+    }
+}
+
 /// So many numbers, all zero.
 fn zeros(alloc: Global, count: usize) -> Result<Vec<u64>, AllocError>
     ensures counted { IfOk result (λ numbers. length numbers.items ≡ count) }

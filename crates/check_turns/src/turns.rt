@@ -26,6 +26,19 @@ impl Model for Turns {
     ghost view = { λ t. record { masters = t.masters.items; ports = t.ports.items } };
 }
 
+impl Clone for Turns {
+    ghost use Rattle.std.specs.Prelude.{◌≡◌};
+
+    ghost is_clone = { λ turns copy. copy ≡ turns };
+
+    fn clone(&self) -> Result<Turns, AllocError> {
+        Ok(Turns {
+            masters: self.masters.clone()?,
+            ports: self.ports.clone()?,
+        })
+    }
+}
+
 /// What is kept of a link before any beat: something if its replies come in order.
 fn turns_by(alloc: Global, in_order: bool) -> Result<Option<LinkTurns>, AllocError>
     ensures { IfOk result (IsFreshBy in_order) }

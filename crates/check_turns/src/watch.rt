@@ -39,6 +39,19 @@ impl Model for OrderedWatch {
     ghost view = { λ w. record { layout = w.beats.layout; beats = w.beats; turns = w.turns } };
 }
 
+impl Clone for OrderedWatch {
+    ghost use Rattle.std.specs.Prelude.{◌≡◌};
+
+    ghost is_clone = { λ watch copy. copy ≡ watch };
+
+    fn clone(&self) -> Result<OrderedWatch, AllocError> {
+        Ok(OrderedWatch {
+            beats: self.beats.clone()?,
+            turns: self.turns.clone()?,
+        })
+    }
+}
+
 impl OrderedWatch {
     /// The judge of a crossbar that is wired so, before any beat. There is a slave for each port, the error port's last, as it is at
     /// reset. A port that is flagged is judged by itself if both sides are watched. If some port is, slaves are given a second

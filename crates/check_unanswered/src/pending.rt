@@ -34,6 +34,20 @@ impl Model for Pending {
     ghost view = { λ p. record { masters = p.masters.items; ports = p.ports.items; taken = p.taken } };
 }
 
+impl Clone for Pending {
+    ghost use Rattle.std.specs.Prelude.{◌≡◌};
+
+    ghost is_clone = { λ pending copy. copy ≡ pending };
+
+    fn clone(&self) -> Result<Pending, AllocError> {
+        Ok(Pending {
+            masters: self.masters.clone()?,
+            ports: self.ports.clone()?,
+            taken: self.taken,
+        })
+    }
+}
+
 /// Nothing in flight of so many wide sources.
 fn fresh_table(alloc: Global, count: usize) -> Result<Vec<Option<Open>>, AllocError>
     ensures counted { IfOk result (λ table. length table.items ≡ count) }

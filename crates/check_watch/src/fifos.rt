@@ -1,6 +1,7 @@
 //! Links at which replies begin in the order of their requests.
 ghost use Rattle.std.specs.Prelude.{◌≡◌};
 
+use std::alloc::AllocError;
 use std::marker::Model;
 
 /// The links at which replies begin in the order in which their requests began: a flag for each master's link, and one for
@@ -17,6 +18,19 @@ impl Model for FifoLinks {
     ghost Value = { FifoFlags };
 
     ghost view = { λ f. record { masters = f.masters.items; ports = f.ports.items } };
+}
+
+impl Clone for FifoLinks {
+    ghost use Rattle.std.specs.Prelude.{◌≡◌};
+
+    ghost is_clone = { λ fifos copy. copy ≡ fifos };
+
+    fn clone(&self) -> Result<FifoLinks, AllocError> {
+        Ok(FifoLinks {
+            masters: self.masters.clone()?,
+            ports: self.ports.clone()?,
+        })
+    }
 }
 
 impl FifoLinks {

@@ -22,15 +22,6 @@ use check_cells::Pattern;
 use check_flight::{Answer, Flight, FlightPlace};
 use tl_types::{Ask, reply_opcode};
 
-/// The same reply.
-fn copy_of(reply: &Pattern) -> Pattern
-    ensures { result ≡ reply.now }
-{
-    let mut copy = Pattern::blank();
-    copy.refill_from(reply);
-    copy
-}
-
 /// Whether each lane that carries a byte of the reply to a request is known, if the slave may leave none unknown.
 fn has_known_lanes(under: &UnderWay, unknown: bool, ask: &Ask, beat: &ReplyHead, known: u64) -> bool
     requires { FitsReply (first_reply under.now.replying) beat.now }
@@ -232,7 +223,7 @@ pub fn wrong_reply(
     let mut room = Answer::blank();
     let port = watch.port_in_flight(link, wide);
     match watch.due(link, wide, port, &mut room) {
-        Some(due) => Fault::WrongReply(copy_of(&due.reply), reply),
+        Some(due) => Fault::WrongReply(due.reply.copy(), reply),
         None => Fault::NotGiven,
     }
 }

@@ -58,6 +58,22 @@ impl Model for GroupWatch {
     }) };
 }
 
+impl Clone for GroupWatch {
+    ghost use Rattle.std.specs.Prelude.{◌≡◌};
+
+    ghost is_clone = { λ watch copy. copy ≡ watch };
+
+    fn clone(&self) -> Result<GroupWatch, AllocError> {
+        Ok(GroupWatch {
+            wiring: self.wiring.clone()?,
+            masters: self.masters.clone()?,
+            ports: self.ports.clone()?,
+            crossings: self.crossings.clone()?,
+            slaves: self.slaves.clone()?,
+        })
+    }
+}
+
 /// A wide source, if a master has it.
 fn owned(sources: &SourceOwners, source: u16) -> Option<u16>
     ensures { (wide : ℕ) → (result ≡ Some wide) ↔ ((wide ≡ source) × IsOwned sources.now source) }

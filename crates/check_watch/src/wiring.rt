@@ -7,6 +7,7 @@ use crate::fifos::FifoLinks;
 use crate::links::Links;
 use crate::paths::Paths;
 use check_beats::{Bus, LinkRules};
+use std::alloc::AllocError;
 use std::marker::Model;
 use tl_map::{AddressMap, SourceOwners};
 
@@ -44,6 +45,26 @@ impl Model for Wiring {
       master_buses = w.master_buses.items;
       port_buses = w.port_buses.items;
     } };
+}
+
+impl Clone for Wiring {
+    ghost use Rattle.std.specs.Prelude.{◌≡◌};
+
+    ghost is_clone = { λ wiring copy. copy ≡ wiring };
+
+    fn clone(&self) -> Result<Wiring, AllocError> {
+        Ok(Wiring {
+            links: self.links,
+            apart: self.apart.clone()?,
+            fifos: self.fifos.clone()?,
+            rules: self.rules,
+            map: self.map.clone()?,
+            paths: self.paths.clone()?,
+            sources: self.sources.clone()?,
+            master_buses: self.master_buses.clone()?,
+            port_buses: self.port_buses.clone()?,
+        })
+    }
 }
 
 impl Wiring {

@@ -8,7 +8,7 @@ use Rattle.check_description.specs.Port.{Port}
 use Rattle.check_description.specs.Description.{Description, Makes}
 use Rattle.check_description.specs.File.{Parts, parts_of}
 use Rattle.check_description.specs.Master.{Master}
-use Rattle.check_start.specs.Start.{master_buses, port_buses}
+use Rattle.check_description.specs.Buses.{master_buses, port_buses}
 use Rattle.check_samples.specs.Sampling.{rows_from}
 use Rattle.check_beats.specs.declared.bus.Bus.{Bus}
 use Rattle.check_samples.specs.Resets.{unwatched_reset}

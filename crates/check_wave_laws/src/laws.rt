@@ -7,7 +7,7 @@ ghost use Rattle.check_beats.specs.declared.bus.Bus.{Bus};
 ghost use Rattle.check_rows.specs.Buses.{IsLinkOf, bus_of_link};
 ghost use Rattle.check_description.specs.Description.{Description, Makes};
 ghost use Rattle.check_description.specs.File.{Parts, parts_of};
-ghost use Rattle.check_start.specs.Start.{master_buses, port_buses};
+ghost use Rattle.check_description.specs.Buses.{master_buses, port_buses};
 ghost use Rattle.check_samples.specs.Left.{end_in};
 ghost use Rattle.check_samples.specs.Resets.{reset_row};
 ghost use Rattle.check_samples.specs.Rows.{Probes, Rows, row_at};

@@ -1,9 +1,8 @@
 -- What a system says of its links. This project's own.
-use Rattle.std.specs.Prelude.{List, map}
+use Rattle.std.specs.Prelude.{List}
 use Rattle.check_beats.specs.declared.bus.Bus.{Bus}
-use Rattle.check_description.specs.Port.{Port}
+use Rattle.check_description.specs.Buses.{master_buses, port_buses}
 use Rattle.check_description.specs.Description.{Description}
-use Rattle.check_description.specs.Master.{Master}
 use Rattle.check_signals.specs.Names.{SignalNames, names_view}
 use Rattle.check_waves.specs.declared.system.WaveLinks as code_links
 
@@ -13,18 +12,10 @@ pub record WaveLinks : Type 0 where
   pub ports : List Bus
   pub names : SignalNames
 
--- the bus of each master's link, in order.
-abbrev pub buses_of_masters : List Master → List Bus
-buses_of_masters masters = map (λ (master : Master). master.bus) masters
-
--- the bus of each port's link, in order.
-abbrev pub buses_of_ports : List Port → List Bus
-buses_of_ports ports = map (λ (port : Port). port.bus) ports
-
 -- the links of a system whose signals have these names
 abbrev pub wave_links_of : Description → SignalNames → WaveLinks
 wave_links_of system names =
-    record { masters = buses_of_masters system.masters; ports = buses_of_ports system.ports; names = names }
+    record { masters = master_buses system.masters; ports = port_buses system.ports; names = names }
 
 -- what contracts see
 abbrev pub wave_links_view : code_links.WaveLinks → WaveLinks

@@ -1,16 +1,14 @@
 //! What a system file says of its links.
-ghost use Rattle.std.specs.Prelude.{◌≡◌, ◌+◌, ℕ, List, Option, IfErr, IfOk, map};
-ghost use Rattle.check_description.specs.Port.{port_view};
-ghost use Rattle.check_description.specs.Master.{master_view};
+ghost use Rattle.std.specs.Prelude.{◌≡◌, ◌+◌, ℕ, List, Option, IfErr, IfOk};
 ghost use Rattle.check_description.specs.declared.read.TheConstants.{MAX_SYSTEM};
 ghost use Rattle.check_signals.specs.Names.{names_view};
 ghost use Rattle.tl_streams.specs.Streams.{ReadsUpTo};
 ghost use Rattle.check_waves.specs.Capture.{Describes, GivesLinks, IsOfSystem};
-ghost use Rattle.check_waves.specs.Links.{buses_of_masters, buses_of_ports, wave_links_of, wave_links_view};
+ghost use Rattle.check_waves.specs.Links.{wave_links_of, wave_links_view};
 
 use crate::fault::WaveFault;
 use check_beats::Bus;
-use check_description::{Description, MAX_SYSTEM, Master, Port, describe, read_parts};
+use check_description::{Description, MAX_SYSTEM, describe, master_buses, port_buses, read_parts};
 use check_signals::{SignalNames, read_names};
 use std::alloc::{AllocError, Global};
 use std::io::Read;
@@ -22,28 +20,6 @@ pub struct WaveLinks {
     pub master_buses: Vec<Bus>,
     pub port_buses: Vec<Bus>,
     pub names: SignalNames,
-}
-
-/// The buses of the masters' links.
-fn master_buses(alloc: Global, masters: &[Master]) -> Result<Vec<Bus>, AllocError>
-    ensures { IfOk result (λ buses. buses.items ≡ buses_of_masters (map master_view masters.now)) }
-{
-    let mut buses = Vec::new(alloc);
-    for master in masters {
-        buses.push(master.bus)?;
-    }
-    Ok(buses)
-}
-
-/// The buses of the ports' links.
-fn port_buses(alloc: Global, ports: &[Port]) -> Result<Vec<Bus>, AllocError>
-    ensures { IfOk result (λ buses. buses.items ≡ buses_of_ports (map port_view ports.now)) }
-{
-    let mut buses = Vec::new(alloc);
-    for port in ports {
-        buses.push(port.bus)?;
-    }
-    Ok(buses)
 }
 
 /// The links of a system whose signals have these names.

@@ -6,3 +6,4 @@ pub mod Numbers
 pub mod Telling
 pub mod Told
 pub mod Resets
+pub mod Mapped

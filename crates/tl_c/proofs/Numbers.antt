@@ -1,15 +1,21 @@
 -- The numbers of a byte that is not shown or put.
-use Rattle.std.proofs.Common.{◌≡◌, ◌↔◌, ◌≤◌, ◌∙◌, Result, Ok, Err, refl, sym, ap, arith}
+use Rattle.std.proofs.Common.{◌≡◌, ◌≢◌, ◌↔◌, ◌≤◌, ◌∙◌, Result, Ok, Err, refl, sym, ap, arith}
 use Rattle.check_model.specs.declared.fault.ByteFault.{ByteFault}
 use Rattle.check_model.specs.declared.fault.ByteFault.TheVariants.{Device, Memory, Nowhere}
 use Rattle.tl_c.specs.Numbers.{byte_number}
-use Rattle.tl_c.specs.declared.fault.TheConstants.{DEVICE, MEMORY, NO_BYTE}
+use Rattle.tl_c.specs.declared.fault.TheConstants.{BAD_ARGUMENT, DEVICE, MEMORY, NO_BYTE}
 
 -- each is at least that of want of memory
 pub number_floor : (fault : ByteFault) → MEMORY ≤ byte_number fault
 number_floor Nowhere = omega arith
 number_floor Device = omega arith
 number_floor Memory = omega arith
+
+-- and none is that of a bad argument
+pub number_other : (fault : ByteFault) → byte_number fault ≢ BAD_ARGUMENT
+number_other Nowhere is = omega (arith, is)
+number_other Device is = omega (arith, is)
+number_other Memory is = omega (arith, is)
 
 nowhere_by : (fault : ByteFault) → byte_number fault ≡ NO_BYTE → fault ≡ Nowhere
 nowhere_by Nowhere is = refl

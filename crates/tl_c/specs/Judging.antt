@@ -127,6 +127,21 @@ pub record KeepsAtReset (old new : HeldJudge) : Type 0 where
   pub answered : new.answered ≡ old.answered
   pub text : new.text ≡ old.text
 
+-- ---- copies
+
+-- the judge goes on from where the old one is; its text has room for a line
+pub record IsCopyOf (old new : HeldJudge) : Type 0 where
+  pub watch : new.watch ≡ old.watch
+  pub names : new.names ≡ old.names
+  pub resets : new.resets ≡ old.resets
+  pub loads : new.loads ≡ old.loads
+  pub numbers : numbers_in new.numbers.items ≡ numbers_in old.numbers.items
+  pub pending : new.pending ≡ old.pending
+  pub requests : new.requests ≡ old.requests
+  pub answered : new.answered ≡ old.answered
+  pub text : new.text.items ≡ old.text.items
+  pub room : LINE_ROOM ≤ vec_capacity new.text
+
 -- ---- judges before any beat
 
 -- a judge of this system with these bytes of its images, before any beat: it keeps no beat by each plan of the system, of

@@ -9,6 +9,7 @@ use check_rows::PortNumbers;
 use check_start::Loads;
 use check_turns::OrderedWatch;
 use check_unanswered::Pending;
+use std::alloc::AllocError;
 use std::marker::Model;
 use tl_types::Ask;
 
@@ -27,6 +28,21 @@ impl Model for Server {
     ghost Value = { ModelState };
 
     ghost view = { λ s. s.crossbar };
+}
+
+// the places of a request and of an answer hold nothing that goes on
+impl Clone for Server {
+    ghost use Rattle.std.specs.Prelude.{◌≡◌};
+
+    ghost is_clone = { λ server copy. copy ≡ server };
+
+    fn clone(&self) -> Result<Server, AllocError> {
+        Ok(Server {
+            crossbar: self.crossbar.clone()?,
+            ask: Ask::blank(),
+            answer: Answer::blank(),
+        })
+    }
 }
 
 /// A judge of beats, with the names of links, whether there may be resets of the whole system and what they load, the numbers of

@@ -37,5 +37,5 @@ pub fn room_in_numbers()
 
 /// The version of the header, `TLX_VERSION`.
 pub fn version_in_numbers()
-    ensures { VERSION ≡ 7 }
+    ensures { VERSION ≡ 8 }
 {}

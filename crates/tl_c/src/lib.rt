@@ -14,6 +14,7 @@ ghost use Rattle.std.specs.Prelude.{◌≡◌};
 
 use tl_types::MAX_SIZE;
 
+mod copies;
 mod draft;
 mod fault;
 mod handle;

@@ -26,7 +26,7 @@ use std::alloc::Global;
 pub(crate) const LINE_ROOM: usize = 2048;
 
 /// The links of a number.
-fn links_of(number: u8) -> Option<Links>
+fn links_of(number: u32) -> Option<Links>
     ensures { result ≡ links_of number }
 {
     if number == 0 {
@@ -43,7 +43,7 @@ fn links_of(number: u8) -> Option<Links>
 }
 
 /// The order of a number.
-fn order_of(number: u8) -> Option<Order>
+fn order_of(number: u32) -> Option<Order>
     ensures { result ≡ order_of number }
 {
     if number == 0 {
@@ -58,7 +58,7 @@ fn order_of(number: u8) -> Option<Order>
 }
 
 /// The terms of three numbers. A judge by calls has no limit of time.
-fn terms_of(links: u8, masters: u8, ports: u8) -> Option<Terms>
+fn terms_of(links: u32, masters: u32, ports: u32) -> Option<Terms>
     ensures links { IfSome result (λ terms. links_of links ≡ Some terms.links) }
     ensures masters { IfSome result (λ terms. order_of masters ≡ Some terms.orders.masters) }
     ensures ports { IfSome result (λ terms. order_of ports ≡ Some terms.orders.ports) }
@@ -149,9 +149,9 @@ pub extern "C" fn tlx_judge_make_at(
     alloc: Global,
     judge: &mut Handle,
     system: &mut Handle,
-    links: u8,
-    masters: u8,
-    ports: u8,
+    links: u32,
+    masters: u32,
+    ports: u32,
     room: &mut [u8],
     written: &mut usize,
 ) -> u32
@@ -194,9 +194,9 @@ pub extern "C" fn tlx_judge_read_at(
     alloc: Global,
     judge: &mut Handle,
     file: &[u8],
-    links: u8,
-    masters: u8,
-    ports: u8,
+    links: u32,
+    masters: u32,
+    ports: u32,
     version: u32,
     room: &mut [u8],
     written: &mut usize,

@@ -12,8 +12,8 @@ ghost use Rattle.tl_c.specs.declared.held.HandleContent.TheVariants.{Model};
 
 use crate::draft::Draft;
 use crate::fault::{
-    DEVICE, EMPTY, FULL, IMAGE_UNREADABLE, MEMORY, NO_BYTE, NO_LINK, NO_OPERATION, OK, SIZE,
-    byte_number, serve_number,
+    BAD_ARGUMENT, DEVICE, EMPTY, FULL, IMAGE_UNREADABLE, MEMORY, NO_BYTE, NO_LINK, NO_OPERATION,
+    OK, SIZE, byte_number, serve_number,
 };
 use crate::handle::{Handle, hold, is_full, take};
 use crate::held::{HandleContent, Server};
@@ -172,7 +172,7 @@ pub extern "C" fn tlx_model_serve_at(
 }
 
 /// What is seen of the byte at an address.
-fn peek(model: &Server, address: u64, byte: &mut u8, known: &mut u8) -> u32
+fn peek(model: &Server, address: u64, byte: &mut u8, known: &mut u32) -> u32
     ensures nowhere { result ≡ NO_BYTE ↔ IsNowhere model.now address }
     ensures shown { TellsByte model.now address result byte.new known.new }
     ensures some { result ≢ OK → MEMORY ≤ result }
@@ -182,7 +182,7 @@ fn peek(model: &Server, address: u64, byte: &mut u8, known: &mut u8) -> u32
     match model.crossbar.peek(address) {
         Ok(seen) => {
             *byte = seen.unwrap_or(0);
-            *known = seen.is_some() as u8;
+            *known = seen.is_some() as u32;
             OK
         }
         Err(fault) => byte_number(fault),
@@ -196,7 +196,7 @@ pub extern "C" fn tlx_model_peek_at(
     model: &mut Handle,
     address: u64,
     byte: &mut u8,
-    known: &mut u8,
+    known: &mut u32,
 ) -> u32
     ensures empty { result ≡ EMPTY ↔ (IsModel model.old.value → ⊥) }
     ensures nowhere { result ≡ NO_BYTE ↔ HoldsModel (λ state. IsNowhere state address) model.old.value }
@@ -218,7 +218,7 @@ pub extern "C" fn tlx_model_peek_at(
 }
 
 /// A byte, if it is known.
-fn byte_by(byte: u8, known: u8) -> Option<u8>
+fn byte_by(byte: u8, known: u32) -> Option<u8>
     ensures { result ≡ byte_by byte known }
 {
     if known == 0 { None } else { Some(byte) }
@@ -230,6 +230,7 @@ fn poke(alloc: Global, model: &mut Server, address: u64, byte: Option<u8>) -> u3
     ensures device { TellsDevice model.old address result }
     ensures poked { result ≡ OK → IsPoked model.old address byte model.new }
     ensures some { result ≢ OK → MEMORY ≤ result }
+    ensures other { result ≢ BAD_ARGUMENT }
     ensures err { result ≢ OK → model.new ≡ model.old }
 {
     if let Err(fault) = model.crossbar.poke(alloc, address, byte) {
@@ -245,15 +246,21 @@ pub extern "C" fn tlx_model_poke_at(
     model: &mut Handle,
     address: u64,
     byte: u8,
-    known: u8,
+    known: u32,
 ) -> u32
-    ensures empty { result ≡ EMPTY ↔ (IsModel model.old.value → ⊥) }
-    ensures nowhere { result ≡ NO_BYTE ↔ HoldsModel (λ state. IsNowhere state address) model.old.value }
-    ensures device { result ≢ EMPTY → HoldsModel (λ state. TellsDevice state address result) model.old.value }
+    ensures bad_argument { result ≡ BAD_ARGUMENT ↔ 1 < known }
+    ensures empty { result ≡ EMPTY ↔ ((known ≤ 1) × (IsModel model.old.value → ⊥)) }
+    ensures nowhere { result ≡ NO_BYTE
+        ↔ ((known ≤ 1) × HoldsModel (λ state. IsNowhere state address) model.old.value) }
+    ensures device { known ≤ 1 → result ≢ EMPTY
+        → HoldsModel (λ state. TellsDevice state address result) model.old.value }
     ensures poked { result ≡ OK → HoldsModel (λ old.
         HoldsModel (IsPoked old address (byte_by byte known)) model.new.value) model.old.value }
     ensures err { result ≢ OK → model.new.value ≡ model.old.value }
 {
+    if known > 1 {
+        return BAD_ARGUMENT;
+    }
     let Some(mut held) = take(alloc, model) else {
         return EMPTY;
     };
@@ -266,7 +273,7 @@ pub extern "C" fn tlx_model_poke_at(
 }
 
 /// Resets a model, if its system has resets.
-fn reset(alloc: Global, model: &mut Server) -> u32
+fn reset(model: &mut Server) -> u32
     ensures link { result ≡ NO_LINK ↔ (model.old.resets ≡ false) }
     ensures reset { result ≡ OK → model.new ≡ after_reset model.old }
     ensures err { result ≢ OK → model.new ≡ model.old }
@@ -275,7 +282,7 @@ fn reset(alloc: Global, model: &mut Server) -> u32
     if !model.crossbar.has_resets() {
         return NO_LINK;
     }
-    match model.crossbar.reset(alloc) {
+    match model.crossbar.reset() {
         Ok(()) => OK,
         Err(_) => MEMORY,
     }
@@ -295,7 +302,7 @@ pub extern "C" fn tlx_model_reset_at(alloc: Global, model: &mut Handle) -> u32
         return EMPTY;
     };
     let number = match &mut *held {
-        HandleContent::Model(server) => reset(alloc, server),
+        HandleContent::Model(server) => reset(server),
         HandleContent::Draft(_) | HandleContent::Judge(_) => EMPTY,
     };
     *model = Handle::of(held);

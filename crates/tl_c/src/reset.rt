@@ -1,5 +1,5 @@
 //! Resets of the whole system, as a judge takes them.
-ghost use Rattle.std.specs.Prelude.{◌≡◌, ◌≢◌, ◌↔◌, List, IfOk, IsTrue, None, OnOk, Some, false};
+ghost use Rattle.std.specs.Prelude.{◌≡◌, ◌≢◌, ◌↔◌, List, IfOk, IsTrue, OnErr, OnOk, Some, false};
 ghost use Rattle.tl_c.specs.Calls.{HoldsJudge, IsJudge};
 ghost use Rattle.tl_c.specs.Judging.{IsAfterReset, KeepsAtReset};
 ghost use Rattle.tl_c.specs.declared.held.HeldJudge.{HeldJudge};
@@ -20,22 +20,25 @@ fn own_loads(alloc: Global, judge: &HeldJudge) -> Result<Vec<Option<Slave>>, All
     ensures { IfOk result (λ own. IsTrue (are_apart judge.now.watch.layout) → own.items ≡ judge.now.loads) }
 {
     if judge.watch.are_apart() {
-        judge.loads.make(alloc)
+        judge.loads.make()
     } else {
         Ok(Vec::new(alloc))
     }
 }
 
-/// The judge goes on after a reset of the whole system. Memory may be refused: then nothing is promised of what is kept
-/// from then on.
+/// The judge goes on after a reset of the whole system. Memory may be refused: then it is as it was.
+// of what is kept of the beats a copy is reset, which takes the place of it at the end
 fn go_on(alloc: Global, judge: &mut HeldJudge) -> Result<(), AllocError>
     ensures reset { (plan : Plan) (past : List Sighting) → KeepsOrdered plan past judge.old.watch
         → OnOk result (IsAfterReset plan past judge.old judge.new) }
     ensures kept { OnOk result (KeepsAtReset judge.old judge.new) }
+    ensures err { OnErr result (judge.new ≡ judge.old) }
 {
-    let loaded = judge.loads.make(alloc)?;
+    let loaded = judge.loads.make()?;
     let own = own_loads(alloc, judge)?;
-    judge.watch.reset(alloc, loaded, own)?;
+    let mut watch = judge.watch.clone()?;
+    watch.reset(alloc, loaded, own)?;
+    judge.watch = watch;
     judge.pending.reset();
     Ok(())
 }
@@ -46,7 +49,7 @@ fn reset(alloc: Global, judge: &mut HeldJudge) -> u32
     ensures reset { (plan : Plan) (past : List Sighting) → KeepsOrdered plan past judge.old.watch → result ≡ OK
         → IsAfterReset plan past judge.old judge.new }
     ensures kept { result ≡ OK → KeepsAtReset judge.old judge.new }
-    ensures same { result ≡ NO_LINK → judge.new ≡ judge.old }
+    ensures err { result ≢ OK → judge.new ≡ judge.old }
     ensures answers { result ≢ OK → result ≢ NO_LINK → result ≡ MEMORY }
 {
     if !judge.resets {
@@ -58,7 +61,7 @@ fn reset(alloc: Global, judge: &mut HeldJudge) -> u32
     }
 }
 
-/// `tlx_judge_reset_at` of the header: the whole system is reset. If memory is refused, the handle holds nothing.
+/// `tlx_judge_reset_at` of the header: the whole system is reset.
 #[unsafe(no_mangle)]
 pub extern "C" fn tlx_judge_reset_at(alloc: Global, judge: &mut Handle) -> u32
     ensures empty { result ≡ EMPTY ↔ (IsJudge judge.old.value → ⊥) }
@@ -67,8 +70,7 @@ pub extern "C" fn tlx_judge_reset_at(alloc: Global, judge: &mut Handle) -> u32
         → KeepsOrdered plan past j.watch → result ≡ OK → HoldsJudge (IsAfterReset plan past j) judge.new.value }
     ensures kept { result ≡ OK
         → HoldsJudge (λ old. HoldsJudge (KeepsAtReset old) judge.new.value) judge.old.value }
-    ensures memory { result ≡ MEMORY → judge.new.value ≡ None }
-    ensures same { result ≢ OK → result ≢ MEMORY → judge.new.value ≡ judge.old.value }
+    ensures err { result ≢ OK → judge.new.value ≡ judge.old.value }
     ensures answers { result ≢ OK → result ≢ EMPTY → result ≢ NO_LINK → result ≡ MEMORY }
 {
     let Some(mut held) = take(alloc, judge) else {
@@ -78,9 +80,6 @@ pub extern "C" fn tlx_judge_reset_at(alloc: Global, judge: &mut Handle) -> u32
         HandleContent::Judge(held) => reset(alloc, held),
         HandleContent::Draft(_) | HandleContent::Model(_) => EMPTY,
     };
-    // what memory was refused to is no judge any more
-    if number != MEMORY {
-        *judge = Handle::of(held);
-    }
+    *judge = Handle::of(held);
     number
 }

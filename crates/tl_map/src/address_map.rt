@@ -51,6 +51,16 @@ impl Model for AddressMap {
     ghost invariant = { λ m. IsKeptMap (lists_in m.ports.items) m.placed.items };
 }
 
+impl Clone for AddressMap {
+    ghost use Rattle.std.specs.Prelude.{◌≡◌};
+
+    ghost is_clone = { λ map copy. copy ≡ map };
+
+    fn clone(&self) -> Result<AddressMap, AllocError> {
+        AddressMap::keep(*self.placed.allocator(), &self.ports)
+    }
+}
+
 impl AddressMap {
     /// The map of ports with these ranges, or the first fault that they have.
     pub fn new(alloc: Global, ports: &[Vec<Range>]) -> Result<AddressMap, AddressMapFault>

@@ -100,6 +100,19 @@ impl Model for SourceOwners {
     ghost invariant = { λ s. AreKept s.owners.items s.marks.items };
 }
 
+impl Clone for SourceOwners {
+    ghost use Rattle.std.specs.Prelude.{◌≡◌};
+
+    ghost is_clone = { λ owners copy. copy ≡ owners };
+
+    fn clone(&self) -> Result<SourceOwners, AllocError> {
+        Ok(SourceOwners {
+            owners: self.owners.clone()?,
+            marks: self.marks.clone()?,
+        })
+    }
+}
+
 impl SourceOwners {
     /// The sources of these owners, or the first fault that they have. Want of memory is answered only if there are not too
     /// many, and then before the sources of two masters are compared, or after.

@@ -31,6 +31,18 @@ impl Model for Lanes {
     ghost view = { λ l. lanes_of l.words.items };
 }
 
+impl Clone for Lanes {
+    ghost use Rattle.std.specs.Prelude.{◌≡◌};
+
+    ghost is_clone = { λ lanes copy. copy ≡ lanes };
+
+    fn clone(&self) -> Result<Lanes, AllocError> {
+        Ok(Lanes {
+            words: self.words.clone()?,
+        })
+    }
+}
+
 impl Lanes {
     /// As many words of zeros.
     pub fn zeros(alloc: Global, count: usize) -> Result<Lanes, AllocError>

@@ -3,11 +3,14 @@
     tools/coverage count SYSTEM CAPTURE [--links LINKS] [--order ORDER] [--within N]
                                                         what a capture covers, on standard output
     tools/coverage merge FILE..                         the sum of these
-    tools/coverage report SYSTEM FILE.. [--html PAGE]   how much of the system they cover, the bins that none has, and those that no run can
+    tools/coverage report SYSTEM FILE.. [--unreachable BINS] [--html PAGE]
+                                                        how much of the system they cover, the bins that none has, and those that no run can
                                                         hit, with the reason
 
-FILE is what count and merge print. LINKS, ORDER and N are those of tlcheck. PAGE is one HTML file with a table for each port. Status 1 if a
-file can't be read, or is no system, no capture or no coverage; 2 if the command line is wrong.
+FILE is what count and merge print. LINKS, ORDER and N are those of tlcheck. PAGE is one HTML file with a table for each port. BINS is a file
+with the bins that this design can't hit, in lines `BINS: REASON` (docs/guide/regression.md, "What was covered"): they are no goals. Status 1 if a
+file can't be read, or is no system, no capture or no coverage, if BINS names none of the system's bins, or if one of them was hit; 2 if the
+command line is wrong.
 """
 
 import argparse
@@ -20,6 +23,7 @@ from tlxtools.common import LONGEST_WAIT, ORDER_WORDS
 from tlxtools.coverage_goals import beyond, goals_of
 from tlxtools.coverage_model import covered
 from tlxtools.coverage_page import page_of
+from tlxtools.coverage_reach import NoReach, parted, patterns_of
 from tlxtools.coverage_text import KINDS, NoCoverage, place_of, read, spelled, text_of
 
 MODULUS = 1 << 64
@@ -56,8 +60,8 @@ def line_of(bin, ports):
     return " ".join([bin[0], *(spelled(table, word, ports) for table, word in zip(KINDS[bin[0]], bin[1:]))])
 
 
-def report_of(system, goals, counts):
-    """A line for each kind with how many of its bins are hit, one for all, and one for each bin that is not hit, or can't be."""
+def report_of(system, goals, counts, unreachable):
+    """A line for each kind with how many of its bins are hit, one for all, one for each bin that is not hit, and for those that can't be."""
     ports = len(system.get("port", []))
     hit = {bin for bin in goals if counts.get(bin)}
     for kind in KINDS:
@@ -70,6 +74,10 @@ def report_of(system, goals, counts):
         yield f"never: {line_of(bin, ports)}"
     for bin, reason in sorted(beyond(system), key=lambda pair: place_of(pair[0])):
         yield f"impossible: {line_of(bin, ports)}: {reason}"
+    for pattern, bins in unreachable:
+        yield f"unreachable: {pattern.text}: {len(bins)}: {pattern.reason}"
+    for pattern, bins in unreachable:
+        yield from (f"reached: {line_of(bin, ports)}: unreachable by {pattern.text}" for bin in bins if counts.get(bin))
 
 
 def system_of(name):
@@ -101,13 +109,28 @@ def count(words):
     print(text, end="")
 
 
+def patterns_in(path):
+    """The bins that a design can't hit, by a file; none without one."""
+    if path is None:
+        return []
+    try:
+        with open(path, encoding="utf-8") as file:
+            return list(patterns_of(file.read()))
+    except (OSError, UnicodeDecodeError, NoReach) as error:
+        raise Mistake(f"{path}: {error}") from None
+
+
 def report(words):
     system, _ = system_of(words.system)
     goals, counts = list(goals_of(system)), sum_of(words.files)
+    goals, unreachable = parted(goals, patterns_in(words.unreachable), len(system.get("port", [])))
     if words.html:
         with open(words.html, "w", encoding="utf-8") as page:
             page.write(page_of(system, goals, counts))
-    print("\n".join(report_of(system, goals, counts)))
+    print("\n".join(report_of(system, goals, counts, unreachable)))
+    reached = sum(bool(counts.get(bin)) for _, bins in unreachable for bin in bins)
+    if reached:
+        raise Mistake(f"{words.unreachable}: {reached} of these bins were reached")
 
 
 def main():
@@ -124,6 +147,7 @@ def main():
     counting.add_argument("--within", type=limit_of, metavar="N", help="the longest time from a request's first beat to that of its reply")
     for command in (merging, reporting):
         command.add_argument("files", metavar="FILE", nargs="+")
+    reporting.add_argument("--unreachable", metavar="BINS", help="the bins that the design can't hit, with the reasons")
     reporting.add_argument("--html", metavar="PAGE", help="also one HTML page")
     words = parser.parse_args()
     try:
@@ -133,7 +157,7 @@ def main():
             print(text_of(sum_of(words.files)), end="")
         else:
             report(words)
-    except Mistake as mistake:
+    except (Mistake, NoReach) as mistake:
         print(f"coverage: {mistake}", file=sys.stderr)
         return 1
     return 0

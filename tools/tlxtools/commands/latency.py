@@ -3,7 +3,8 @@
     tools/latency [--period N] [--links LINKS] [--order ORDER] [--csv FILE] [--json] [--html PAGE] SYSTEM [CAPTURE]
 
 CAPTURE is a file, or standard input if it is left out or `-`. A value change dump goes through tlvcd. N says how many units of the
-capture's time one clock has, 1 if nobody says. LINKS and ORDER are those of tlcheck, `each` and `any` if nobody says: so nothing that is
+capture's time one clock has. Without it `period` of SYSTEM does; else, of a dump, how far the first two edges of the clock are from each other,
+where of several clocks the fastest counts; else it is 1. LINKS and ORDER are those of tlcheck, `each` and `any` if nobody says: so nothing that is
 lawful in another view is unlawful here. Of an unlawful capture the beats before the unlawful one are measured, and its line stands on
 standard error.
 
@@ -17,6 +18,7 @@ import json
 import sys
 
 from tlxtools.capture_input import Mistake, capture_of, said_by, write
+from tlxtools.clock_period import period_of
 from tlxtools.common import ORDER_WORDS, TLCHECK
 from tlxtools.explanation import VERDICT
 from tlxtools.latency_model import SIDES, SPREAD, all_figures, measured, plain, too_near
@@ -33,7 +35,7 @@ HEADS = (("", "operation"), ("", "requests"), ("", "unanswered"), ("", "denied")
          ("most in", "flight"), ("", "busy"), ("busy", "on A"), ("busy", "on D"))
 
 
-def period_of(word):
+def units_of(word):
     """The value of --period."""
     if not word.isascii() or not word.isdigit() or not 0 < int(word) < 1 << 64:
         raise argparse.ArgumentTypeError(f"{word}: a whole number from 1 on is wanted")
@@ -75,19 +77,29 @@ def csv_of(measures):
         yield ",".join(f'"{word}"' if "," in str(word) else str(word) for word in line)
 
 
+def told_period(words, table, dump):
+    """How many units of time a clock has, and who says so."""
+    if words.period:
+        return words.period, f"--period {words.period}"
+    if "period" in table:
+        return table["period"], f"period = {table['period']} of SYSTEM"
+    found = period_of(table, dump) if dump else None
+    return found or 1, f"the first period of the clock, {found},"
+
+
 def run(words):
     """Measures, and writes what is asked for: the status."""
-    with capture_of(words.system, words.capture) as (path, _):
+    with capture_of(words.system, words.capture) as (path, dump):
         verdict, stop = judged(words, path)
         system = System(words.system)
-        meter = measured(system, path, words.links, words.period, stop)
-    near = too_near(meter) if words.period > 1 else None
+        period, teller = told_period(words, system.table, dump)
+        meter = measured(system, path, words.links, period, stop)
+    near = too_near(meter) if period > 1 else None
     if near:
         link, channel, one, other = near
-        raise Mistake(f"--period {words.period} is longer than a clock: {system.names[link]} {channel} has beats at times {one} and {other}",
-                      USAGE)
+        raise Mistake(f"{teller} is longer than a clock: {system.names[link]} {channel} has beats at times {one} and {other}", USAGE)
     measures = list(all_figures(system, meter))
-    whole = {"verdict": verdict, "rows": meter.rows, "period": words.period, "first": meter.first, "last": meter.last,
+    whole = {"verdict": verdict, "rows": meter.rows, "period": period, "first": meter.first, "last": meter.last,
              "clocks": plain(meter.clocks())}
     if words.csv:
         write(words.csv, "".join(f"{line}\n" for line in csv_of(measures)))
@@ -96,7 +108,8 @@ def run(words):
     if words.json:
         print(json.dumps({**whole, "measures": measures}, indent=2))
     else:
-        print(f"{whole['rows']} rows, {whole['clocks']} clocks from time {meter.first} to {meter.last}")
+        of_units = f" of {period}" if period > 1 else ""
+        print(f"{whole['rows']} rows, {whole['clocks']} clocks{of_units} from time {meter.first} to {meter.last}")
         print("".join(f"{line}\n" for line in table_of(measures)), end="")
     if stop:
         print(f"latency: measured up to the unlawful beat: {verdict}", file=sys.stderr)
@@ -108,8 +121,8 @@ def parsed():
     parser = argparse.ArgumentParser(description="Measures what the links of a capture carried, and how long replies took.")
     parser.add_argument("system", metavar="SYSTEM")
     parser.add_argument("capture", metavar="CAPTURE", nargs="?", default="-", help="a capture, or a dump, which begins with $; - is standard input")
-    parser.add_argument("--period", type=period_of, default=1, metavar="N", help="units of the capture's time that a clock has (1). "
-                        "Two beats of a channel that are nearer are a mistake")
+    parser.add_argument("--period", type=units_of, metavar="N", help="units of the capture's time that a clock has (that of SYSTEM or of the dump, "
+                        "else 1). Two beats of a channel that are nearer are a mistake")
     parser.add_argument("--links", choices=sorted(SIDES), default="each", help="the links that were watched, as tlcheck has them (each). "
                         "Others are not measured")
     parser.add_argument("--order", choices=ORDER_WORDS, default="any", metavar="ORDER", help="when requests take effect, as tlcheck has it (any)")

@@ -1,10 +1,11 @@
 """Looks for the smallest script with which a command still fails: tools/shrink [--quiet] SCRIPT -- COMMAND [WORD..] >SMALLEST.
 
-COMMAND runs with the path of a script in the place of the word {}, or as its last word. It fails with SCRIPT: with a status that is not 0. A
-smaller script counts if COMMAND ends with this same status. So let it end with another status if it meets no such failure. Operations are
+COMMAND runs with the path of a script in the place of the word {}, or as its last word. It fails with SCRIPT: with a status that is not 0.
+A smaller script counts if COMMAND ends with this same status. So let it end with another status if it meets no such failure. Operations are
 left out (delta debugging), and then masters, ports, sources, slots and keys of ports and of the system. Sizes, data and addresses of those
-that are left get simpler. The same command gives the same script. COMMAND finds the images that SCRIPT names, from the folder of SCRIPT.
-Standard error has the progress. Status 1 if COMMAND does not fail or SCRIPT is no script, 2 if the command line is wrong.
+that are left get simpler. `unaligned` stays while an operation needs it. The same command gives the same script. COMMAND finds the images
+that SCRIPT names, from the folder of SCRIPT. Standard error has the progress. Status 1 if COMMAND does not fail or SCRIPT is no script, 2
+if the command line is wrong.
 """
 
 import argparse
@@ -199,6 +200,12 @@ def simplify_lines(search):
             pass
 
 
+def has_unaligned(system):
+    """Whether the address of an operation is no multiple of its size."""
+    asks = [line.split() for master in system["master"] for line in master["ops"] if line != "wait"]
+    return any(int(ask[2], 0) % (1 << int(ask[3])) for ask in asks)
+
+
 def without_key(system, tables, place, key):
     """The system without a key of one of its ports or masters."""
     made = copy.deepcopy(system)
@@ -219,7 +226,8 @@ def simplify_tables(search):
                 if key in values:
                     search.takes(without_key(search.smallest, tables, place, key))
     for extra in TOP_KEYS:
-        if extra in search.smallest:
+        # without the key an unaligned request would be what fails, whatever failed before
+        if extra in search.smallest and (extra != "unaligned" or not has_unaligned(search.smallest)):
             search.takes({key: value for key, value in search.smallest.items() if key != extra})
     if search.smallest.get("slots", 1) > 1:
         search.takes({**search.smallest, "slots": 1})

@@ -1,10 +1,11 @@
-"""Writes a script of random operations for a system: tools/stimulate SYSTEM --seed S --ops N [--mix FILE] [--limits tlx|judge] >SCRIPT.
+"""Writes a script of random operations for a system: tools/stimulate SYSTEM --seed S --ops N [--mix FILE] [--limits tlx|judge] [--aim REPORT] >SCRIPT.
 
 SYSTEM is a system file or a script, whose operations are replaced. The same words give the same script on any machine. With `--limits tlx`
 (the default) the script is one that tlx reads; with `judge` it may have all that a system file may have, and is for a testbench. It names the
 images that SYSTEM names, so its place is the folder of SYSTEM. With `--max-size N` messages have 2^N bytes at most, and with `--address-bits N`
-addresses lie below 2^N. FILE is a TOML document that replaces weights of MIX below: docs/guide/regression.md says what each means. Status 1 if SYSTEM
-is no system or passes the limits, 2 if the command line or FILE is wrong.
+addresses lie below 2^N. FILE is a TOML document that replaces weights of MIX below: docs/guide/regression.md says what each means. With --aim the
+operations are such that may hit the bins which REPORT, of `tools/coverage report`, says were never hit. Status 1 if SYSTEM is no system or
+passes the limits, 2 if the command line, FILE or REPORT is wrong.
 """
 
 import argparse
@@ -14,7 +15,8 @@ import random
 import sys
 import tomllib
 
-from tlxtools.common import GROUPS, GROUP_OF, LONGEST_SCRIPT, MAX_SIZE, OPERATIONS, carries_data
+from tlxtools.aims import Aims, NoReport, bins_of
+from tlxtools.common import BUS, GROUPS, GROUP_OF, LONGEST_SCRIPT, MAX_SIZE, OPERATIONS, carries_data
 from tlxtools.script_text import text_of
 from tlxtools.wide_sources import has_lists, has_paths, reached_by
 
@@ -88,6 +90,7 @@ class Stimulus:
         self.sources = [master["sources"] for master in system["master"]]
         self.reached = [sorted(reached_by(system, master)) for master in range(len(self.sources))]
         self.may_be_unaligned = system.get("unaligned", False)
+        self.buses = [master.get("bus", system.get("bus", BUS)) for master in system["master"]]
         self.last = [0] * len(self.sources)
         self.hot = [self.hot_words(ranges) for _, ranges in self.ports]
 
@@ -129,6 +132,13 @@ class Stimulus:
         served = sizes_served(name, self.ports[port][0]) if self.ports else ()
         among = {str(size) for size in served} if served and self.draws.chance(self.mix["supported"]) else self.sizes
         return int(self.draws.weighted(self.mix["sizes"], among & self.sizes or self.sizes))
+
+    def sizes_of(self, name, port):
+        """The sizes that the slave of a port serves of an operation, and that messages may have."""
+        return [size for size in sizes_served(name, self.ports[port][0]) if str(size) in self.sizes]
+
+    def bus_of(self, master):
+        return self.buses[master]
 
     def mask_of(self, count):
         """Which bytes of a partial put are set."""
@@ -242,6 +252,15 @@ def read_mix(path):
     return mix
 
 
+def read_report(path):
+    """The bins that a report says were never hit."""
+    try:
+        with open(path, encoding="ascii") as file:
+            return bins_of(file.read())
+    except (OSError, UnicodeDecodeError, NoReport) as error:
+        raise Mistake(f"{path}: {error}", 2) from None
+
+
 def check_limits(system):
     """Raises the first limit of tlx that a script passes."""
     ports, masters = system.get("port", []), system["master"]
@@ -266,7 +285,8 @@ def script_of(system, mix, words):
     system = {"slots": system.get("slots", 16), **{key: system[key] for key in ("bus", "unaligned", "decode", "resets", "period") if key in system},
               "port": [dict(port) for port in system.get("port", [])], "master": [dict(master) for master in system["master"]]}
     stimulus = Stimulus(system, mix, words.seed, words.max_size, words.address_bits)
-    for master, lines in zip(system["master"], stimulus.lines(words.ops)):
+    bins = read_report(words.aim) if words.aim else []
+    for master, lines in zip(system["master"], Aims(stimulus).lines(bins, words.ops) if bins else stimulus.lines(words.ops)):
         master["ops"] = lines
     if words.limits == "tlx":
         check_limits(system)
@@ -298,6 +318,8 @@ def main():
     parser.add_argument("--seed", type=number, required=True, help="below 2^64; the same words give the same script on any machine")
     parser.add_argument("--ops", type=number, required=True, help="how many operations, of all masters together")
     parser.add_argument("--mix", metavar="FILE", help="other weights, as a TOML document")
+    parser.add_argument("--aim", metavar="REPORT", help="operations that may hit the bins which this report of tools/coverage says were never hit; "
+                        "if there is none, random ones")
     parser.add_argument("--limits", choices=("tlx", "judge"), default="tlx", help="tlx: 15 ports of one range and 65,536 bytes, 16 masters of 256 "
                         "sources and 4,096 lines, 1,048,576 bytes of text. A script that passes one of them is refused, and so is a system with images, "
                         "unknown or volatile bytes, tables of sizes or devices. judge: no limits: a system file with operations, for a testbench; "

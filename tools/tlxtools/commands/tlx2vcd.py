@@ -31,9 +31,9 @@ MASTERS = 16
 # widest bus; a link shows as many as its rows have digits for
 FIELDS = {
     "A": [("message", None, 0), ("line", 32, 10), ("opcode", 8, 10), ("param", 8, 10), ("size", 8, 10), ("source", 16, 10),
-          ("address", 64, 16), ("mask", 64, 16), ("data", 512, 16)],
-    "D": [("message", None, 0), ("line", 32, 10), ("opcode", 8, 10), ("size", 8, 10), ("source", 16, 10), ("denied", 1, 2),
-          ("corrupt", 1, 2), ("data", 512, 16)],
+          ("address", 64, 16), ("mask", 64, 16), ("corrupt", 1, 2), ("data", 512, 16)],
+    "D": [("message", None, 0), ("line", 32, 10), ("opcode", 8, 10), ("param", 8, 10), ("size", 8, 10), ("source", 16, 10),
+          ("denied", 1, 2), ("corrupt", 1, 2), ("data", 512, 16)],
 }
 VERDICT = re.compile(r"unlawful: line \d+, time (?P<time>\d+), (?P<fault>\S+ [AD]: .*?)"
                      r"(?:: expected (?P<expected>.*), captured (?P<captured>.*))?$", re.M)

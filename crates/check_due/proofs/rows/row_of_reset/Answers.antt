@@ -11,4 +11,4 @@ pub returns-clause-value : goal.returns-clause-value
 returns-clause-value c =
     let lane = first-lane c.args.lanes.now (omega (arith, c.told-lanes)) in
     let told : c.args.buses.now.resets ≡ true = c.if-not-buses.false in
-    rw (lane, told) (reset-row c.args.buses.now.masters.now c.args.buses.now.ports.now c.args.line c.args.time (omega arith))
+    rw (c.reset.ensures, lane, told) (reset-row c.args.buses.now.masters.now c.args.buses.now.ports.now c.args.line c.args.time (omega arith))

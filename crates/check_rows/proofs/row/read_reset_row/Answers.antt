@@ -15,4 +15,4 @@ returns-clause-value c =
     let empty : are_empty (drop 2 (column_words c.args.columns.now)) ≡ true =
     ap are_empty (sym c.after_link.ensures) ∙ sym c.are_empty.ensures ∙ c.if-not-are_empty.false in
     let lane = first_lane c.args.lanes.now (omega (arith, c.told-lanes)) in
-    rw (empty, lane) refl
+    rw (empty, c.reset.ensures, lane) refl

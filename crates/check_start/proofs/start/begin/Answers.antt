@@ -18,7 +18,7 @@ of-requires c =
     let images = map (λ image. image.items) c.args.images.now in
     let made : shared_slaves c.args.terms images c.args.system.ports ≡ Ok c.in_ok-slaves.slaves.shared.items =
     search rules in
-    subst (ImagesFit images) (sym c.into_parts-parts.ensures.ports)
+    subst (ImagesFit images) (sym (ap (map port_view) c.deref-7.ensures.value ∙ c.into_parts-parts.ensures.ports))
     (images_fit (shared_side c.args.terms.links) c.args.terms.orders images c.args.system.ports
     c.in_ok-slaves.slaves.shared.items made)
 

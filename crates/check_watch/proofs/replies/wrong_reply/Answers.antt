@@ -37,10 +37,10 @@ returns-in-Some-due c plan suits first =
     rw (← c.link-under.ensures) c.in_default.ensures.fits in
     let is : Some c.in-Some-due.due.now ≡ due_in view link wide port =
     sym (ap (λ o. option_map (λ a. a.now) o) c.in-Some-due.is) ∙ c.due.ensures in
-    let told : IsSomeAnd (due_in view link wide port) (λ answer. answer.reply ≡ c.copy_of.result) =
-    subst (λ (o : Option Answer). IsSomeAnd o (λ answer. answer.reply ≡ c.copy_of.result)) is (sym c.copy_of.ensures) in
+    let told : IsSomeAnd (due_in view link wide port) (λ answer. answer.reply ≡ c.copy.result) =
+    subst (λ (o : Option Answer). IsSomeAnd o (λ answer. answer.reply ≡ c.copy.result)) is (sym c.copy.ensures) in
     carried_here plan view link beat known lanes wide port suits at port_here fits
-    (λ s. IsWrongReply s beat known lanes (WrongReply c.copy_of.result c.capture.new.reply)) (told, c.capture.ensures)
+    (λ s. IsWrongReply s beat known lanes (WrongReply c.copy.result c.capture.new.reply)) (told, c.capture.ensures)
 
 pub returns-in-None : goal.returns-in-None
 returns-in-None c plan suits first =

@@ -1,5 +1,5 @@
 -- The number of the fault.
-use Rattle.tl_c.proofs.Numbers.{device_told, not_device, not_nowhere, nowhere_told}
+use Rattle.tl_c.proofs.Numbers.{device_told, not_device, not_nowhere, nowhere_told, number_other}
 use Rattle.tl_c.proofs.model.poke.Goals as goal
 
 pub returns-clause-nowhere : goal.returns-clause-nowhere
@@ -25,3 +25,6 @@ returns-clause-device c = record {
       let own = rw (← c.model.view_is) at is in
       not_device c.poke.result c.in_default.field-0 c.in_default.is (c.poke.ensures.device number port own);
 }
+
+pub returns-in-Err-clause-other : goal.returns-in-Err-clause-other
+returns-in-Err-clause-other c = rw (c.byte_number.ensures) (number_other c.in-Err.fault)

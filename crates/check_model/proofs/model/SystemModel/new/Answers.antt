@@ -11,11 +11,13 @@ invariant_of-result c =
     let parts = c.into_parts-parts in
     let seen : map port_view c.deref.result.now ≡ c.args.system.ports =
     ap (map port_view) c.deref.ensures.value ∙ parts.ensures.ports in
+    let loaded : map port_view c.deref-2.result.now ≡ c.args.system.ports =
+    ap (map port_view) c.deref-2.ensures.value ∙ parts.ensures.ports in
     let ranges : length parts.result.addresses ≡ length c.args.system.ports =
     ap length parts.ensures.addresses ∙ length-map c.args.system.ports (λ (port : Port). port.ranges) in
     let more : length c.args.system.ports + 1 ≡ length parts.result.addresses + 1 = ap (λ n. n + 1) (sym ranges) in (
       ap length c.in_ok-ports.ensures ∙ ports_counted images (map port_view c.deref.result.now)
           ∙ ap (λ (l : List Port). length l + 1) seen ∙ more,
-      ap length c.in_ok-loads.ensures ∙ loads_counted images (map port_view parts.result.ports.items)
-          ∙ ap (λ (l : List Port). length l + 1) parts.ensures.ports ∙ more,
+      ap length c.in_ok-loads.ensures ∙ loads_counted images (map port_view c.deref-2.result.now)
+          ∙ ap (λ (l : List Port). length l + 1) loaded ∙ more,
     )

@@ -1,8 +1,0 @@
--- The buses so far are those of the ports so far.
-use Rattle.std.proofs.Common.{◌≡◌, map, take}
-use Rattle.check_description.specs.Port.{port_view}
-use Rattle.check_start.specs.Start.{port_buses}
-use Rattle.check_start.proofs.start.port_buses.Given as goal
-
-abbrev pub invariant-loop-port : goal.invariant-loop-port
-invariant-loop-port l = l.buses.items ≡ port_buses (map port_view (take l.port-index l.ports))

@@ -1,8 +1,0 @@
--- The buses so far are those of the masters so far.
-use Rattle.std.proofs.Common.{◌≡◌, map, take}
-use Rattle.check_description.specs.Master.{master_view}
-use Rattle.check_waves.specs.Links.{buses_of_masters}
-use Rattle.check_waves.proofs.system.master_buses.Given as goal
-
-abbrev pub invariant-loop-master : goal.invariant-loop-master
-invariant-loop-master l = l.buses.items ≡ buses_of_masters (map master_view (take l.master-index l.masters))
