@@ -13,7 +13,7 @@ from tlxtools.wide_sources import WideSources, is_reached
 BUGS = ("byte of a reply at its port", "byte of a reply at its master", "byte of a request", "denial of a reply", "lost put", "sent twice",
         "sent to another port", "early reply", "reply to another source", "unknown byte of a reply", "source shifted otherwise", "source of another master",
         "sent without a path", "source sent twice", "number in flight given again", "number of an adapter that the system does not have",
-        "reply that overtakes")
+        "reply that overtakes", "corrupt at one side", "corrupt beat of a reply")
 
 
 def sizes_of(rng):
@@ -114,6 +114,8 @@ def system_of(rng):
     images, system = {}, {"bus": rng.choice(BUSES)}
     if rng.random() < 0.6:
         system["unaligned"] = rng.random() < 0.8
+    if rng.random() < 0.4:
+        system["corrupt"] = rng.random() < 0.8
     if rng.random() < 0.4:
         system["decode"] = rng.choice(["bytes", "address", "address"])
     if rng.random() < 0.4:
@@ -253,6 +255,8 @@ class Transfer:
         self.has_left, self.has_come = master is None, False
         # the request at the master's link and at the port's, and the reply at either
         self.at_master, self.at_port, self.replies = None, None, []
+        # the cuts of the reply, of as many bytes as the wider bus on its way has, in which some beat is corrupt
+        self.corrupt_cuts = frozenset()
 
 
 class Service:
@@ -494,11 +498,36 @@ class Run:
         reply = Reply(expected.denied, [self.junk() if byte is None else byte for byte in expected.data])
         if self.has_bug("denial of a reply"):
             reply = Reply(not reply.denied, [0] * len(reply.data))
+        transfer.corrupt_cuts = self.corrupt_cuts(transfer, reply)
         if reply.data and not reply.denied and self.has_bug("byte of a reply at its port"):
             reply = reply._replace(data=self.spoiled(reply.data))
         if reply.data and not reply.denied and self.has_bug("unknown byte of a reply"):
             reply = reply._replace(data=self.spoiled(reply.data, None))
         return reply
+
+    def wider_bus(self, transfer):
+        """How many bytes the wider bus has of those that a transfer crosses."""
+        widths = [] if transfer.master is None else [self.buses["m"][transfer.master].width]
+        return max(widths + ([self.buses["p"][transfer.port].width] if transfer.port < len(self.ports) else []))
+
+    def corrupt_cuts(self, transfer, reply):
+        """The cuts of a reply in which some beat is corrupt, if that may be."""
+        if not reply.data or reply.denied or not self.system.get("corrupt") or self.rng.random() < 0.6:
+            return frozenset()
+        cuts = max(1, len(reply.data) // self.wider_bus(transfer))
+        return frozenset(cut for cut in range(cuts) if self.rng.random() < 0.5)
+
+    def corrupt_beats(self, side, number, transfer, beats):
+        """The corrupt ones of a reply's beats at a link: some of each cut."""
+        width, found = self.buses[side][number].width, set()
+        cuts = transfer.corrupt_cuts
+        if side == "m" and transfer.ask.size and self.has_bug("corrupt at one side"):
+            cuts = cuts ^ {0}
+        for cut in cuts:
+            span = max(1, self.wider_bus(transfer) // width)
+            within = [beat for beat in range(cut * span, (cut + 1) * span) if beat < beats]
+            found |= {beat for beat in within if self.rng.random() < 0.5} or {self.rng.choice(within)}
+        return found
 
     def spoiled(self, data, byte=0):
         """The bytes with one of them changed."""
@@ -519,13 +548,17 @@ class Run:
         data = [None] * (1 << ask.size) if reply.denied else reply.data
         words = [*bus.beats(ask.address, ask.size, data, self.junk)] if kind == "AccessAckData" else [(0, [])]
         rows = []
+        is_spoiled = kind == "AccessAckData" and not reply.denied
+        corrupt_beats = self.corrupt_beats(side, number, transfer, len(words)) if is_spoiled else set()
+        if self.has_bug("corrupt beat of a reply"):
+            corrupt_beats = corrupt_beats ^ {0}
         for beat, (_, lanes) in enumerate(words):
-            if not reply.denied and kind == "AccessAckData":
+            if is_spoiled and beat not in corrupt_beats:
                 places, active = bus.lanes(ask.address, ask.size, beat)
                 for place, lane in zip(places, active):
                     lanes[lane] = reply.data[place]
             # an empty flag is the one that the message must have, and an empty parameter is 0
-            corrupt = self.rng.choice(["", *3 * [int(reply.denied and kind == "AccessAckData")]])
+            corrupt = self.rng.choice(["", *3 * [int(reply.denied and kind == "AccessAckData")]]) if beat not in corrupt_beats else 1
             param = self.rng.choice(["", "", 0])
             code = {"AccessAck": 0, "AccessAckData": 1, "HintAck": 2}[kind]
             rows.append(f"{code},{param},{ask.size},{source},,,{bus.spell_lanes(lanes)},{int(reply.denied)},{corrupt}")

@@ -128,6 +128,9 @@ TEXTS = (
     # resets in mid-run: one link tells them
     ("resets = true\n" + PORT + MASTER, (), ["//   +reset=TIME", ".RESETS(1)", '$value$plusargs("reset=%d", again)']),
     (PORT + MASTER, (), ["!+reset=TIME", "!.RESETS("]),
+    # data are corrupt where the system allows it
+    ("corrupt = true\n" + PORT + MASTER, (), [".CORRUPTS(5)"]),
+    ("corrupt = false\n" + PORT + MASTER, (), ["!.CORRUPTS("]),
     # no port at all
     (MASTER, (), ["wire crosses = m0_a_valid && m0_a_ready ||", "64'h0, 64'h100, 48'hf0_f0_f0_f0_f0_f0"]),
 )

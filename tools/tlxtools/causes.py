@@ -10,6 +10,7 @@ CAUSES = {
     "wrong mask": ["the mask generator: which lanes belong to the address and the size", "the width of the bus in the system file"],
     "unknown data": ["a register that nothing initializes", "a memory that the system file does not say is unknown at reset"],
     "wrong corrupt flag": ["d_corrupt: it stands with each beat of a denied reply that has data, and with no other",
+                           "`corrupt = true` in the system file, if data of replies may be corrupt, as those of a memory with error correction",
                            "`d_corrupt = \"-\"` in the system file, if the design has no such signal"],
     "no such source": ["the sources of the masters in the system file (sources, first, stride), or of the port (hosts, sources)",
                        "the bits that the crossbar adds to a source"],

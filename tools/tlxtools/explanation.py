@@ -10,7 +10,7 @@ from tlxtools.causes import ADAPTED, CAUSES, DENIED, EXCHANGED, SHIFTED
 from tlxtools.common import carries_data
 from tlxtools.partial_memory import port_of
 from tlxtools.sides import MOST, Sides, Views
-from tlxtools.spelling import bytes_of, counted, hexadecimal, place_of, replied
+from tlxtools.spelling import bytes_of, counted, hexadecimal, place_of, replied, runs_text
 from tlxtools.story import ANSWERS, NAMES, Story, System, turn_of
 
 VERDICT = re.compile(r"unlawful: line (\d+), time (\d+), (\S+) ([AD]): (.*)")
@@ -244,10 +244,7 @@ class Explainer:
 
     def captured(self, row, message):
         """The bytes of a reply with its last beat."""
-        bus = self.system.buses[row.link]
-        _, lanes = bus.lanes(message.address, message.size)
-        word = row.lanes(bus)
-        return message.reply + ([word[lane] for lane in lanes] if ANSWERS[row.number(3)] == "AccessAckData" else [])
+        return message.reply + message.carried(row)
 
     def of_given(self, row, message):
         """What the port gave for a request that is answered at its master's link."""
@@ -265,7 +262,11 @@ class Explainer:
             yield f"{'denied' if given.denied else 'not denied'} at {port}'s link, {'not denied' if given.denied else 'denied'} here"
         if given and given.reply and captured:
             rows = [*message.answered, row]
-            yield from self.sides.difference(message.address, (row.link, rows, captured), (given.link, given.answered, given.reply))
+            cuts = self.sides.corrupt_cuts(message, rows, given)
+            if cuts[0] != cuts[1]:
+                yield f"corrupt bytes: {runs_text(cuts[1])} at {port}'s link, {runs_text(cuts[0])} here, by beats of the wider bus"
+            captured, there = ([None if place in cuts[0] | cuts[1] else byte for place, byte in enumerate(data)] for data in (captured, given.reply))
+            yield from self.sides.difference(message.address, (row.link, rows, captured), (given.link, given.answered, there))
             yield from self.sides.of_lanes(row, message, given.reply, f"the bytes that {port} gave")
 
     # ---- wrong replies
@@ -276,7 +277,8 @@ class Explainer:
         if bool(found[2]) != bool(found[5]):
             return [self.denial(message, port)], []
         pairs = zip(message.window(), re.findall("..", found[3] or ""), re.findall("..", found[6] or ""))
-        wrong = [pair for pair in pairs if pair[1] not in ("xx", pair[2])]
+        spoiled = {message.address + place for place in message.spoiled([*message.answered, self.story.last])}
+        wrong = [pair for pair in pairs if pair[1] not in ("xx", pair[2]) and pair[0] not in spoiled]
         history, runs = self.story.history(message, port), []
         for at, expected, captured in wrong[:MOST_BYTES]:
             run = {"first": at, "last": at, "expected": expected, "captured": captured,

@@ -48,6 +48,13 @@ def digits_of(word, pattern):
     return word
 
 
+def crosses_as(given, captured, width):
+    """Whether a master saw the reply that a port gave, in cuts of so many bytes: the same cuts are spoiled, and the others have the same bytes."""
+    cuts = {place // width for place in given.spoiled}
+    return (given.denied == captured.denied and len(given.data) == len(captured.data) and cuts == {place // width for place in captured.spoiled}
+            and all(byte == other or place // width in cuts for place, (byte, other) in enumerate(zip(given.data, captured.data))))
+
+
 def must_be_corrupt(opcode, denied):
     """Whether a beat of a reply has to be marked corrupt: that of a denied one with data."""
     return denied and ANSWERS.get(opcode) == "AccessAckData"
@@ -70,7 +77,7 @@ class Flight:
     def __init__(self, row, owner, port):
         self.row, self.owner, self.port = row, owner, port
         self.name = NAMES[row.opcode, row.param]
-        self.data, self.answer = [], []
+        self.data, self.answer, self.spoiled = [], [], []
         # the beats that have crossed of the request and of its reply, and the row that the reply began with
         self.asked, self.answered, self.reply_row = 0, 0, None
         self.is_whole, self.place, self.expected, self.kept = False, None, None, None
@@ -150,6 +157,7 @@ class Judge:
         ports, masters = system.get("port", []), system["master"]
         self.system, self.ports, self.masters, self.view, self.order = system, ports, masters, links, order
         self.sources, self.may_be_unaligned, self.resets = WideSources(system), system.get("unaligned", False), system.get("resets", False)
+        self.may_be_corrupt = system.get("corrupt", False)
         self.links = {(side, number): Link(side, number, table, bus_of(system, table))
                       for side, tables in (("m", masters), ("p", ports)) for number, table in enumerate(tables)}
         self.watched = {"masters": "m", "ports": "p"}.get(links, "mp")
@@ -184,6 +192,10 @@ class Judge:
     def crosses(self, link, flight):
         """Whether what is asked and answered at a link is compared with the other side."""
         return self.view == "both" and flight.port < len(self.ports) and not self.apart[flight.port]
+
+    def wider_bus(self, link, flight):
+        """How many bytes the wider of the buses of a master's link and of the link of its request's port has."""
+        return max(link.bus.width, self.links["p", flight.port].bus.width)
 
     def slave_of(self, link, flight):
         """The slave that a request is served by, as this link shows it; none if the port's link shows it."""
@@ -283,11 +295,15 @@ class Judge:
         carries = ANSWERS[row.opcode] == "AccessAckData"
         if carries:
             _, lanes = link.bus.lanes(flight.row.address, row.size)
-            flight.answer += [0 if row.denied else row.lanes[lane] for lane in lanes]
-            if None in flight.answer and not self.slaves[link.side][flight.port].may_answer_unknown():
+            is_spoiled = row.corrupt and not row.denied
+            if is_spoiled:
+                flight.spoiled += range(len(flight.answer), len(flight.answer) + len(lanes))
+            flight.answer += [0 if row.denied else None if is_spoiled else row.lanes[lane] for lane in lanes]
+            if None in flight.answer and not (self.may_be_corrupt or self.slaves[link.side][flight.port].may_answer_unknown()):
                 raise Unlawful("unknown data")
         flight.answered += 1
-        is_whole, reply = flight.answered == link.bus.count(row.size, carries), Reply(row.denied, flight.answer)
+        is_whole = flight.answered == link.bus.count(row.size, carries)
+        reply = Reply(row.denied, flight.answer, frozenset(flight.spoiled))
         if is_whole:
             self.check_whole(link, flight, reply)
         # the last fault of a beat
@@ -308,7 +324,8 @@ class Judge:
                 raise Unlawful("size out of range")
         elif any(getattr(row, field) != getattr(flight.reply_row, field) for field in ("opcode", "param", "size", "source", "denied")):
             raise Unlawful("field changed")
-        if row.corrupt != must_be_corrupt(row.opcode, row.denied):
+        may_be = self.may_be_corrupt and ANSWERS[row.opcode] == "AccessAckData" and not row.denied
+        if row.corrupt != must_be_corrupt(row.opcode, row.denied) and not may_be:
             raise Unlawful("wrong corrupt flag")
 
     def begun_reply(self, link, row):
@@ -334,7 +351,7 @@ class Judge:
     def check_whole(self, link, flight, reply):
         """The faults of a reply that has ended."""
         if link.side == "m" and self.crosses(link, flight):
-            if flight.given != reply:
+            if not flight.given or not crosses_as(flight.given, reply, self.wider_bus(link, flight)):
                 raise Unlawful("the port gave no such reply")
         elif not fits(flight.expected, reply):
             raise Unlawful(f"wrong reply: expected {reply_text(flight.name, flight.expected)}, captured {reply_text(flight.name, reply)}")

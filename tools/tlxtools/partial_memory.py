@@ -9,7 +9,8 @@ from tlxtools.wide_sources import is_reached
 
 # A request: its operation, and its bytes if it carries some. A reply: whether it is denied, and its bytes if it carries some.
 Ask = collections.namedtuple("Ask", ["name", "address", "size", "data"])
-Reply = collections.namedtuple("Reply", ["denied", "data"])
+# What a reply has: of a captured one also the places of its bytes that a corrupt beat carried, which promise nothing.
+Reply = collections.namedtuple("Reply", ["denied", "data", "spoiled"], defaults=[frozenset()])
 
 ALL = (0, MAX_SIZE)
 # The least and the greatest size of each group of operations that a kind of slave supports.
@@ -193,8 +194,8 @@ def cleared(before, given):
 
 
 def fits(expected, captured):
-    """Whether a captured reply is one that is expected: as to its unknown bytes it is free."""
+    """Whether a captured reply is one that is expected: as to its unknown bytes it is free, and as to those that are spoiled."""
     if expected is None:
         return True
     return expected.denied == captured.denied and (captured.denied or all(
-        byte is None or byte == other for byte, other in zip(expected.data, captured.data)))
+        byte is None or byte == other or place in captured.spoiled for place, (byte, other) in enumerate(zip(expected.data, captured.data))))

@@ -120,6 +120,15 @@ class Sides:
                        for at, rows, found in ((link, rows, data), (other, beats, given)))
         yield f"the first difference, at {address + place:#x}: {there}, {here}"
 
+    def corrupt_cuts(self, message, rows, given):
+        """The places of a reply that lie in corrupt cuts, at its master's link by these rows and at the port's: cuts are beats of the wider bus."""
+        width = max(self.system.buses[message.link].width, self.system.buses[given.link].width)
+        found = []
+        for places in (message.spoiled(rows), given.spoiled(given.answered)):
+            cuts = {place // width for place in places}
+            found.append({place for place in range(1 << message.size) if place // width in cuts})
+        return found
+
     # ---- replies that a master has not had
 
     def not_had(self, link):

@@ -26,3 +26,14 @@ def place_of(rows):
 def replied(answer, denied, data):
     """A reply as a verdict spells it: its opcode, whether it is denied, and its bytes if it has some."""
     return " ".join([answer] + ["denied"] * bool(denied) + [hexadecimal(data)] * bool(data))
+
+
+def runs_text(places):
+    """Numbers of bytes as runs: "0 to 7, 12"; "none" if there are none."""
+    runs = []
+    for place in sorted(places):
+        if runs and runs[-1][1] == place - 1:
+            runs[-1][1] = place
+        else:
+            runs.append([place, place])
+    return ", ".join(str(first) if first == last else f"{first} to {last}" for first, last in runs) or "none"

@@ -63,6 +63,10 @@ class Row:
             pairs = (word[at:at + 2] for at in range(len(word) - 2, -2, -2))
         return [None if set(pair) & set("xXzZ") else int(pair, 16) for pair in pairs]
 
+    def is_spoiled(self):
+        """Whether its bytes promise nothing: it is a corrupt beat of a reply that is not denied."""
+        return self.channel == "D" and self.words[11] == "1" and self.words[10] == "0"
+
     def turned(self):
         """Where the row stands among all."""
         return self.time, *self.turn()
@@ -107,9 +111,20 @@ class Message:
 
     @property
     def reply(self):
-        """The bytes that the beats of its reply so far have carried."""
-        carrying = [row.lanes(self.bus) for row in self.answered if ANSWERS[row.number(3)] == "AccessAckData"]
-        return [word[lane] for word in carrying for lane in self.lanes()]
+        """The bytes that the beats of its reply so far have carried, None for one that is unknown or spoiled."""
+        return [byte for row in self.answered for byte in self.carried(row)]
+
+    def carried(self, row):
+        """The bytes that a beat of its reply carries."""
+        if ANSWERS[row.number(3)] != "AccessAckData":
+            return []
+        word = row.lanes(self.bus)
+        return [None if row.is_spoiled() else word[lane] for lane in self.lanes()]
+
+    def spoiled(self, rows):
+        """The places of bytes that corrupt beats carry, of beats of its reply from the first on."""
+        span = len(self.lanes())
+        return {place for beat, row in enumerate(rows) if row.is_spoiled() for place in range(beat * span, (beat + 1) * span)}
 
     def ask(self):
         return Ask(self.name, self.address, self.size, self.data)

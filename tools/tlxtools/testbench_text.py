@@ -10,6 +10,8 @@ A_SIGNALS = ("a_valid", "a_ready", "a_opcode", "a_param", "a_size", "a_source", 
 D_SIGNALS = ("d_valid", "d_ready", "d_opcode", "d_size", "d_source", "d_denied", "d_data")
 WATCHED = (*A_SIGNALS, *D_SIGNALS, "d_corrupt")
 # Those that are watched if the crossbar has them.
+# Where data may be corrupt: so many of 100 beats of a slave are.
+CORRUPTS = 5
 OPTIONAL = ("a_corrupt", "d_param")
 # What stands at their ports if it has not.
 NOTHING = "1'b0"
@@ -175,6 +177,8 @@ def slave_lines(link, system, most, images):
              ("SIZES", digits_of(sizes_of(port, most))), ("RANGES", len(ranges))]
     pairs += [(key, 1) for key, given in (("MIRROR", port.get("mirror")), ("UNKNOWN", port.get("unknown")), ("LOADS", loads),
                                           ("WHEN_ANSWERED", order_at(port, "p", "accept") == "reply"), ("FIFO", port.get("fifo"))) if given]
+    if system.get("corrupt") and link.has("d_corrupt"):
+        pairs.append(("CORRUPTS", CORRUPTS))
     if "image" in port:
         pairs += [("IMAGE", f'"{port["image"]}"'), ("IMAGE_BYTES", images[link.number])]
     if reset:

@@ -2,6 +2,7 @@ pub mod Window
 pub mod Given
 pub mod Going
 pub mod Seen
+pub mod Spoiled
 pub mod Returning
 pub mod Spelled
 pub mod ReplySpelled

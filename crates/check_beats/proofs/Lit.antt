@@ -1,6 +1,6 @@
 -- Which lanes of a reply are known, and which of its bytes.
 use Rattle.std.proofs.Common.{◌≡◌, ◌∙◌, ◌⊎◌, inl, inr, ℕ, zero, suc, ◌+◌, ◌-◌, ◌^◌, ◌%◌, ◌<◌, ◌≤◌, min, Bool, true, false, if◌then◌else◌, List, [], ◌∷◌, length, get_or, replicate, Option, Some, None, bit_and, ap, sym, refl, arith, lit≤, eqb-true}
-use Rattle.std.specs.Prelude.{IsSome, ◌==◌, slice_index}
+use Rattle.std.specs.Prelude.{IsSome, ◌==◌, ◌&&◌, not, slice_index}
 use Rattle.std.specs.Int.{bit_at}
 use Rattle.std.proofs.lemmas.Bool.{cases_lt}
 use Rattle.std.proofs.lemmas.Nat.{pow_pos, and_mask, and_mod, and_le_l}
@@ -11,7 +11,7 @@ use Rattle.tl_types.specs.declared.operation.ReplyOp.TheVariants.{AccessAck, Acc
 use Rattle.check_cells.specs.Known.{all_known, known as known_of}
 use Rattle.check_beats.specs.Bus.{low, active_mask_on_bus}
 use Rattle.check_beats.specs.Form.{IsKnownReply}
-use Rattle.check_beats.specs.Message.{reply_op_of_number, byte_at, given_at, seen_cells, reply_part}
+use Rattle.check_beats.specs.Message.{reply_op_of_number, is_spoiled, byte_at, given_at, seen_by, reply_part, reply_part_count}
 use Rattle.check_beats.specs.declared.beat.ReplyHead.{ReplyHead}
 use Rattle.check_beats.proofs.Window.{window_fits}
 use Rattle.check_beats.proofs.Given.{length-given_at, given_at-get, active_set}
@@ -130,29 +130,37 @@ some_if : (w size k : ℕ) (carries : Bool) → k < min (2 ^ w) (if carries then
 some_if w size k true within = refl
 some_if w size k false within = absurd (omega (arith, within))
 
-pub known_part : (w address : ℕ) (beat : ReplyHead) (known : ℕ) (lanes : List ℕ) → IsKnownReply (2 ^ w) address beat known
-    → all_known (reply_part (2 ^ w) address beat known lanes) ≡ true
-known_part w address beat known lanes is = go beat.denied refl
+pub known_part : (w address : ℕ) (beat : ReplyHead) (known : ℕ) (lanes : List ℕ) → is_spoiled beat ≡ false
+    → IsKnownReply (2 ^ w) address beat known → all_known (reply_part (2 ^ w) address beat known lanes) ≡ true
+known_part w address beat known lanes clean is = go beat.denied beat.corrupt refl refl
   where
-    op_count : ℕ
-    op_count = reply_byte_count (reply_op_of_number beat.opcode) beat.size
-
     first : ℕ
     first = low address beat.size % 2 ^ w
 
-    go : (denied : Bool) → beat.denied ≡ denied → all_known (seen_cells denied known lanes first (min (2 ^ w) op_count)) ≡ true
-    go true denied = all_known-known (replicate (length (given_at known lanes first (min (2 ^ w) op_count))) 0)
-    go false denied = all_known_if (given_at known lanes first (min (2 ^ w) op_count)) (λ k below.
-        let within : k < min (2 ^ w) op_count = omega (arith, below, length-given_at known lanes first (min (2 ^ w) op_count)) in
+    count : ℕ
+    count = reply_part_count (2 ^ w) beat
+
+    spoiled : (denied corrupt : Bool) → beat.denied ≡ denied → beat.corrupt ≡ corrupt → (corrupt && not denied) ≡ false
+    spoiled denied corrupt d c = rw (d, c) at clean
+
+    go : (denied corrupt : Bool) → beat.denied ≡ denied → beat.corrupt ≡ corrupt
+        → all_known (seen_by denied corrupt (given_at known lanes first count)) ≡ true
+    go true corrupt denied flag = all_known-known (replicate (length (given_at known lanes first count)) 0)
+    go false true denied flag = absurd (lost (spoiled false true denied flag))
+      where
+        lost : true ≡ false → ⊥
+        lost is = cc
+    go false false denied flag = all_known_if (given_at known lanes first count) (λ k below.
+        let within : k < count = omega (arith, below, length-given_at known lanes first count) in
         let carries = reply_carries_bytes (reply_op_of_number beat.opcode) in
         let one : beat.opcode ≡ 1 = eqb-true beat.opcode 1 (sym (carried beat.opcode) ∙ some_if w beat.size k carries within) in
         let small : k < min (2 ^ w) (2 ^ beat.size) = omega (arith, within, few w beat.size carries) in
-        let lit = known_active w address beat.size known k (is one denied) small in
-        rw (given_at-get known lanes first (min (2 ^ w) op_count) k within) (byte_lit known lanes (first + k) lit))
+        let lit = known_active w address beat.size known k (is one denied flag) small in
+        rw (given_at-get known lanes first count k within) (byte_lit known lanes (first + k) lit))
 
 pub part_known : (w address : ℕ) (beat : ReplyHead) (known : ℕ) (lanes : List ℕ)
     → all_known (reply_part (2 ^ w) address beat known lanes) ≡ true → IsKnownReply (2 ^ w) address beat known
-part_known w address beat known lanes all one plain =
+part_known w address beat known lanes all one plain clean =
     active_known w address beat.size known (λ k within.
     let count = min (2 ^ w) (reply_byte_count (reply_op_of_number beat.opcode) beat.size) in
     let first = low address beat.size % 2 ^ w in
@@ -160,7 +168,8 @@ part_known w address beat known lanes all one plain =
     let full : count ≡ min (2 ^ w) (2 ^ beat.size) = ap (λ b. min (2 ^ w) (if b then 2 ^ beat.size else 0)) carries in
     let inside : k < count = omega (arith, within, full) in
     let cells : all_known (given_at known lanes first count) ≡ true =
-    sym (ap (λ d. all_known (seen_cells d known lanes first count)) plain) ∙ all in
+    sym (ap (λ d. all_known (seen_by d beat.corrupt (given_at known lanes first count))) plain
+    ∙ ap (λ c. all_known (seen_by false c (given_at known lanes first count))) clean) ∙ all in
     let some : IsSome (get_or (given_at known lanes first count) k None) =
     if_all_known (given_at known lanes first count) cells k (omega (arith, inside, length-given_at known lanes first count)) in
     lit_byte known lanes (first + k) (rw (given_at-get known lanes first count k inside) at some))

@@ -7,12 +7,11 @@ use Rattle.std.proofs.lemmas.Nat.{and_le_r}
 use Rattle.std.specs.Prelude.{◌↔◌}
 use Rattle.tl_types.specs.Operation.{carries_bytes, byte_count, may_leave_unset, reply_carries_bytes, reply_byte_count}
 use Rattle.tl_types.specs.declared.operation.AskOp.{AskOp}
-use Rattle.check_cells.specs.Pattern.{captured_bytes}
 use Rattle.check_beats.specs.Bus.{bus_bytes, bus_log, low, active_mask_on_bus}
 use Rattle.check_beats.specs.Form.{IsLawfulMaskOnBus, IsKnown, IsKnownReply}
 use Rattle.check_beats.specs.Laws.{AsksAreOnBus, RepliesAreOnBus, KnownLanesAreKnownBytes}
 use Rattle.check_beats.specs.declared.bus.Bus.{Bus}
-use Rattle.check_beats.specs.Message.{op_of, reply_op_of_number, byte_at, given_at, seen_cells, ask_part, reply_part}
+use Rattle.check_beats.specs.Message.{op_of, reply_op_of_number, byte_at, given_at, seen_by, seen_cells, ask_part, reply_part}
 use Rattle.check_beats.specs.State.{AskBegun, ask_of, ask_after, ReplyBegun, reply_of, reply_after}
 use Rattle.check_beats.specs.declared.beat.AskHead.{AskHead}
 use Rattle.check_beats.specs.declared.beat.ReplyHead.{ReplyHead}
@@ -35,10 +34,10 @@ given_at-take mask lanes n first count inside =
     ∙ byte_at-take mask lanes n (first + k) (omega (arith, inside, within))
     ∙ sym (given_at-get mask lanes first count k within))
 
-pub seen_at-take : (denied : Bool) (known : ℕ) (lanes : List ℕ) (n first count : ℕ) → first + count ≤ n
-    → seen_cells denied known (take n lanes) first count ≡ seen_cells denied known lanes first count
-seen_at-take denied known lanes n first count inside =
-    ap (λ bytes. captured_bytes denied bytes) (given_at-take known lanes n first count inside)
+pub seen_at-take : (beat : ReplyHead) (known : ℕ) (lanes : List ℕ) (n first count : ℕ) → first + count ≤ n
+    → seen_cells beat known (take n lanes) first count ≡ seen_cells beat known lanes first count
+seen_at-take beat known lanes n first count inside =
+    ap (λ bytes. seen_by beat.denied beat.corrupt bytes) (given_at-take known lanes n first count inside)
 
 pub ask_part-take : (w : ℕ) (beat : AskHead) (lanes : List ℕ) → ask_part (2 ^ w) beat (take (2 ^ w) lanes) ≡ ask_part (2 ^ w) beat lanes
 ask_part-take w beat lanes =
@@ -49,7 +48,7 @@ ask_part-take w beat lanes =
 pub reply_part-take : (w address : ℕ) (beat : ReplyHead) (known : ℕ) (lanes : List ℕ)
     → reply_part (2 ^ w) address beat known (take (2 ^ w) lanes) ≡ reply_part (2 ^ w) address beat known lanes
 reply_part-take w address beat known lanes =
-    seen_at-take beat.denied known lanes (2 ^ w) (low address beat.size % 2 ^ w)
+    seen_at-take beat known lanes (2 ^ w) (low address beat.size % 2 ^ w)
     (min (2 ^ w) (reply_byte_count (reply_op_of_number beat.opcode) beat.size))
     (omega (arith, window_fits w address beat.size, some_count beat.size (reply_carries_bytes (reply_op_of_number beat.opcode))))
 
@@ -69,7 +68,7 @@ reply_of-take w begun address beat known lanes = rw (reply_part-take w address b
 
 pub reply_after-take : (w : ℕ) (begun : Option ReplyBegun) (beat : ReplyHead) (known : ℕ) (lanes : List ℕ)
     → reply_after (2 ^ w) begun beat known (take (2 ^ w) lanes) ≡ reply_after (2 ^ w) begun beat known lanes
-reply_after-take w begun beat known lanes = rw (seen_at-take beat.denied known lanes (2 ^ w) 0 (2 ^ w) (omega arith)) refl
+reply_after-take w begun beat known lanes = rw (seen_at-take beat known lanes (2 ^ w) 0 (2 ^ w) (omega arith)) refl
 
 -- the same where the bus is one of so many bytes
 
@@ -116,16 +115,16 @@ given_at-mod known lanes width first count inside =
     ∙ byte_at-mod known width lanes (first + k) (omega (arith, inside, within))
     ∙ sym (given_at-get known lanes first count k within))
 
-seen_at-mod : (denied : Bool) (known : ℕ) (lanes : List ℕ) (width first count : ℕ) → first + count ≤ width
-    → seen_cells denied (known % 2 ^ width) lanes first count ≡ seen_cells denied known lanes first count
-seen_at-mod denied known lanes width first count inside =
-    ap (λ bytes. captured_bytes denied bytes) (given_at-mod known lanes width first count inside)
+seen_at-mod : (beat : ReplyHead) (known : ℕ) (lanes : List ℕ) (width first count : ℕ) → first + count ≤ width
+    → seen_cells beat (known % 2 ^ width) lanes first count ≡ seen_cells beat known lanes first count
+seen_at-mod beat known lanes width first count inside =
+    ap (λ bytes. seen_by beat.denied beat.corrupt bytes) (given_at-mod known lanes width first count inside)
 
 reply_part-mod : (w address : ℕ) (beat : ReplyHead) (known : ℕ) (lanes : List ℕ)
     → reply_part (2 ^ w) address beat (known % 2 ^ (2 ^ w)) lanes ≡ reply_part (2 ^ w) address beat known lanes
 reply_part-mod w address beat known lanes =
     let op = reply_op_of_number beat.opcode in
-    seen_at-mod beat.denied known lanes (2 ^ w) (low address beat.size % 2 ^ w)
+    seen_at-mod beat known lanes (2 ^ w) (low address beat.size % 2 ^ w)
     (min (2 ^ w) (reply_byte_count op beat.size))
     (omega (arith, window_fits w address beat.size, some_count beat.size (reply_carries_bytes op)))
 
@@ -157,7 +156,7 @@ reply_known_alike : (w address : ℕ) (beat : ReplyHead) (known : ℕ)
     → IsKnownReply (2 ^ w) address beat (known % 2 ^ (2 ^ w)) ↔ IsKnownReply (2 ^ w) address beat known
 reply_known_alike w address beat known =
     let same = and-mod (active_mask_on_bus (2 ^ w) address beat.size) known (2 ^ w) (active_small w address beat.size) in
-    ((λ is one plain. sym same ∙ is one plain), (λ is one plain. same ∙ is one plain))
+    ((λ is one plain clean. sym same ∙ is one plain clean), (λ is one plain clean. same ∙ is one plain clean))
 
 pub replies_are_on_bus : RepliesAreOnBus
 replies_are_on_bus bus begun address beat known lanes =
@@ -166,12 +165,12 @@ replies_are_on_bus bus begun address beat known lanes =
       ends = reply_of-take w begun address beat (known % 2 ^ (2 ^ w)) lanes
           ∙ rw (reply_part-mod w address beat known lanes) refl;
       goes_on = reply_after-take w begun beat (known % 2 ^ (2 ^ w)) lanes
-          ∙ rw (seen_at-mod beat.denied known lanes (2 ^ w) 0 (2 ^ w) (omega arith)) refl;
+          ∙ rw (seen_at-mod beat known lanes (2 ^ w) 0 (2 ^ w) (omega arith)) refl;
       known_bits = reply_known_alike w address beat known;
     }
 
 pub known_lanes_are_known_bytes : KnownLanesAreKnownBytes
-known_lanes_are_known_bytes bus address beat known lanes = (
-  (λ is. known_part (bus_log bus) address beat known lanes is),
+known_lanes_are_known_bytes bus address beat known lanes clean = (
+  (λ is. known_part (bus_log bus) address beat known lanes clean is),
   (λ all. part_known (bus_log bus) address beat known lanes all),
 )

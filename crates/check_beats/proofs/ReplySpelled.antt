@@ -1,37 +1,44 @@
 -- What all beats of a reply spell is the reply that is gathered from them.
-use Rattle.std.proofs.Common.{◌≡◌, ◌∙◌, ℕ, ◌+◌, ◌*◌, ◌/◌, ◌^◌, ◌%◌, ◌<◌, ◌≤◌, ◌⊎◌, inl, inr, min, Bool, true, false, if◌then◌else◌, List, [], ◌∷◌, ◌++◌, length, get_or, Option, Some, None, slice_get, ap, sym, subst, refl, arith, eqb-true, length-append}
+use Rattle.std.proofs.Common.{◌≡◌, ◌∙◌, ℕ, ◌+◌, ◌*◌, ◌/◌, ◌^◌, ◌%◌, ◌<◌, ◌≤◌, ◌⊎◌, inl, inr, min, Bool, true, false, if◌then◌else◌, List, [], ◌∷◌, ◌++◌, length, get_or, replicate, Option, Some, None, slice_get, ap, sym, subst, refl, arith, eqb-true, length-append}
 use Rattle.std.specs.List.{AllByRecursion}
 use Rattle.std.proofs.lemmas.Nat.{pow_pos, mod_below, mul-le, div-add-mod'}
 use Rattle.std.proofs.lemmas.Option.{slice_get_within, slice_get-get_or, get_or_from_slice_get}
-use Rattle.std.proofs.lemmas.List.{get_or_append_left, get_or-append-add}
+use Rattle.std.proofs.lemmas.List.{get_or_append_left, get_or-append-add, get_or-replicate, length-replicate}
 use Rattle.tl_types.proofs.Lists.{slice_get-push}
 use Rattle.tl_types.specs.Operation.{reply_carries_bytes, reply_byte_count}
 use Rattle.tl_types.specs.Wire.{reply_opcode_of}
 use Rattle.check_beats.specs.Bus.{low, lane_on_bus, beat_count_on_bus, bus_log}
 use Rattle.check_beats.specs.Form.{IsFormedReply, FitsReply, SameReplyFields, IsRightMark}
-use Rattle.check_beats.specs.Message.{reply_op_of_number, byte_at, seen_cells, reply_part, reply_beats}
-use Rattle.check_beats.specs.State.{ReplyBegun, reply_begun, first_reply, replied_beats, replied_bytes, ends_reply, reply_of, reply_after}
+use Rattle.check_beats.specs.Message.{reply_op_of_number, is_spoiled, byte_at, seen_cells, reply_part, spoiled_part, reply_beats}
+use Rattle.check_beats.specs.State.{ReplyBegun, reply_begun, first_reply, replied_beats, replied_bytes, replied_spoiled, ends_reply, reply_of, reply_after}
 use Rattle.check_beats.specs.Begun.{IsReplyKept}
 use Rattle.check_beats.specs.Spelling.{ReplyBeat, StandsAt, HasReplyFieldsOf, IsReplyBeatOf, SpellsReplyOnBus, IsLawfulPattern}
 use Rattle.check_beats.specs.Laws.{replying, AreFittingReplies, begun_reply, ended_replies, IsReplySpelled, ReplyIsSpelled}
 use Rattle.check_beats.specs.declared.beat.ReplyHead.{ReplyHead}
 use Rattle.check_beats.proofs.Window.{lane_wide, lane_in_window, some_count}
 use Rattle.check_beats.proofs.Spelled.{byte_stands}
-use Rattle.check_beats.proofs.Seen.{reply_op_named, reply_carries_named, length-seen_at, seen_in, seen_at-get}
+use Rattle.check_beats.proofs.Seen.{reply_op_named, reply_carries_named, length-seen_at, byte_by, seen_in, seen_at-get}
 use Rattle.check_beats.proofs.Returning.{Returns, returns, reply_kept_on, reply_on_is, ended_reply_is_lawful, one_reply_is_lawful, reply_kept_first, reply_first_is}
 
--- each byte is what stands in its beat, where all lanes carry one
-abbrev pub Stand : ℕ → List (Option ℕ) → List ReplyBeat → Type 0
-Stand w bytes beats = (j : ℕ) (given : Option ℕ) (x : ReplyBeat) → slice_get bytes j ≡ Some given
-    → slice_get beats (j / 2 ^ w) ≡ Some x → given ≡ seen_in x.head.denied x.known x.lanes (j % 2 ^ w)
+-- each item of a list is what this says of its beat and its lane, where all lanes carry one
+abbrev pub Stand : {A : Type 0} → (ReplyBeat → ℕ → A) → ℕ → List A → List ReplyBeat → Type 0
+Stand {A} said w items beats = (j : ℕ) (item : A) (x : ReplyBeat) → slice_get items j ≡ Some item
+    → slice_get beats (j / 2 ^ w) ≡ Some x → item ≡ said x (j % 2 ^ w)
 
-none_stand : (w : ℕ) → Stand w [] []
-none_stand w j given x at found = absurd (cc)
+-- what is seen at a lane of a beat, and whether its bytes are spoiled
+abbrev pub seen_there : ReplyBeat → ℕ → Option ℕ
+seen_there x lane = seen_in x.head x.known x.lanes lane
 
-more_stand : (w : ℕ) (bytes : List (Option ℕ)) (beats : List ReplyBeat) (x : ReplyBeat)
-    → length bytes ≡ length beats * 2 ^ w → length x.lanes ≡ 2 ^ w → Stand w bytes beats
-    → Stand w (bytes ++ seen_cells x.head.denied x.known x.lanes 0 (length x.lanes)) (beats ++ x ∷ [])
-more_stand w bytes beats x counted wide stand j given y at found = go (slice_get-push beats x y (j / 2 ^ w) found)
+abbrev pub spoiled_there : ReplyBeat → ℕ → Bool
+spoiled_there x lane = is_spoiled x.head
+
+none_stand : {A : Type 0} (said : ReplyBeat → ℕ → A) (w : ℕ) → Stand said w [] []
+none_stand said w j item x at found = absurd (cc)
+
+more_stand : {A : Type 0} (said : ReplyBeat → ℕ → A) (w : ℕ) (d : A) (items part : List A) (beats : List ReplyBeat) (x : ReplyBeat)
+    → length items ≡ length beats * 2 ^ w → ((i : ℕ) → i < 2 ^ w → get_or part i d ≡ said x i) → Stand said w items beats
+    → Stand said w (items ++ part) (beats ++ x ∷ [])
+more_stand {A} said w d items part beats x counted each stand j item y at found = go (slice_get-push beats x y (j / 2 ^ w) found)
   where
     split : j / 2 ^ w * 2 ^ w + j % 2 ^ w ≡ j
     split = div-add-mod' j (2 ^ w)
@@ -39,35 +46,43 @@ more_stand w bytes beats x counted wide stand j given y at found = go (slice_get
     lane : j % 2 ^ w < 2 ^ w
     lane = mod_below j (2 ^ w) (pow_pos w)
 
-    whole : get_or (bytes ++ seen_cells x.head.denied x.known x.lanes 0 (length x.lanes)) j None ≡ given
-    whole = get_or_from_slice_get (bytes ++ seen_cells x.head.denied x.known x.lanes 0 (length x.lanes)) j given None at
+    whole : get_or (items ++ part) j d ≡ item
+    whole = get_or_from_slice_get (items ++ part) j item d at
 
-    go : (slice_get beats (j / 2 ^ w) ≡ Some y) ⊎ ((j / 2 ^ w ≡ length beats) × (x ≡ y))
-        → given ≡ seen_in y.head.denied y.known y.lanes (j % 2 ^ w)
+    go : (slice_get beats (j / 2 ^ w) ≡ Some y) ⊎ ((j / 2 ^ w ≡ length beats) × (x ≡ y)) → item ≡ said y (j % 2 ^ w)
     go (inl before) =
         let k = j / 2 ^ w in
         let inside : k < length beats = slice_get_within beats k y before in
         let row : (k + 1) * 2 ^ w ≤ length beats * 2 ^ w =
         mul-le (k + 1) (2 ^ w) (length beats) (2 ^ w) (omega (arith, inside)) (omega arith) in
         let more : (k + 1) * 2 ^ w ≡ k * 2 ^ w + 2 ^ w = search arith in
-        let early : j < length bytes = omega (arith, counted, row, more, split, lane) in
-        let same : get_or bytes j None ≡ given =
-        sym (get_or_append_left bytes (seen_cells x.head.denied x.known x.lanes 0 (length x.lanes)) None j early)
-        ∙ whole in
-        stand j given y (slice_get-get_or bytes j None early ∙ ap (λ (g : Option ℕ). Some g) same) before
+        let early : j < length items = omega (arith, counted, row, more, split, lane) in
+        let same : get_or items j d ≡ item = sym (get_or_append_left items part d j early) ∙ whole in
+        stand j item y (slice_get-get_or items j d early ∙ ap (λ (g : A). Some g) same) before
     go (inr last) =
         let i = j % 2 ^ w in
         let at_row : j / 2 ^ w * 2 ^ w ≡ length beats * 2 ^ w = ap (λ n. n * 2 ^ w) last.0 in
-        let place : j ≡ length bytes + i = omega (arith, counted, at_row, split) in
-        let here : get_or (bytes ++ seen_cells x.head.denied x.known x.lanes 0 (length x.lanes)) j None
-        ≡ get_or (seen_cells x.head.denied x.known x.lanes 0 (length x.lanes)) i None =
-        ap (λ n. get_or (bytes ++ seen_cells x.head.denied x.known x.lanes 0 (length x.lanes)) n None) place
-        ∙ get_or-append-add bytes (seen_cells x.head.denied x.known x.lanes 0 (length x.lanes)) i None in
-        let is : get_or (seen_cells x.head.denied x.known x.lanes 0 (length x.lanes)) i None ≡ seen_in x.head.denied x.known x.lanes (0 + i) =
-        seen_at-get x.head.denied x.known x.lanes 0 (length x.lanes) i (omega (arith, lane, wide)) in
-        let none : 0 + i ≡ i = omega arith in
-        sym whole ∙ here ∙ is ∙ ap (λ n. seen_in x.head.denied x.known x.lanes n) none
-        ∙ ap (λ (z : ReplyBeat). seen_in z.head.denied z.known z.lanes i) last.1
+        let place : j ≡ length items + i = omega (arith, counted, at_row, split) in
+        let here : get_or (items ++ part) j d ≡ get_or part i d =
+        ap (λ n. get_or (items ++ part) n d) place ∙ get_or-append-add items part i d in
+        sym whole ∙ here ∙ each i lane ∙ ap (λ (z : ReplyBeat). said z i) last.1
+
+-- the bytes of a beat more, and their marks
+more_seen : (w : ℕ) (bytes : List (Option ℕ)) (beats : List ReplyBeat) (x : ReplyBeat) → length bytes ≡ length beats * 2 ^ w
+    → length x.lanes ≡ 2 ^ w → Stand seen_there w bytes beats
+    → Stand seen_there w (bytes ++ seen_cells x.head x.known x.lanes 0 (length x.lanes)) (beats ++ x ∷ [])
+more_seen w bytes beats x counted wide stand =
+    more_stand seen_there w None bytes (seen_cells x.head x.known x.lanes 0 (length x.lanes)) beats x counted
+    (λ i lane.
+    let none : 0 + i ≡ i = omega arith in
+    seen_at-get x.head x.known x.lanes 0 (length x.lanes) i (omega (arith, lane, wide)) ∙ ap (λ n. seen_there x n) none) stand
+
+more_marks : (w : ℕ) (spoiled : List Bool) (beats : List ReplyBeat) (x : ReplyBeat) → length spoiled ≡ length beats * 2 ^ w
+    → length x.lanes ≡ 2 ^ w → Stand spoiled_there w spoiled beats
+    → Stand spoiled_there w (spoiled ++ replicate (length x.lanes) (is_spoiled x.head)) (beats ++ x ∷ [])
+more_marks w spoiled beats x counted wide stand =
+    more_stand spoiled_there w false spoiled (replicate (length x.lanes) (is_spoiled x.head)) beats x counted
+    (λ i lane. get_or-replicate (length x.lanes) i (is_spoiled x.head) false (omega (arith, lane, wide))) stand
 
 -- ---- what is kept is what the beats say
 
@@ -78,7 +93,9 @@ pub record GatheredReply (w : ℕ) (begun : Option ReplyBegun) (beats : List Rep
   pub filled : length (replied_bytes begun) ≡ length beats * 2 ^ w
   pub each : (k : ℕ) (x : ReplyBeat) → slice_get beats k ≡ Some x
       → IsFormedReply x.head × ((h : ReplyHead) → first_reply begun ≡ Some h → SameReplyFields h x.head)
-  pub stand : Stand w (replied_bytes begun) beats
+  pub marked : length (replied_spoiled begun) ≡ length beats * 2 ^ w
+  pub stand : Stand seen_there w (replied_bytes begun) beats
+  pub marks : Stand spoiled_there w (replied_spoiled begun) beats
 
 pub itself : (a : ReplyHead) → SameReplyFields a a
 itself a = record { opcode = refl; param = refl; size = refl; source = refl; denied = refl }
@@ -99,20 +116,29 @@ nothing_gathered w = record {
   counted = refl;
   filled = omega arith;
   each = λ k x at. absurd (cc);
-  stand = none_stand w;
+  marked = omega arith;
+  stand = none_stand seen_there w;
+  marks = none_stand spoiled_there w;
 }
 
 first_gathered : (w : ℕ) (x : ReplyBeat) → FitsReply None x.head → length x.lanes ≡ 2 ^ w → ends_reply (2 ^ w) None x.head ≡ false
     → GatheredReply w
-    (Some (record { first = x.head; beats = 1; bytes = seen_cells x.head.denied x.known x.lanes 0 (length x.lanes) }))
+    (Some (record {
+      first = x.head;
+      beats = 1;
+      bytes = seen_cells x.head x.known x.lanes 0 (length x.lanes);
+      spoiled = replicate (length x.lanes) (is_spoiled x.head);
+    }))
     ([] ++ x ∷ [])
 first_gathered w x fits wide goes_on = record {
   kept = reply_kept_first w x.head x.known x.lanes fits wide goes_on;
   empty = λ e. absurd (cc);
   counted = refl;
-  filled = length-seen_at x.head.denied x.known x.lanes 0 (length x.lanes) ∙ wide ∙ omega arith;
+  filled = length-seen_at x.head x.known x.lanes 0 (length x.lanes) ∙ wide ∙ omega arith;
   each = λ k y at. only k y (slice_get-push [] x y k at);
-  stand = more_stand w [] [] x (omega arith) wide (none_stand w);
+  marked = length-replicate (length x.lanes) (is_spoiled x.head) ∙ wide ∙ omega arith;
+  stand = more_seen w [] [] x (omega arith) wide (none_stand seen_there w);
+  marks = more_marks w [] [] x (omega arith) wide (none_stand spoiled_there w);
 }
   where
     only : (k : ℕ) (y : ReplyBeat) → (slice_get [] k ≡ Some y) ⊎ ((k ≡ 0) × (x ≡ y))
@@ -133,22 +159,26 @@ pub next_gathered : (w : ℕ) (b : ReplyBegun) (beats : List ReplyBeat) (x : Rep
     (Some (record {
       first = b.first;
       beats = b.beats + 1;
-      bytes =
-          b.bytes ++ seen_cells x.head.denied x.known x.lanes 0 (length x.lanes);
+      bytes = b.bytes ++ seen_cells x.head x.known x.lanes 0 (length x.lanes);
+      spoiled = b.spoiled ++ replicate (length x.lanes) (is_spoiled x.head);
     })) (beats ++ x ∷ [])
 next_gathered w b beats x g fits wide goes_on =
-    let some : reply_begun (Some b.first) b.beats b.bytes ≡ None → ⊥ = (λ e. absurd (cc)) in
-    let is = returns w (Some b.first) b.beats b.bytes x.head x.known x.lanes g.kept fits wide some in
+    let some : reply_begun (Some b.first) b.beats b.bytes b.spoiled ≡ None → ⊥ = (λ e. absurd (cc)) in
+    let is = returns w (Some b.first) b.beats b.bytes b.spoiled x.head x.known x.lanes g.kept fits wide some in
     let counted : length (beats ++ x ∷ []) ≡ b.beats + 1 = omega (arith, length-append beats (x ∷ []), g.counted) in
     record {
-      kept = reply_kept_on w (Some b.first) b.beats b.bytes x.head x.known x.lanes g.kept fits some is goes_on;
+      kept = reply_kept_on w (Some b.first) b.beats b.bytes b.spoiled x.head x.known x.lanes g.kept fits some is goes_on;
       empty = λ e. absurd (cc);
       counted = counted;
-      filled = length-append b.bytes (seen_cells x.head.denied x.known x.lanes 0 (length x.lanes))
-          ∙ ap (λ n. length b.bytes + n) (length-seen_at x.head.denied x.known x.lanes 0 (length x.lanes))
+      filled = length-append b.bytes (seen_cells x.head x.known x.lanes 0 (length x.lanes))
+          ∙ ap (λ n. length b.bytes + n) (length-seen_at x.head x.known x.lanes 0 (length x.lanes))
           ∙ is.total ∙ ap (λ n. n * 2 ^ w) (sym counted);
       each = λ k y at. any k y (slice_get-push beats x y k at);
-      stand = more_stand w b.bytes beats x g.filled wide g.stand;
+      marked = length-append b.spoiled (replicate (length x.lanes) (is_spoiled x.head))
+          ∙ ap (λ n. length b.spoiled + n) (length-replicate (length x.lanes) (is_spoiled x.head))
+          ∙ ap (λ n. n + length x.lanes) is.marked ∙ is.total ∙ ap (λ n. n * 2 ^ w) (sym counted);
+      stand = more_seen w b.bytes beats x g.filled wide g.stand;
+      marks = more_marks w b.spoiled beats x g.marked wide g.marks;
     }
   where
     any : (k : ℕ) (y : ReplyBeat) → (slice_get beats k ≡ Some y) ⊎ ((k ≡ length beats) × (x ≡ y))
@@ -166,25 +196,25 @@ gathered_after w None beats x g fits wide goes_on =
     let Q : Option ReplyBegun → Type 0 = λ o. GatheredReply w o ([] ++ x ∷ []) in
     subst P (sym (g.empty refl)) (subst Q (reply_first_is w x.head x.known x.lanes wide goes_on) (first_gathered w x fits wide goes_on))
 gathered_after w (Some b) beats x g fits wide goes_on =
-    let some : reply_begun (Some b.first) b.beats b.bytes ≡ None → ⊥ = (λ e. absurd (cc)) in
-    let is = returns w (Some b.first) b.beats b.bytes x.head x.known x.lanes g.kept fits wide some in
+    let some : reply_begun (Some b.first) b.beats b.bytes b.spoiled ≡ None → ⊥ = (λ e. absurd (cc)) in
+    let is = returns w (Some b.first) b.beats b.bytes b.spoiled x.head x.known x.lanes g.kept fits wide some in
     let Q : Option ReplyBegun → Type 0 = λ o. GatheredReply w o (beats ++ x ∷ []) in
-    subst Q (reply_on_is w (Some b.first) b.beats b.bytes x.head x.known x.lanes wide some goes_on)
+    subst Q (reply_on_is w (Some b.first) b.beats b.bytes b.spoiled x.head x.known x.lanes wide some goes_on)
     (next_gathered w b beats x g fits wide goes_on)
 
 -- ---- the last beat
 
-fields_of : (x y : ReplyHead) (bytes : List (Option ℕ)) → IsFormedReply x → SameReplyFields x y
+fields_of : (x y : ReplyHead) (bytes : List (Option ℕ)) (spoiled : List Bool) → IsFormedReply x → SameReplyFields x y
     → HasReplyFieldsOf
     (record {
       op = reply_op_of_number x.opcode;
       size = x.size;
       source = x.source;
       denied = Some x.denied;
-      bytes =
-          bytes;
+      bytes = bytes;
+      spoiled = spoiled;
     }) y
-fields_of x y bytes formed same =
+fields_of x y bytes spoiled formed same =
     let named : reply_op_of_number x.opcode ≡ formed.op = reply_op_named formed.op x.opcode formed.code in
     record {
       opcode = same.opcode ∙ sym formed.code ∙ ap reply_opcode_of (sym named);
@@ -199,10 +229,12 @@ flag_of x y formed same =
     let named : reply_op_of_number x.opcode ≡ formed.op = rw (← same.opcode) (reply_op_named formed.op y.opcode formed.code) in
     rw named formed.flag
 
-stands_so : (denied : Bool) (known : ℕ) (lanes : List ℕ) (lane place : ℕ) (byte : Option ℕ) → denied ≡ false
-    → byte ≡ seen_in denied known lanes place → lane ≡ place → StandsAt known lanes lane byte
-stands_so denied known lanes lane place byte given is at =
-    let here : byte ≡ byte_at known lanes place = is ∙ ap (λ d. seen_in d known lanes place) given in
+stands_so : (beat : ReplyHead) (known : ℕ) (lanes : List ℕ) (lane place : ℕ) (byte : Option ℕ) → beat.denied ≡ false
+    → beat.corrupt ≡ false → byte ≡ seen_in beat known lanes place → lane ≡ place → StandsAt known lanes lane byte
+stands_so beat known lanes lane place byte plain clean is at =
+    let there = byte_at known lanes place in
+    let here : byte ≡ there =
+    is ∙ ap (λ d. byte_by d beat.corrupt there) plain ∙ ap (λ c. byte_by false c there) clean in
     subst (λ (l : ℕ). StandsAt known lanes l byte) (sym at)
     (subst (λ (b : Option ℕ). StandsAt known lanes place b) (sym here) (byte_stands known lanes place))
 
@@ -227,37 +259,45 @@ one_spells w address x fits alone = record {
         let first = low address x.head.size % 2 ^ w in
         let count = min (2 ^ w) (reply_byte_count op x.head.size) in
         let here : IsReplyBeatOf (2 ^ w) (reply_of (2 ^ w) None address x.head x.known x.lanes) address b x = record {
-          fields = fields_of x.head x.head (reply_part (2 ^ w) address x.head x.known x.lanes) fits.formed (itself x.head);
+          fields = fields_of x.head x.head (reply_part (2 ^ w) address x.head x.known x.lanes) (spoiled_part (2 ^ w) x.head) fits.formed (itself x.head);
           corrupt = flag_of x.head x.head fits.formed (itself x.head);
-          bytes = λ plain j byte at row.
+          marks = λ j mark at row.
+              let within : j < count = omega (arith, slice_get_within (spoiled_part (2 ^ w) x.head) j mark at, length-replicate count (is_spoiled x.head)) in
+              sym (get_or_from_slice_get (spoiled_part (2 ^ w) x.head) j mark false at) ∙ get_or-replicate count j (is_spoiled x.head) false within;
+          bytes = λ plain clean j byte at row.
               let within : j < count =
-              rw (← length-seen_at x.head.denied x.known x.lanes first count)
+              rw (← length-seen_at x.head x.known x.lanes first count)
               (slice_get_within (reply_part (2 ^ w) address x.head x.known x.lanes) j byte at) in
               let below : j < min (2 ^ w) (2 ^ x.head.size) = omega (arith, within, some_count x.head.size (reply_carries_bytes op)) in
-              let is : byte ≡ seen_in x.head.denied x.known x.lanes (first + j) =
+              let is : byte ≡ seen_in x.head x.known x.lanes (first + j) =
               sym (get_or_from_slice_get (reply_part (2 ^ w) address x.head x.known x.lanes) j byte None at)
-              ∙ seen_at-get x.head.denied x.known x.lanes first count j within in
-              stands_so x.head.denied x.known x.lanes (lane_on_bus (2 ^ w) address x.head.size j) (first + j) byte plain is
+              ∙ seen_at-get x.head x.known x.lanes first count j within in
+              stands_so x.head x.known x.lanes (lane_on_bus (2 ^ w) address x.head.size j) (first + j) byte plain clean is
               (lane_in_window w address x.head.size j below);
         } in
         subst (λ (z : ReplyBeat). IsReplyBeatOf (2 ^ w) (reply_of (2 ^ w) None address x.head x.known x.lanes) address b z) last.1 here
 
 long_spells : (w address : ℕ) (b : ReplyBegun) (beats : List ReplyBeat) (x : ReplyBeat)
     → GatheredReply w (Some b) beats → FitsReply (Some b.first) x.head → length x.lanes ≡ 2 ^ w
-    → Returns w b.beats b.bytes x.head x.known x.lanes → b.beats + 1 ≡ reply_beats (2 ^ w) x.head
+    → Returns w b.beats b.bytes b.spoiled x.head x.known x.lanes → b.beats + 1 ≡ reply_beats (2 ^ w) x.head
     → SpellsReplyOnBus (2 ^ w) (reply_of (2 ^ w) (Some b) address x.head x.known x.lanes) address (beats ++ x ∷ [])
 long_spells w address b beats x g fits wide is ends = record {
   count = omega (arith, length-append beats (x ∷ []), g.counted, ends) ∙ carries_of (2 ^ w) x.head fits.formed;
   each = λ k y found.
       let there = any k y (slice_get-push beats x y k found) in record {
-        fields = fields_of x.head y.head (b.bytes ++ reply_part (2 ^ w) address x.head x.known x.lanes) fits.formed there.1;
+        fields = fields_of x.head y.head (b.bytes ++ reply_part (2 ^ w) address x.head x.known x.lanes) (b.spoiled ++ spoiled_part (2 ^ w) x.head)
+            fits.formed there.1;
         corrupt = flag_of x.head y.head there.0 there.1;
-        bytes = λ plain j byte at row.
-            let at_lanes : slice_get (b.bytes ++ seen_cells x.head.denied x.known x.lanes 0 (length x.lanes)) j
+        marks = λ j mark at row.
+            let at_lanes : slice_get (b.spoiled ++ replicate (length x.lanes) (is_spoiled x.head)) j ≡ Some mark = rw (is.marks) at in
+            let in_row : slice_get (beats ++ x ∷ []) (j / 2 ^ w) ≡ Some y = rw row found in
+            more_marks w b.spoiled beats x g.marked wide g.marks j mark y at_lanes in_row;
+        bytes = λ plain clean j byte at row.
+            let at_lanes : slice_get (b.bytes ++ seen_cells x.head x.known x.lanes 0 (length x.lanes)) j
             ≡ Some byte = rw (is.part address) at in
             let in_row : slice_get (beats ++ x ∷ []) (j / 2 ^ w) ≡ Some y = rw row found in
-            stands_so y.head.denied y.known y.lanes (lane_on_bus (2 ^ w) address x.head.size j) (j % 2 ^ w) byte plain
-            (more_stand w b.bytes beats x g.filled wide g.stand j byte y at_lanes in_row)
+            stands_so y.head y.known y.lanes (lane_on_bus (2 ^ w) address x.head.size j) (j % 2 ^ w) byte plain clean
+            (more_seen w b.bytes beats x g.filled wide g.stand j byte y at_lanes in_row)
             (lane_wide w address x.head.size j is.long_is.wide);
       };
 }
@@ -285,12 +325,12 @@ spelled_end w None beats x g fits wide ends =
       one_spells w address x fits alone,
     ))
 spelled_end w (Some b) beats x g fits wide ends =
-    let some : reply_begun (Some b.first) b.beats b.bytes ≡ None → ⊥ = (λ e. absurd (cc)) in
-    let is = returns w (Some b.first) b.beats b.bytes x.head x.known x.lanes g.kept fits wide some in
+    let some : reply_begun (Some b.first) b.beats b.bytes b.spoiled ≡ None → ⊥ = (λ e. absurd (cc)) in
+    let is = returns w (Some b.first) b.beats b.bytes b.spoiled x.head x.known x.lanes g.kept fits wide some in
     let last : b.beats + 1 ≡ reply_beats (2 ^ w) x.head = eqb-true (b.beats + 1) (reply_beats (2 ^ w) x.head) ends in
     λ address.
     let lawful : IsLawfulPattern (reply_of (2 ^ w) (Some b) address x.head x.known x.lanes) =
-    rw (← is.part address) (ended_reply_is_lawful w b.beats x.head.source b.bytes x.head x.known x.lanes fits.formed is last) in
+    rw (← is.part address, ← is.marks) (ended_reply_is_lawful w b.beats x.head.source b.bytes b.spoiled x.head x.known x.lanes fits.formed is last) in
     (lawful, long_spells w address b beats x g fits wide is last)
 
 -- ---- all beats of a channel

@@ -1,7 +1,7 @@
 -- When a beat is one of a lawful message, after the first beat of the message that is under way on its channel: the
 -- chapter "Beats and bursts" of the TileLink specification. That lanes may be unknown, and which fault is named where
 -- several apply, is this project's own.
-use Rattle.std.specs.Prelude.{◌≡◌, ◌≢◌, ℕ, ◌<◌, ◌≤◌, Bool, true, false, ◌&&◌, Option, Some, bit_and, IsTrue}
+use Rattle.std.specs.Prelude.{◌≡◌, ◌≢◌, ℕ, ◌<◌, ◌≤◌, ◌⊎◌, Bool, true, false, Option, Some, bit_and, IsTrue}
 use Rattle.tl_types.specs.Fault.{IsFirstOf}
 use Rattle.tl_types.specs.Operation.{may_leave_unset, reply_carries_bytes}
 use Rattle.tl_types.specs.Wire.{IsCodeOf, reply_opcode_of}
@@ -14,7 +14,7 @@ use Rattle.check_beats.specs.declared.beat.ReplyHead.{ReplyHead}
 use Rattle.check_beats.specs.declared.fault.FormFault.{FormFault}
 use Rattle.check_beats.specs.declared.fault.FormFault.TheVariants.{Changed, Opcode, Param, Size, Unaligned, Mask, CorruptFlag, UnknownData}
 use Rattle.check_beats.specs.declared.rules.LinkRules.{LinkRules}
-use Rattle.check_beats.specs.Rules.{IsAlignedBy}
+use Rattle.check_beats.specs.Rules.{IsAlignedBy, IsMarkedBy}
 
 -- the beat has the fields of the first beat of the message that is under way, if one is
 abbrev pub Continues : {B : Type 0} → (B → B → Type 0) → Option B → B → Type 0
@@ -68,9 +68,10 @@ HasAskFormFault bus rules begun beat known UnknownData = (beat.opcode < 4) × (b
 
 -- ---- replies
 
--- `corrupt` is set exactly in the beats that carry bytes of a denied reply
-abbrev pub IsRightMark : ReplyOp → Bool → Bool → Type 0
-IsRightMark op denied corrupt = corrupt ≡ (denied && reply_carries_bytes op)
+-- a beat that carries no bytes is not marked corrupt, and one that carries bytes of a denied reply is
+pub record IsRightMark (op : ReplyOp) (denied corrupt : Bool) : Type 0 where
+  pub bare : reply_carries_bytes op ≡ false → corrupt ≡ false
+  pub refused : denied ≡ true → reply_carries_bytes op ≡ true → corrupt ≡ true
 
 -- two beats of replies have the same shared fields
 pub record SameReplyFields (first beat : ReplyHead) : Type 0 where
@@ -93,25 +94,26 @@ pub record FitsReply (begun : Option ReplyHead) (beat : ReplyHead) : Type 0 wher
   pub formed : IsFormedReply beat
   pub same : Continues SameReplyFields begun beat
 
--- each lane that carries a byte of a reply to a request at the address is known: opcode 1 carries bytes, and of a
--- denied reply no lane is looked at
+-- each lane that carries a byte of a reply to a request at the address is known: opcode 1 carries bytes, and of a beat that
+-- is denied or marked corrupt no lane is looked at
 abbrev pub IsKnownReply : ℕ → ℕ → ReplyHead → ℕ → Type 0
 IsKnownReply bus address beat known =
-    beat.opcode ≡ 1 → beat.denied ≡ false
+    beat.opcode ≡ 1 → beat.denied ≡ false → beat.corrupt ≡ false
     → bit_and (active_mask_on_bus bus address beat.size) known ≡ active_mask_on_bus bus address beat.size
 
 -- the beat has this fault as one of a reply; which of its lanes carry a byte is said by the request that it answers, and
--- so not here. Each fault is the failure of a line of `IsFormedReply` or `Continues`.
-abbrev pub HasReplyFormFault : Option ReplyHead → ReplyHead → FormFault → Type 0
-HasReplyFormFault begun beat Changed = Continues SameReplyFields begun beat → ⊥
-HasReplyFormFault begun beat Opcode = (op : ReplyOp) → reply_opcode_of op ≡ beat.opcode → ⊥
-HasReplyFormFault begun beat Param = beat.param ≢ 0
-HasReplyFormFault begun beat Size = MAX_SIZE < beat.size
-HasReplyFormFault begun beat Unaligned = ⊥
-HasReplyFormFault begun beat Mask = ⊥
-HasReplyFormFault begun beat CorruptFlag =
-    (op : ReplyOp) × (reply_opcode_of op ≡ beat.opcode) × (IsRightMark op beat.denied beat.corrupt → ⊥)
-HasReplyFormFault begun beat UnknownData = ⊥
+-- so not here. Each fault is the failure of a line of `IsFormedReply` or `Continues`, or of `IsMarkedBy`.
+abbrev pub HasReplyFormFault : LinkRules → Option ReplyHead → ReplyHead → FormFault → Type 0
+HasReplyFormFault rules begun beat Changed = Continues SameReplyFields begun beat → ⊥
+HasReplyFormFault rules begun beat Opcode = (op : ReplyOp) → reply_opcode_of op ≡ beat.opcode → ⊥
+HasReplyFormFault rules begun beat Param = beat.param ≢ 0
+HasReplyFormFault rules begun beat Size = MAX_SIZE < beat.size
+HasReplyFormFault rules begun beat Unaligned = ⊥
+HasReplyFormFault rules begun beat Mask = ⊥
+HasReplyFormFault rules begun beat CorruptFlag =
+    ((op : ReplyOp) × (reply_opcode_of op ≡ beat.opcode) × (IsRightMark op beat.denied beat.corrupt → ⊥))
+    ⊎ (IsMarkedBy rules beat → ⊥)
+HasReplyFormFault rules begun beat UnknownData = ⊥
 
 -- ---- the order of faults
 
@@ -132,5 +134,5 @@ abbrev pub IsFirstAskFormFault : ℕ → LinkRules → Option AskHead → AskHea
 IsFirstAskFormFault bus rules begun beat known = IsFirstOf (HasAskFormFault bus rules begun beat known) form_rank
 
 -- the fault is the first one, in that order, that the beat has as one of a reply.
-abbrev pub IsFirstReplyFormFault : Option ReplyHead → ReplyHead → FormFault → Type 0
-IsFirstReplyFormFault begun beat = IsFirstOf (HasReplyFormFault begun beat) form_rank
+abbrev pub IsFirstReplyFormFault : LinkRules → Option ReplyHead → ReplyHead → FormFault → Type 0
+IsFirstReplyFormFault rules begun beat = IsFirstOf (HasReplyFormFault rules begun beat) form_rank

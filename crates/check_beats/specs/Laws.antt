@@ -1,14 +1,14 @@
 -- What follows for beats that fit one after the other, in the words of whole messages: the chapter "Beats and bursts" of
 -- the TileLink specification. Lists of what crossed have the latest first. That lanes past the bus mean nothing, and what
 -- is known of a reply, is this project's own.
-use Rattle.std.specs.Prelude.{◌≡◌, ◌≢◌, ◌↔◌, ℕ, ◌<◌, ◌%◌, ◌^◌, true, if◌then◌else◌, List, [], ◌∷◌, ◌++◌, length, take, Option, None}
+use Rattle.std.specs.Prelude.{◌≡◌, ◌≢◌, ◌↔◌, ℕ, ◌<◌, ◌%◌, ◌^◌, true, false, if◌then◌else◌, List, [], ◌∷◌, ◌++◌, length, take, Option, None}
 use Rattle.std.specs.List.{flat_map, AllByRecursion}
 use Rattle.tl_types.specs.Request.{Request, IsLawfulRequest}
 use Rattle.check_cells.specs.Known.{all_known}
 use Rattle.check_cells.specs.Pattern.{Pattern}
 use Rattle.check_beats.specs.Bus.{bus_bytes}
 use Rattle.check_beats.specs.Form.{IsFormed, IsKnown, IsKnownReply, FitsAsk, FitsReply}
-use Rattle.check_beats.specs.Message.{reply_part}
+use Rattle.check_beats.specs.Message.{reply_part, is_spoiled}
 use Rattle.check_beats.specs.Spelling.{AskBeat, SpellsAskOnBus, ReplyBeat, SpellsReplyOnBus, IsLawfulPattern}
 use Rattle.check_beats.specs.State.{AskBegun, first_ask, ends_ask, ask_of, ask_after, ReplyBegun, first_reply, ends_reply, reply_of, reply_after}
 use Rattle.check_beats.specs.declared.beat.AskHead.{AskHead}
@@ -166,9 +166,9 @@ RepliesAreOnBus =
     (bus : Bus) (begun : Option ReplyBegun) (address : ℕ) (beat : ReplyHead) (known : ℕ) (lanes : List ℕ)
     → ReplyIsOnBus (bus_bytes bus) begun address beat known lanes
 
--- the bytes that a beat of a reply carries are all known exactly if the lanes that carry them are
+-- the bytes that a beat of a reply carries are all known exactly if the lanes that carry them are, unless they are spoiled
 abbrev pub KnownLanesAreKnownBytes : Type 0
 KnownLanesAreKnownBytes =
-    (bus : Bus) (address : ℕ) (beat : ReplyHead) (known : ℕ) (lanes : List ℕ)
+    (bus : Bus) (address : ℕ) (beat : ReplyHead) (known : ℕ) (lanes : List ℕ) → is_spoiled beat ≡ false
     → IsKnownReply (bus_bytes bus) address beat known
     ↔ (all_known (reply_part (bus_bytes bus) address beat known lanes) ≡ true)

@@ -1,6 +1,6 @@
 -- Messages beat by beat: what each beat says of the message that it is part of. Each beat of a message has all of the
 -- message's fields, so how many beats there are, and what they spell, is said by any of them.
-use Rattle.std.specs.Prelude.{ℕ, ◌+◌, ◌%◌, if◌then◌else◌, ◌==◌, nat_lt, min, Bool, List, map, Option, Some, None, slice_index}
+use Rattle.std.specs.Prelude.{ℕ, ◌+◌, ◌%◌, if◌then◌else◌, ◌==◌, nat_lt, min, not, Bool, true, false, ◌&&◌, List, length, map, replicate, Option, Some, None, slice_index}
 use Rattle.std.specs.Int.{bit_at}
 use Rattle.std.specs.List.{range_with_len}
 use Rattle.tl_types.specs.Operation.{byte_count, reply_byte_count}
@@ -63,13 +63,31 @@ ask_part bus beat lanes =
     given_at beat.mask lanes (low beat.address beat.size % bus)
     (min bus (byte_count (op_of beat.opcode beat.param) beat.size))
 
--- what is seen of the bytes at so many lanes from one on, by the bits of `known`: those of a denied reply are not looked
--- at, and are zeros
-abbrev pub seen_cells : Bool → ℕ → List ℕ → ℕ → ℕ → List (Option ℕ)
-seen_cells denied known lanes first count = captured_bytes denied (given_at known lanes first count)
+-- the bytes that a beat of a reply carries promise nothing: it is marked corrupt. Each beat of a denied reply is, and its bytes
+-- are not looked at anyway
+abbrev pub is_spoiled : ReplyHead → Bool
+is_spoiled beat = beat.corrupt && not beat.denied
+
+-- what is seen of bytes by the flags of their beat, denied and corrupt: those of a denied reply are not looked at, and are
+-- zeros; of a corrupt beat nothing is seen
+abbrev pub seen_by : Bool → Bool → List (Option ℕ) → List (Option ℕ)
+seen_by true corrupt bytes = captured_bytes true bytes
+seen_by false true bytes = replicate (length bytes) None
+seen_by false false bytes = bytes
+
+-- what is seen of the bytes at so many lanes from one on, by the bits of `known`
+abbrev pub seen_cells : ReplyHead → ℕ → List ℕ → ℕ → ℕ → List (Option ℕ)
+seen_cells beat known lanes first count = seen_by beat.denied beat.corrupt (given_at known lanes first count)
+
+-- how many bytes of a reply a beat carries
+abbrev pub reply_part_count : ℕ → ReplyHead → ℕ
+reply_part_count bus beat = min bus (reply_byte_count (reply_op_of_number beat.opcode) beat.size)
 
 -- the bytes of a reply to a request at the address that a beat carries
 abbrev pub reply_part : ℕ → ℕ → ReplyHead → ℕ → List ℕ → List (Option ℕ)
 reply_part bus address beat known lanes =
-    seen_cells beat.denied known lanes (low address beat.size % bus)
-    (min bus (reply_byte_count (reply_op_of_number beat.opcode) beat.size))
+    seen_cells beat known lanes (low address beat.size % bus) (reply_part_count bus beat)
+
+-- for each of them whether it is spoiled
+abbrev pub spoiled_part : ℕ → ReplyHead → List Bool
+spoiled_part bus beat = replicate (reply_part_count bus beat) (is_spoiled beat)

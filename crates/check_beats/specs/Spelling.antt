@@ -1,5 +1,5 @@
 -- How a message stands on a bus, beat by beat: the chapter "Beats and bursts" of the TileLink specification.
-use Rattle.std.specs.Prelude.{◌≡◌, ℕ, ◌/◌, ◌≤◌, false, true, List, length, Option, Some, None, slice_get, slice_index, All}
+use Rattle.std.specs.Prelude.{◌≡◌, ℕ, ◌/◌, ◌≤◌, Bool, false, true, List, length, Option, Some, None, slice_get, slice_index, All}
 use Rattle.std.specs.Int.{bit_at}
 use Rattle.tl_types.specs.Operation.{carries_bytes, reply_carries_bytes, reply_byte_count}
 use Rattle.tl_types.specs.Wire.{opcode_of, param_of, reply_opcode_of}
@@ -8,6 +8,7 @@ use Rattle.tl_types.specs.declared.limits.TheConstants.{MAX_SIZE}
 use Rattle.check_cells.specs.Pattern.{Pattern}
 use Rattle.check_beats.specs.Bus.{lane_on_bus, beat_count_on_bus}
 use Rattle.check_beats.specs.Form.{IsLawfulMaskOnBus, IsRightMark}
+use Rattle.check_beats.specs.Message.{is_spoiled}
 use Rattle.check_beats.specs.declared.beat.AskHead.{AskHead}
 use Rattle.check_beats.specs.declared.beat.ReplyHead.{ReplyHead}
 
@@ -59,11 +60,12 @@ pub record HasReplyFieldsOf (reply : Pattern) (beat : ReplyHead) : Type 0 where
   pub denied : reply.denied ≡ Some beat.denied
 
 -- a beat is number b of a reply to a request at the address: a byte that is known is what stands at its lane, and where
--- one is unknown the lane was; the bytes of a denied reply stand nowhere
+-- one is unknown the lane was; the bytes of a denied reply stand nowhere, and those of a corrupt beat are spoiled
 pub record IsReplyBeatOf (bus : ℕ) (reply : Pattern) (address b : ℕ) (beat : ReplyBeat) : Type 0 where
   pub fields : HasReplyFieldsOf reply beat.head
   pub corrupt : IsRightMark reply.op beat.head.denied beat.head.corrupt
-  pub bytes : beat.head.denied ≡ false → (j : ℕ) (byte : Option ℕ) → slice_get reply.bytes j ≡ Some byte → j / bus ≡ b
+  pub marks : (j : ℕ) (mark : Bool) → slice_get reply.spoiled j ≡ Some mark → j / bus ≡ b → mark ≡ is_spoiled beat.head
+  pub bytes : beat.head.denied ≡ false → beat.head.corrupt ≡ false → (j : ℕ) (byte : Option ℕ) → slice_get reply.bytes j ≡ Some byte → j / bus ≡ b
       → StandsAt beat.known beat.lanes (lane_on_bus bus address reply.size j) byte
 
 -- the beats spell the reply to a request at the address
@@ -72,8 +74,10 @@ pub record SpellsReplyOnBus (bus : ℕ) (reply : Pattern) (address : ℕ) (beats
   pub each : (b : ℕ) (beat : ReplyBeat) → slice_get beats b ≡ Some beat → IsReplyBeatOf bus reply address b beat
 
 -- the rule of replies, of one that may be known in part: as many bytes as the opcode carries, all of them zero if it is
--- denied
+-- denied; each has a mark, and nothing is known of one that is spoiled
 pub record IsLawfulPattern (reply : Pattern) : Type 0 where
   pub in_limit : reply.size ≤ MAX_SIZE
   pub counted : length reply.bytes ≡ reply_byte_count reply.op reply.size
   pub clean : reply.denied ≡ Some true → All (λ b. b ≡ Some 0) reply.bytes
+  pub marked : length reply.spoiled ≡ length reply.bytes
+  pub nothing : (place : ℕ) → slice_get reply.spoiled place ≡ Some true → slice_get reply.bytes place ≡ Some None

@@ -1,10 +1,10 @@
 -- What is kept of a message that is under way on a channel: its first beat, how many of its beats have crossed, and the
 -- bytes that they carried. The beats of a message cross one after the other, by the chapter "Beats and bursts" of the
 -- TileLink specification; what is known of a reply is this project's own.
-use Rattle.std.specs.Prelude.{ℕ, ◌+◌, Bool, if◌then◌else◌, ◌==◌, List, [], ◌++◌, Option, Some, None, unwrap_or}
+use Rattle.std.specs.Prelude.{ℕ, ◌+◌, Bool, if◌then◌else◌, ◌==◌, List, [], ◌++◌, replicate, Option, Some, None, unwrap_or}
 use Rattle.tl_types.specs.Request.{Request}
 use Rattle.check_cells.specs.Pattern.{Pattern}
-use Rattle.check_beats.specs.Message.{ask_beats, reply_beats, op_of, reply_op_of_number, ask_part, reply_part, seen_cells}
+use Rattle.check_beats.specs.Message.{ask_beats, reply_beats, op_of, reply_op_of_number, ask_part, reply_part, spoiled_part, seen_cells, is_spoiled}
 use Rattle.check_beats.specs.declared.beat.AskHead.{AskHead}
 use Rattle.check_beats.specs.declared.beat.ReplyHead.{ReplyHead}
 
@@ -79,22 +79,24 @@ ask_so_far (Some begun) = Some (record {
 
 -- ---- replies
 
--- a reply that has begun and not ended: what was seen of its bytes
+-- a reply that has begun and not ended: what was seen of its bytes, and which of them are spoiled
 pub record ReplyBegun : Type 0 where
   pub first : ReplyHead
   pub beats : ℕ
   pub bytes : List (Option ℕ)
+  pub spoiled : List Bool
 
 -- channel D of a link
 pub record ReplyChannel : Type 0 where
   pub bus : ℕ
   pub begun : Option ReplyBegun
 
--- what is kept of a reply with this first beat, of which so many beats have crossed and carried these bytes; nothing if
--- there is no first beat.
-abbrev pub reply_begun : Option ReplyHead → ℕ → List (Option ℕ) → Option ReplyBegun
-reply_begun None beats bytes = None
-reply_begun (Some first) beats bytes = Some (record { first = first; beats = beats; bytes = bytes })
+-- what is kept of a reply with this first beat, of which so many beats have crossed and carried these bytes, marked so; nothing
+-- if there is no first beat.
+abbrev pub reply_begun : Option ReplyHead → ℕ → List (Option ℕ) → List Bool → Option ReplyBegun
+reply_begun None beats bytes spoiled = None
+reply_begun (Some first) beats bytes spoiled =
+    Some (record { first = first; beats = beats; bytes = bytes; spoiled = spoiled })
 
 -- the first beat of the reply that is under way, if one is.
 abbrev pub first_reply : Option ReplyBegun → Option ReplyHead
@@ -116,6 +118,11 @@ abbrev pub replied_bytes : Option ReplyBegun → List (Option ℕ)
 replied_bytes None = []
 replied_bytes (Some begun) = begun.bytes
 
+-- which of them are spoiled; empty if none is under way.
+abbrev pub replied_spoiled : Option ReplyBegun → List Bool
+replied_spoiled None = []
+replied_spoiled (Some begun) = begun.spoiled
+
 -- whether a beat of a reply is its last, after what has crossed of it.
 abbrev pub ends_reply : ℕ → Option ReplyBegun → ReplyHead → Bool
 ends_reply bus begun beat = replied_beats begun + 1 == reply_beats bus beat
@@ -128,6 +135,7 @@ reply_of bus begun address beat known lanes = record {
   source = beat.source;
   denied = Some beat.denied;
   bytes = replied_bytes begun ++ reply_part bus address beat known lanes;
+  spoiled = replied_spoiled begun ++ spoiled_part bus beat;
 }
 
 -- what has crossed of a reply after one beat more: a reply that goes on has bytes at all lanes, whatever the address of
@@ -138,7 +146,8 @@ reply_after bus begun beat known lanes =
     else Some (record {
       first = unwrap_or (first_reply begun) beat;
       beats = replied_beats begun + 1;
-      bytes = replied_bytes begun ++ seen_cells beat.denied known lanes 0 bus;
+      bytes = replied_bytes begun ++ seen_cells beat known lanes 0 bus;
+      spoiled = replied_spoiled begun ++ replicate bus (is_spoiled beat);
     })
 
 -- ---- both channels

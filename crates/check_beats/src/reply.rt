@@ -3,16 +3,18 @@ ghost use Rattle.std.specs.Prelude.{◌≡◌, ◌+◌, ◌*◌, ◌/◌, ◌%�
 ghost use Rattle.tl_types.specs.Wire.{reply_opcode_of};
 ghost use Rattle.check_beats.specs.Bus.{bus_bytes};
 ghost use Rattle.check_beats.specs.Form.{IsRightMark, SameReplyFields, Continues, IsFormedReply, FitsReply, IsFirstReplyFormFault, IsKnownReply};
-ghost use Rattle.check_beats.specs.Message.{reply_beats, reply_op_of_number, seen_cells};
+ghost use Rattle.check_beats.specs.Message.{reply_beats, reply_op_of_number, is_spoiled, seen_cells};
+ghost use Rattle.check_beats.specs.Rules.{IsMarkedBy};
 ghost use Rattle.check_beats.specs.State.{reply_of};
 
 use crate::beat::ReplyHead;
 use crate::bus::{Bus, MAX_LANES, active_mask_on_bus, beat_count_on_bus, first_lane};
 use crate::fault::FormFault;
+use crate::rules::{LinkRules, is_marked_by};
 use check_cells::{Cells, Pattern};
 use tl_types::{MAX_BYTES, MAX_SIZE, ReplyOp, read_reply_op};
 
-/// The bytes of a beat of a denied reply.
+/// The bytes of a beat of which none is looked at.
 const ZEROS: [u8; MAX_LANES] = [0; MAX_LANES];
 
 /// The opcode, size and source of a beat as one number. They lie side by side, so that they are read at once.
@@ -34,11 +36,15 @@ pub fn same_reply_fields(first: &ReplyHead, beat: &ReplyHead) -> bool
         && beat.denied == first.denied
 }
 
-/// Whether a `corrupt` flag is lawful.
+/// Whether a `corrupt` flag may be lawful, whatever the system says.
 pub fn is_lawful_flag(op: ReplyOp, denied: bool, corrupt: bool) -> bool
     ensures { IsTrue result ↔ IsRightMark op denied corrupt }
 {
-    corrupt == (denied && op.carries_bytes())
+    if op.carries_bytes() {
+        corrupt || !denied
+    } else {
+        !corrupt
+    }
 }
 
 /// Whether a beat has the fields of the message that is under way, if one is.
@@ -52,9 +58,14 @@ fn continues(first: &Option<ReplyHead>, beat: &ReplyHead) -> bool
 }
 
 /// The first fault that a beat has as one of a reply, after the first beat of the reply that is under way.
-pub fn reply_fault(first: &Option<ReplyHead>, beat: &ReplyHead) -> Option<FormFault>
-    ensures fault { IfSome result (IsFirstReplyFormFault first.now beat.now) }
+pub fn reply_fault(
+    rules: LinkRules,
+    first: &Option<ReplyHead>,
+    beat: &ReplyHead,
+) -> Option<FormFault>
+    ensures fault { IfSome result (IsFirstReplyFormFault rules first.now beat.now) }
     ensures fits { IfNone result (FitsReply first.now beat.now) }
+    ensures marked { IfNone result (IsMarkedBy rules beat.now) }
 {
     if !continues(first, beat) {
         return Some(FormFault::Changed);
@@ -68,7 +79,7 @@ pub fn reply_fault(first: &Option<ReplyHead>, beat: &ReplyHead) -> Option<FormFa
     if beat.size > MAX_SIZE {
         return Some(FormFault::Size);
     }
-    if !is_lawful_flag(op, beat.denied, beat.corrupt) {
+    if !is_lawful_flag(op, beat.denied, beat.corrupt) || !is_marked_by(rules, beat) {
         return Some(FormFault::CorruptFlag);
     }
     None
@@ -77,19 +88,21 @@ pub fn reply_fault(first: &Option<ReplyHead>, beat: &ReplyHead) -> Option<FormFa
 /// The first fault that a beat has as one of a reply, after this first beat.
 // one with the fields and the flag of the first is as lawful as that: most are
 pub fn next_reply_fault(
+    rules: LinkRules,
     first: &Option<ReplyHead>,
     head: &ReplyHead,
     beat: &ReplyHead,
 ) -> Option<FormFault>
     requires formed { IsFormedReply head.now }
     requires first { first.now ≡ Some head.now }
-    ensures fault { IfSome result (IsFirstReplyFormFault first.now beat.now) }
+    ensures fault { IfSome result (IsFirstReplyFormFault rules first.now beat.now) }
     ensures fits { IfNone result (FitsReply first.now beat.now) }
+    ensures marked { IfNone result (IsMarkedBy rules beat.now) }
 {
-    if same_reply_fields(head, beat) && beat.corrupt == head.corrupt {
+    if same_reply_fields(head, beat) && beat.corrupt == head.corrupt && is_marked_by(rules, beat) {
         None
     } else {
-        reply_fault(first, beat)
+        reply_fault(rules, first, beat)
     }
 }
 
@@ -116,17 +129,25 @@ pub fn is_known_reply(bus: Bus, address: u64, beat: &ReplyHead, known: u64) -> b
     requires { beat.now.size ≤ MAX_SIZE }
     ensures { IsTrue result ↔ IsKnownReply (bus_bytes bus) address beat.now known }
 {
-    if beat.opcode != 1 || beat.denied {
+    if beat.opcode != 1 || beat.denied || beat.corrupt {
         return true;
     }
     let active = active_mask_on_bus(bus, address, beat.size);
     active & known == active
 }
 
-/// Puts what is seen of the bytes at so many lanes from one on in the place of others: zeros in a denied reply.
+/// Whether the bytes that a beat carries promise nothing.
+pub fn is_spoiled(beat: &ReplyHead) -> bool
+    ensures { result ≡ is_spoiled beat.now }
+{
+    beat.corrupt && !beat.denied
+}
+
+/// Puts what is seen of the bytes at so many lanes from one on in the place of others: zeros in a denied reply, and nothing of a
+/// corrupt beat.
 pub fn put_seen(
     cells: &mut Cells,
-    denied: bool,
+    beat: &ReplyHead,
     known: u64,
     lanes: &[u8],
     first: usize,
@@ -134,23 +155,27 @@ pub fn put_seen(
 )
     requires inside { first + count ≤ length lanes.now }
     requires in_limit { length lanes.now ≤ MAX_LANES }
-    ensures { cells.new ≡ seen_cells denied known lanes.now first count }
+    ensures { cells.new ≡ seen_cells beat.now known lanes.now first count }
 {
-    if denied {
+    if beat.denied {
         cells.fill(true, count);
+    } else if beat.corrupt {
+        cells.fill(false, count);
     } else {
         cells.refill_part(lanes, known, first, count);
     }
 }
 
-/// Appends what is seen of the bytes at all lanes of a beat: zeros in a denied reply.
-pub fn push_seen(cells: &mut Cells, denied: bool, known: u64, lanes: &[u8])
+/// Appends what is seen of the bytes at all lanes of a beat: zeros in a denied reply, and nothing of a corrupt beat.
+pub fn push_seen(cells: &mut Cells, beat: &ReplyHead, known: u64, lanes: &[u8])
     requires in_limit { length lanes.now ≤ MAX_LANES }
     requires room { length cells.old + length lanes.now ≤ MAX_BYTES }
-    ensures { cells.new ≡ cells.old ++ seen_cells denied known lanes.now 0 (length lanes.now) }
+    ensures { cells.new ≡ cells.old ++ seen_cells beat.now known lanes.now 0 (length lanes.now) }
 {
-    if denied {
+    if beat.denied {
         cells.append(&ZEROS[..lanes.len()], u64::MAX);
+    } else if beat.corrupt {
+        cells.append(&ZEROS[..lanes.len()], 0);
     } else {
         cells.append(lanes, known);
     }
@@ -174,5 +199,7 @@ pub fn put_reply(
     let first = first_lane(bus, address, beat.size);
     let count = bus.bytes().min(op.byte_count(beat.size));
     reply.set_fields(op, beat.size, beat.source, Some(beat.denied));
-    put_seen(&mut reply.cells, beat.denied, known, lanes, first, count);
+    put_seen(&mut reply.cells, beat, known, lanes, first, count);
+    reply.marks.clear();
+    reply.marks.push(is_spoiled(beat), count);
 }

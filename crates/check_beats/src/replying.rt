@@ -2,15 +2,17 @@
 ghost use Rattle.std.specs.Prelude.{◌≡◌, ℕ, ◌≤◌, ◌↔◌, None, false, length, IsTrue, IfSome, IfNone};
 ghost use Rattle.check_beats.specs.Bus.{bus_bytes};
 ghost use Rattle.check_beats.specs.Form.{FitsReply, IsFirstReplyFormFault};
+ghost use Rattle.check_beats.specs.Rules.{IsMarkedBy};
 ghost use Rattle.check_beats.specs.State.{first_reply, replied_beats, ends_reply, reply_of, reply_after, replying_source};
 
 use crate::beat::ReplyHead;
 use crate::bus::Bus;
 use crate::fault::FormFault;
 use crate::reply::{
-    lawful_reply_op, next_reply_fault, push_seen, put_reply, reply_beats, reply_fault,
+    is_spoiled, lawful_reply_op, next_reply_fault, push_seen, put_reply, reply_beats, reply_fault,
 };
-use check_cells::{Cells, Pattern};
+use crate::rules::LinkRules;
+use check_cells::{Cells, Marks, Pattern};
 use std::alloc::AllocError;
 use std::marker::Model;
 use tl_types::MAX_BYTES;
@@ -22,6 +24,7 @@ pub struct Replying {
     first: Option<ReplyHead>,
     beats: usize,
     bytes: Cells,
+    marks: Marks,
 }
 
 impl Model for Replying {
@@ -31,9 +34,9 @@ impl Model for Replying {
 
     ghost Value = { ReplyChannel };
 
-    ghost view = { λ a. record { bus = bus_bytes a.bus; begun = reply_begun a.first a.beats a.bytes } };
+    ghost view = { λ a. record { bus = bus_bytes a.bus; begun = reply_begun a.first a.beats a.bytes a.marks } };
 
-    ghost invariant = { λ a. IsReplyKept (bus_bytes a.bus) (reply_begun a.first a.beats a.bytes) };
+    ghost invariant = { λ a. IsReplyKept (bus_bytes a.bus) (reply_begun a.first a.beats a.bytes a.marks) };
 }
 
 impl Clone for Replying {
@@ -47,6 +50,7 @@ impl Clone for Replying {
             first: self.first,
             beats: self.beats,
             bytes: self.bytes.copy(),
+            marks: self.marks.copy(),
         })
     }
 }
@@ -61,6 +65,7 @@ impl Replying {
             first: None,
             beats: 0,
             bytes: Cells::new(),
+            marks: Marks::new(),
         }
     }
 
@@ -92,14 +97,15 @@ impl Replying {
         }
     }
 
-    /// The first fault that a beat has as the next one.
-    pub fn fault(&self, beat: &ReplyHead) -> Option<FormFault>
-        ensures fault { IfSome result (IsFirstReplyFormFault (first_reply self.now.begun) beat.now) }
+    /// The first fault that a beat has as the next one, by these rules.
+    pub fn fault(&self, rules: LinkRules, beat: &ReplyHead) -> Option<FormFault>
+        ensures fault { IfSome result (IsFirstReplyFormFault rules (first_reply self.now.begun) beat.now) }
         ensures fits { IfNone result (FitsReply (first_reply self.now.begun) beat.now) }
+        ensures marked { IfNone result (IsMarkedBy rules beat.now) }
     {
         match &self.first {
-            Some(head) => next_reply_fault(&self.first, head, beat),
-            None => reply_fault(&self.first, beat),
+            Some(head) => next_reply_fault(rules, &self.first, head, beat),
+            None => reply_fault(rules, &self.first, beat),
         }
     }
 
@@ -162,7 +168,9 @@ impl Replying {
         self.first = Some(*beat);
         self.beats = 1;
         self.bytes.clear();
-        push_seen(&mut self.bytes, beat.denied, known, lanes);
+        self.marks.clear();
+        push_seen(&mut self.bytes, beat, known, lanes);
+        self.marks.push(is_spoiled(beat), lanes.len());
     }
 
     /// A beat crosses between the first of a reply and the last.
@@ -176,7 +184,8 @@ impl Replying {
         } }
     {
         self.beats += 1;
-        push_seen(&mut self.bytes, beat.denied, known, lanes);
+        push_seen(&mut self.bytes, beat, known, lanes);
+        self.marks.push(is_spoiled(beat), lanes.len());
     }
 
     /// Puts the reply to a request at this address that a beat ends in the place of another.
@@ -214,6 +223,8 @@ impl Replying {
         let op = lawful_reply_op(beat);
         reply.set_fields(op, beat.size, beat.source, Some(beat.denied));
         reply.cells.refill_from(&self.bytes);
-        push_seen(&mut reply.cells, beat.denied, known, lanes);
+        reply.marks.refill_from(&self.marks);
+        push_seen(&mut reply.cells, beat, known, lanes);
+        reply.marks.push(is_spoiled(beat), lanes.len());
     }
 }

@@ -1,16 +1,18 @@
 //! What a system says of all its links.
 ghost use Rattle.std.specs.Prelude.{◌≡◌, ◌≤◌, ◌↔◌, IsTrue};
 ghost use Rattle.tl_types.specs.declared.limits.TheConstants.{MAX_SIZE};
-ghost use Rattle.check_beats.specs.Rules.{IsAlignedBy, clocks_in, decoded_size};
+ghost use Rattle.check_beats.specs.Rules.{IsAlignedBy, IsMarkedBy, clocks_in, decoded_size};
 
-use crate::beat::AskHead;
+use crate::beat::{AskHead, ReplyHead};
 
-/// What a system says of all its links. By default requests are aligned, decoders look at all their bytes, and a unit of time is
-/// a clock.
+/// What a system says of all its links. By default requests are aligned, data of replies are not corrupt, decoders look at all
+/// bytes of a request, and a unit of time is a clock.
 #[derive(Debug, Clone, Copy, PartialEq, Eq, Default)]
 pub struct LinkRules {
     /// The address of a request may be no multiple of its size. Its slave denies it.
     pub unaligned: bool,
+    /// Beats of replies that are not denied may be marked corrupt. Their bytes promise nothing.
+    pub corrupt: bool,
     /// Decoders look at the address of a request, and not at its other bytes.
     pub by_address: bool,
     /// How many units of the time of rows a clock has. 0 counts as 1.
@@ -41,4 +43,11 @@ pub fn is_aligned_by(rules: LinkRules, beat: &AskHead) -> bool
     ensures { IsTrue result ↔ IsAlignedBy rules beat.now }
 {
     rules.unaligned || beat.address % (1 << beat.size) == 0
+}
+
+/// Whether a beat of a reply that is not denied is not marked corrupt, unless it may be.
+pub fn is_marked_by(rules: LinkRules, beat: &ReplyHead) -> bool
+    ensures { IsTrue result ↔ IsMarkedBy rules beat.now }
+{
+    !beat.corrupt || beat.denied || rules.corrupt
 }

@@ -2,7 +2,7 @@
 ghost use Rattle.std.specs.Prelude.{◌≡◌, ◌≤◌, ◌↔◌, None, false, length, take, IsTrue, IfSome, IfNone};
 ghost use Rattle.check_beats.specs.Bus.{bus_bytes};
 ghost use Rattle.check_beats.specs.Form.{FitsAsk, FitsReply, IsKnown, IsKnownReply, IsFirstAskFormFault, IsFirstReplyFormFault};
-ghost use Rattle.check_beats.specs.Rules.{IsAlignedBy};
+ghost use Rattle.check_beats.specs.Rules.{IsAlignedBy, IsMarkedBy};
 ghost use Rattle.check_beats.specs.State.{nothing_under, first_ask, first_reply, ends_ask, ends_reply, ask_of, reply_of, ask_after, reply_after, ask_so_far, replying_source};
 
 use crate::asking::Asking;
@@ -114,12 +114,13 @@ impl UnderWay {
         self.asking.fault(rules, beat, known)
     }
 
-    /// The first fault that a beat has as the next one of channel D.
-    pub fn reply_fault(&self, beat: &ReplyHead) -> Option<FormFault>
-        ensures fault { IfSome result (IsFirstReplyFormFault (first_reply self.now.replying) beat.now) }
+    /// The first fault that a beat has as the next one of channel D, by these rules.
+    pub fn reply_fault(&self, rules: LinkRules, beat: &ReplyHead) -> Option<FormFault>
+        ensures fault { IfSome result (IsFirstReplyFormFault rules (first_reply self.now.replying) beat.now) }
         ensures fits { IfNone result (FitsReply (first_reply self.now.replying) beat.now) }
+        ensures marked { IfNone result (IsMarkedBy rules beat.now) }
     {
-        self.replying.fault(beat)
+        self.replying.fault(rules, beat)
     }
 
     /// Whether each lane is known that carries a byte of a reply to a request at this address.

@@ -1,4 +1,5 @@
 pub mod Known
 pub mod Bit
 pub mod Room
+pub mod Marks
 pub mod Pattern

@@ -4,9 +4,10 @@ ghost use Rattle.std.specs.Int.{bit_at};
 ghost use Rattle.tl_types.specs.Bytes.{bit_in, given_in, given_byte};
 ghost use Rattle.tl_ops.specs.Number.{low_bytes};
 ghost use Rattle.tl_ops.specs.Cell.{lanes_of};
-ghost use Rattle.check_cells.specs.Known.{IsBelow, IsKeptIn, known};
+ghost use Rattle.check_cells.specs.Known.{IsBelow, IsBelowBut, IsKeptIn, known};
 ghost use Rattle.check_cells.specs.Bit.{fill_of, known_bit};
 
+use crate::marks::Marks;
 use crate::masks::{known_cell, mark_cell, ones};
 use std::marker::Model;
 use tl_ops::cell::{cell_of, with_cell};
@@ -16,7 +17,7 @@ use tl_types::{MAX_BYTES, WORD_BYTES, write_over};
 pub const MASK_BITS: usize = u64::BITS as usize;
 
 /// The most words of a message.
-const MAX_WORDS: usize = MAX_BYTES / WORD_BYTES;
+pub const MAX_WORDS: usize = MAX_BYTES / WORD_BYTES;
 
 /// The bytes of a message, each known or unknown.
 // words and masks past the last byte hold what they held before: nothing is cleared
@@ -260,7 +261,36 @@ impl Cells {
         rest == 0 || self.is_part_below(other, WORD_BYTES * words, rest)
     }
 
-    /// The same of so many bytes of one word, from a place on.
+    /// Whether each byte that is known here and not marked is known there, and is the same.
+    // as a rule none is marked
+    pub fn is_below_but(&self, marks: &Marks, other: &Cells) -> bool
+        ensures { IsTrue result ↔ IsBelowBut marks.now self.now other.now }
+    {
+        if marks.is_any() {
+            self.is_each_below_but(marks, other)
+        } else {
+            self.is_below(other)
+        }
+    }
+
+    /// The same, byte by byte.
+    // apart, so that a comparison without marks is small
+    #[inline(never)]
+    fn is_each_below_but(&self, marks: &Marks, other: &Cells) -> bool
+        ensures { IsTrue result ↔ IsBelowBut marks.now self.now other.now }
+    {
+        if self.len() != other.len() {
+            return false;
+        }
+        for place in 0..self.len() {
+            if !marks.get(place) && !is_kept(self.get(place), other.get(place)) {
+                return false;
+            }
+        }
+        true
+    }
+
+    /// Whether so many bytes of one word, from a place on, that are known here are known there, and are the same.
     fn is_part_below(&self, other: &Cells, start: usize, width: usize) -> bool
         requires some { 0 < width }
         requires in_word { start % WORD_BYTES + width ≤ WORD_BYTES }

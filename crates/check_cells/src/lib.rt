@@ -3,9 +3,9 @@
 //! Contracts see [`Cells`] as a list of optional bytes. They lie in words with a mask for each, as the pages of
 //! `check_memory` do, so that a part of one word is read, written and compared as one number. A [`Pattern`] is a
 //! reply of which the denied flag and some bytes may be unknown: the one that is expected, or the one that was
-//! captured. [`Pattern::fits`] says whether a captured reply fits what is expected (`FitsPattern` of
-//! `specs/Pattern.antt`): all that is expected is known in it and is the same. An [`AskSoFar`] is a request of which not all
-//! beats have crossed yet.
+//! captured. [`Pattern::fits`] says whether a captured reply fits what is expected (`FitsCaptured` of
+//! `specs/Pattern.antt`): all that is expected is known in it and is the same, but for bytes that a corrupt beat carried
+//! ([`Marks`]). An [`AskSoFar`] is a request of which not all beats have crossed yet.
 //!
 //! The link layer (`check_beats`) gathers replies as patterns, and memories (`check_memory`) answer them.
 //!
@@ -13,11 +13,13 @@
 #![tactic(auto)]
 
 mod cells;
+mod marks;
 mod masks;
 mod pattern;
 mod so_far;
 
 pub use cells::{Cells, MASK_BITS, mask_of};
+pub use marks::Marks;
 pub use masks::{give, known_cell, mark_cell, ones};
 pub use pattern::Pattern;
 pub use so_far::AskSoFar;

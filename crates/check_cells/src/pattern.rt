@@ -2,9 +2,10 @@
 ghost use Rattle.std.specs.Prelude.{◌≡◌, ◌↔◌, ℕ, ◌≤◌, Bool, [], length, false, IsTrue, Some};
 ghost use Rattle.tl_types.specs.Operation.{reply_op_of};
 ghost use Rattle.tl_types.specs.declared.operation.ReplyOp.TheVariants.{AccessAck};
-ghost use Rattle.check_cells.specs.Pattern.{FitsPattern, captured_as, captured_bytes, device_pattern};
+ghost use Rattle.check_cells.specs.Pattern.{FitsCaptured, captured_as, captured_bytes, device_pattern};
 
 use crate::cells::Cells;
+use crate::marks::Marks;
 use std::marker::Model;
 use tl_types::{Ask, MAX_BYTES, ReplyOp};
 
@@ -12,6 +13,7 @@ use tl_types::{Ask, MAX_BYTES, ReplyOp};
 #[derive(Debug, Drop)]
 pub struct Pattern {
     pub cells: Cells,
+    pub marks: Marks,
     source: u16,
     size: u8,
     denied: Option<bool>,
@@ -29,6 +31,7 @@ impl Model for Pattern {
       source = p.source;
       denied = p.denied;
       bytes = p.cells;
+      spoiled = p.marks;
     } };
 }
 
@@ -41,10 +44,12 @@ impl Pattern {
           source = 0;
           denied = Some false;
           bytes = [];
+          spoiled = [];
         } }
     {
         Pattern {
             cells: Cells::new(),
+            marks: Marks::new(),
             source: 0,
             size: 0,
             denied: Some(false),
@@ -52,16 +57,18 @@ impl Pattern {
         }
     }
 
-    /// Puts a captured reply in the place of another. Of one that is denied the bytes are not looked at.
+    /// Puts a captured reply with no spoiled byte in the place of another. Of one that is denied the bytes are not looked at.
     pub fn refill(&mut self, op: ReplyOp, size: u8, source: u16, denied: bool, bytes: &[Option<u8>])
         requires { length bytes.now ≤ MAX_BYTES }
         ensures { self.new ≡ captured_as op size source denied bytes.now }
     {
         put_captured(&mut self.cells, denied, bytes);
+        self.marks.clear();
+        self.marks.push(false, bytes.len());
         self.set_fields(op, size, source, Some(denied));
     }
 
-    /// Puts these fields in the place of all but its bytes.
+    /// Puts these fields in the place of all but its bytes and their marks.
     pub fn set_fields(&mut self, op: ReplyOp, size: u8, source: u16, denied: Option<bool>)
         ensures { self.new ≡ record {
           op = op;
@@ -69,6 +76,7 @@ impl Pattern {
           source = source;
           denied = denied;
           bytes = self.old.bytes;
+          spoiled = self.old.spoiled;
         } }
     {
         self.op = op;
@@ -82,6 +90,7 @@ impl Pattern {
         ensures { self.new ≡ other.now }
     {
         self.cells.refill_from(&other.cells);
+        self.marks.refill_from(&other.marks);
         self.op = other.op;
         self.size = other.size;
         self.source = other.source;
@@ -97,7 +106,7 @@ impl Pattern {
         copy
     }
 
-    /// All but the bytes of the answer to a request.
+    /// All but the bytes of the answer that is expected to a request.
     pub fn head(&mut self, ask: &Ask, denied: Option<bool>)
         ensures { self.new ≡ record {
           op = reply_op_of ask.now.op;
@@ -105,8 +114,10 @@ impl Pattern {
           source = ask.now.source;
           denied = denied;
           bytes = self.old.bytes;
+          spoiled = [];
         } }
     {
+        self.marks.clear();
         self.set_fields(ask.op().reply_op(), ask.size(), ask.source(), denied);
     }
 
@@ -154,15 +165,22 @@ impl Pattern {
         &self.cells
     }
 
+    /// Which of its bytes are spoiled.
+    pub fn marks(&self) -> &Marks
+        ensures { result.now ≡ self.now.spoiled }
+    {
+        &self.marks
+    }
+
     /// Whether a captured reply fits this one, which is expected.
     pub fn fits(&self, captured: &Pattern) -> bool
-        ensures { IsTrue result ↔ FitsPattern self.now captured.now }
+        ensures { IsTrue result ↔ FitsCaptured self.now captured.now }
     {
         self.op == captured.op
             && self.size == captured.size
             && self.source == captured.source
             && is_flag_kept(self.denied, captured.denied)
-            && self.cells.is_below(&captured.cells)
+            && self.cells.is_below_but(&captured.marks, &captured.cells)
     }
 }
 

@@ -1,12 +1,12 @@
 -- What is expected of memories that know less and more, and what is due beside other requests.
-use Rattle.std.proofs.Common.{◌≡◌, ◌∙◌, ℕ, ◌+◌, ◌^◌, ◌<◌, Bool, true, false, List, length, get_or, Option, Some, None, refl, sym, ap, subst, arith}
+use Rattle.std.proofs.Common.{◌≡◌, ◌∙◌, ℕ, ◌+◌, ◌^◌, ◌<◌, Bool, true, false, List, [], length, get_or, Option, Some, None, refl, sym, ap, subst, arith}
 use Rattle.tl_types.specs.Operation.{reply_op_of}
 use Rattle.tl_types.specs.Request.{Request}
 use Rattle.tl_types.specs.declared.operation.ReplyOp.{ReplyOp}
 use Rattle.tl_types.specs.declared.operation.ReplyOp.TheVariants.{AccessAck, AccessAckData, HintAck}
 use Rattle.check_memory.specs.Known.{IsBelow, known}
 use Rattle.check_memory.specs.Partial.{Partial, permits, start_of, placed}
-use Rattle.check_memory.specs.Pattern.{Pattern, FitsPattern, pattern, shown_cells}
+use Rattle.check_memory.specs.Pattern.{Pattern, FitsPattern, FitsCaptured, pattern, shown_cells}
 use Rattle.check_memory.proofs.Unknown.{known_where, length-unknown_where}
 use Rattle.check_contests.specs.Writes.{unknown_where}
 use Rattle.check_contests.specs.Contests.{due_beside}
@@ -32,6 +32,20 @@ fits_through due reply captured fits more = record {
   bytes_fit = record {
     counted = more.bytes_fit.counted ∙ fits.bytes_fit.counted;
     kept = λ place byte is. more.bytes_fit.kept place byte (fits.bytes_fit.kept place byte is);
+  };
+}
+
+-- the same of what was captured
+pub captured_through : (due reply captured : Pattern) → FitsPattern due reply → FitsCaptured reply captured
+    → FitsCaptured due captured
+captured_through due reply captured fits more = record {
+  op_is = more.op_is ∙ fits.op_is;
+  size_is = more.size_is ∙ fits.size_is;
+  source_is = more.source_is ∙ fits.source_is;
+  denied_is = λ flag is. more.denied_is flag (fits.denied_is flag is);
+  bytes_fit = record {
+    counted = more.bytes_fit.counted ∙ fits.bytes_fit.counted;
+    kept = λ place byte clean is. more.bytes_fit.kept place byte clean (fits.bytes_fit.kept place byte is);
   };
 }
 
@@ -97,7 +111,14 @@ pattern_denied memory ask less more is = rw (is, pattern) refl
 
 pattern_legal : (memory : Partial) (ask : Request) (cells : List (Option ℕ)) → permits memory ask ≡ true
     → pattern (with_cells memory cells) ask
-    ≡ record { op = reply_op_of ask.op; size = ask.size; source = ask.source; denied = Some false; bytes = shown memory ask cells }
+    ≡ record {
+      op = reply_op_of ask.op;
+      size = ask.size;
+      source = ask.source;
+      denied = Some false;
+      bytes = shown memory ask cells;
+      spoiled = [];
+    }
 pattern_legal memory ask cells is = rw (is, pattern) refl
 
 shown_long : (op : ReplyOp) (less more : List (Option ℕ)) → length less ≡ length more

@@ -4,7 +4,7 @@ use Rattle.tl_types.specs.Request.{Request}
 use Rattle.tl_ops.specs.declared.kind.Kind.TheVariants.{ClearRegs}
 use Rattle.check_memory.specs.Known.{IsBelow}
 use Rattle.check_memory.specs.Partial.{Partial, placed, permits, visible, AreWithin}
-use Rattle.check_memory.specs.Pattern.{Pattern, FitsPattern}
+use Rattle.check_memory.specs.Pattern.{Pattern, FitsPattern, FitsCaptured}
 use Rattle.check_memory.specs.Slave.{slave_after, expected_of}
 use Rattle.check_memory.specs.declared.slave.Slave.{Slave}
 use Rattle.check_memory.specs.declared.slave.Slave.TheVariants.{Memory, Device}
@@ -73,7 +73,7 @@ AnswerIsDue =
 
 -- so each reply that fits what was expected of the true slave fits what is due
 abbrev pub FitsThrough : Type 0
-FitsThrough = (due reply captured : Pattern) → FitsPattern due reply → FitsPattern reply captured → FitsPattern due captured
+FitsThrough = (due reply captured : Pattern) → FitsPattern due reply → FitsCaptured reply captured → FitsCaptured due captured
 
 -- ---- the same of whole runs
 

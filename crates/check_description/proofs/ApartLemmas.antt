@@ -1,5 +1,5 @@
 -- The list of a port among those of all ports, and what is free for it.
-use Rattle.std.proofs.Common.{◌≡◌, ◌≢◌, ◌∙◌, arith, ℕ, ◌<◌, ◌≤◌, Bool, true, List, length, map, Option, None, Some, option_map, is_some, unwrap_or, IfNone, IfSome, slice_get, slice_index_or, Vec, ap, refl, subst, sym}
+use Rattle.std.proofs.Common.{◌≡◌, ◌≢◌, ◌∙◌, arith, ℕ, ◌<◌, ◌≤◌, Bool, true, List, length, map, Option, None, Some, option_map, is_some, unwrap_or, IfNone, IfSome, slice_get, slice_index_or, Vec, ap, subst, sym}
 use Rattle.std.specs.Global.{Global}
 use Rattle.std.proofs.lemmas.List.{length-map}
 use Rattle.std.proofs.lemmas.Option.{slice_get-get_or, slice_get-map, slice_get_within}

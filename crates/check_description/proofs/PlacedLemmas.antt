@@ -1,5 +1,5 @@
 -- Masters of a list of which each is another one.
-use Rattle.std.proofs.Common.{◌≡◌, ◌∙◌, ℕ, true, List, length, map, Option, Ok, ap, refl}
+use Rattle.std.proofs.Common.{◌≡◌, ◌∙◌, ℕ, true, List, length, map, Option, Ok, refl}
 use Rattle.std.proofs.lemmas.List.{length-map}
 use Rattle.tl_text.specs.Reading.{each}
 use Rattle.check_description.specs.Listed.{ListedMasters}

@@ -60,7 +60,7 @@ known_port_is_whole kind port image of =
     }
 
 pub error_port_is_whole : ErrorPortIsWhole
-error_port_is_whole order = record {
+error_port_is_whole corrupt order = record {
   memory = ungiven_memory NoDevice (row_of_kind NoDevice) [] [] [] true;
   bytes = zeros (2 ^ 64);
   is = rw (blank_zeros (2 ^ 64)) refl;

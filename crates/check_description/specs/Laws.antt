@@ -1,5 +1,5 @@
 -- The laws of ports, said on their own.
-use Rattle.std.specs.Prelude.{◌≡◌, ℕ, ◌+◌, ◌-◌, ◌^◌, ◌≤◌, false, List, [], ◌∷◌, ◌++◌, length, drop, replicate, None}
+use Rattle.std.specs.Prelude.{◌≡◌, ℕ, ◌+◌, ◌-◌, ◌^◌, ◌≤◌, Bool, false, List, [], ◌∷◌, ◌++◌, length, drop, replicate, None}
 use Rattle.tl_map.specs.declared.range.Range.{Range}
 use Rattle.tl_ops.specs.Store.{Store}
 use Rattle.tl_ops.specs.declared.kind.Kind.{Kind}
@@ -74,4 +74,4 @@ KnownPortIsWhole =
 
 -- the same of the error port
 abbrev pub ErrorPortIsWhole : Type 0
-ErrorPortIsWhole = (order : Order) → IsWholeMemory (error_slave order).kept
+ErrorPortIsWhole = (corrupt : Bool) (order : Order) → IsWholeMemory (error_slave corrupt order).kept

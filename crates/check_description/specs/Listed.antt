@@ -1,6 +1,6 @@
 -- The masters that a port lists, and where their sources are at its link, as a file says them. The standard leaves sources to
 -- the system. This project's own.
-use Rattle.std.specs.Prelude.{ℕ, ◌+◌, ℤ, nat_le, Bool, List, [], ◌∷◌, length, map, Option, None, Some, is_some, option_map, unwrap_or, string_bytes, Result, Ok, if◌then◌else◌, ok_or}
+use Rattle.std.specs.Prelude.{ℕ, ◌+◌, ℤ, nat_le, Bool, List, [], ◌∷◌, length, map, Option, None, Some, is_some, unwrap_or, string_bytes, Result, Ok, if◌then◌else◌, ok_or}
 use Rattle.toml.specs.Data.{Data, Members, get_member}
 use Rattle.tl_map.specs.declared.limits.TheConstants.{MAX_JUDGED_MASTERS, MAX_WIDE}
 use Rattle.tl_text.specs.Reading.{◌>>=◌, each, if_any, unless}

@@ -4,7 +4,7 @@ use Rattle.std.specs.Str.{bytes_eq}
 use Rattle.toml.specs.Data.{Members}
 use Rattle.tl_text.specs.Reading.{◌>>=◌, if_any}
 use Rattle.check_keys.specs.Value.{flag_at, last_integer, number_if_any, text_if_any}
-use Rattle.check_keys.specs.declared.fault.Key.TheVariants.{Unaligned, Decode, Resets, Period}
+use Rattle.check_keys.specs.declared.fault.Key.TheVariants.{Unaligned, Corrupt, Decode, Resets, Period}
 use Rattle.check_keys.specs.declared.fault.SystemFault.{SystemFault}
 use Rattle.check_keys.specs.declared.fault.SystemFault.TheVariants.{OutOfRange}
 use Rattle.check_description.specs.declared.rules.SystemRules.{SystemRules}
@@ -25,7 +25,11 @@ by_address_in members =
 unfoldable pub rules_in : Members → Result SystemRules SystemFault
 rules_in members = do
   unaligned ← flag_at Unaligned members
+  corrupt ← flag_at Corrupt members
   by_address ← by_address_in members
   resets ← flag_at Resets members
   period ← number_if_any Period 1 last_integer members
-  Ok (record { links = record { unaligned = unaligned; by_address = by_address; period = unwrap_or period 1 }; resets = resets })
+  Ok (record {
+    links = record { unaligned = unaligned; corrupt = corrupt; by_address = by_address; period = unwrap_or period 1 };
+    resets = resets;
+  })

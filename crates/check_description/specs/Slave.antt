@@ -1,5 +1,5 @@
 -- The slave that a port is before any request. This project's own.
-use Rattle.std.specs.Prelude.{ℕ, ◌^◌, Bool, true, false, not, nat_lt, List, [], length, unwrap_or, Result}
+use Rattle.std.specs.Prelude.{ℕ, ◌^◌, Bool, true, not, ◌||◌, nat_lt, List, [], length, unwrap_or, Result}
 use Rattle.tl_ops.specs.declared.kind.Kind.{Kind}
 use Rattle.tl_ops.specs.declared.kind.Kind.TheVariants.{NoDevice}
 use Rattle.tl_map.specs.declared.range.Range.{Range}
@@ -58,16 +58,16 @@ abbrev pub kept_at_reset : Port → List ℕ → Slave
 kept_at_reset port image = kept_by port.kind port image
 
 -- the slave of the port of this number, with these bytes of its image, whose requests take effect in this order; or that the
--- image is longer than the first range
-abbrev pub slave_at_reset : ℕ → Port → List ℕ → Order → Result PortSlave SystemFault
-slave_at_reset number port image order =
+-- image is longer than the first range. Where data may be corrupt, lanes of each port's replies may be unknown
+abbrev pub slave_at_reset : Bool → ℕ → Port → List ℕ → Order → Result PortSlave SystemFault
+slave_at_reset corrupt number port image order =
     unless (nat_lt (first_length port.ranges) (length image)) (ImageTooLong number)
-    (fresh_slave (kept_at_reset port image) order (may_answer_unknown port))
+    (fresh_slave (kept_at_reset port image) order (corrupt || may_answer_unknown port))
 
 -- a memory with no range, which denies each request
 abbrev pub denying_slave : Slave
 denying_slave = kept.Memory (ungiven_memory NoDevice (row_of_kind NoDevice) [] [] [] true)
 
 -- the slave of the error port
-abbrev pub error_slave : Order → PortSlave
-error_slave order = fresh_slave denying_slave order false
+abbrev pub error_slave : Bool → Order → PortSlave
+error_slave corrupt order = fresh_slave denying_slave order corrupt

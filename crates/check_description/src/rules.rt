@@ -48,11 +48,13 @@ pub fn read_rules(table: &Table) -> Result<SystemRules, SystemFault>
     ensures { Gives (λ rules. rules) result (rules_in (table_view table.now)) }
 {
     let unaligned = flag_at(table, Key::Unaligned)?;
+    let corrupt = flag_at(table, Key::Corrupt)?;
     let by_address = by_address_in(table)?;
     let resets = flag_at(table, Key::Resets)?;
     let period = number_if_any(table, Key::Period, 1, LAST_INTEGER)?.unwrap_or(1);
     let links = LinkRules {
         unaligned,
+        corrupt,
         by_address,
         period,
     };

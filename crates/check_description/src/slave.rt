@@ -84,22 +84,24 @@ fn may_answer_unknown(port: &Port) -> bool
 }
 
 /// The slave that the port of this number is before any request, or that its image is longer than its first range. The
-/// bytes of the image are handed in, none if it names no image, and the order in which its requests take effect.
+/// bytes of the image are handed in, none if it names no image, the order in which its requests take effect, and whether data
+/// may be corrupt.
 pub fn slave_of(
     alloc: Global,
+    corrupt: bool,
     number: usize,
     port: &Port,
     image: &[u8],
     order: Order,
 ) -> Result<PortSlave, SystemFault>
     ensures { Gives (λ slave. slave) result
-        (slave_at_reset number (port_view port.now) image.now order) }
+        (slave_at_reset corrupt number (port_view port.now) image.now order) }
 {
     if image.len() as u64 > first_length(&port.ranges) {
         return Err(SystemFault::ImageTooLong(number));
     }
     let kept = kept_at_reset(alloc, port, image)?;
-    Ok(PortSlave::new(alloc, kept, order, may_answer_unknown(port)))
+    Ok(PortSlave::new(alloc, kept, order, corrupt || may_answer_unknown(port)))
 }
 
 /// A memory with no range, which denies each request.
@@ -112,9 +114,9 @@ pub fn denying_slave(alloc: Global) -> Slave
     Slave::Memory(memory)
 }
 
-/// The slave of the error port.
-pub fn error_slave(alloc: Global, order: Order) -> PortSlave
-    ensures { result ≡ slave_of_error order }
+/// The slave of the error port, of a system in which data may be corrupt or not.
+pub fn error_slave(alloc: Global, corrupt: bool, order: Order) -> PortSlave
+    ensures { result ≡ slave_of_error corrupt order }
 {
-    PortSlave::new(alloc, denying_slave(alloc), order, false)
+    PortSlave::new(alloc, denying_slave(alloc), order, corrupt)
 }

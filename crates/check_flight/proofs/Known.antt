@@ -4,7 +4,7 @@ use Rattle.tl_types.specs.Request.{Request}
 use Rattle.tl_types.specs.Response.{Response}
 use Rattle.check_cells.specs.Known.{known, all_known}
 use Rattle.check_cells.specs.Pattern.{seen_as}
-use Rattle.check_memory.specs.Laws.{IsLawfulAsk}
+use Rattle.check_memory.specs.Laws.{IsLawfulAsk, unspoiled}
 use Rattle.check_memory.specs.Partial.{Partial, AreWithin}
 use Rattle.check_memory.specs.Slave.{slave_after, expected_of}
 use Rattle.check_memory.specs.Whole.{true_after, true_reply}
@@ -73,10 +73,11 @@ whole_pattern response = record {
 pub stays_whole : (slave : PortSlave) (ask : Request) → IsLawfulAsk ask → IsWholeMemory slave.kept → StaysWhole slave ask
 stays_whole slave ask lawful whole =
     let law = whole_stays_whole whole.memory whole.bytes ask whole.still whole.within lawful in
+    let seen : IsWholePattern (unspoiled (expected_of slave.kept ask)) =
+    subst IsWholePattern (sym (ap (λ (s : Slave). unspoiled (expected_of s ask)) whole.is ∙ law.answers))
+    (whole_pattern (true_reply whole.memory whole.bytes ask)) in
     record {
-      expects = subst IsWholePattern
-          (sym (ap (λ (s : Slave). expected_of s ask) whole.is ∙ law.answers))
-          (whole_pattern (true_reply whole.memory whole.bytes ask));
+      expects = record { flag = seen.flag; denied = seen.denied; bytes = seen.bytes };
       leaves = record {
         memory = whole.memory;
         bytes = true_after whole.memory whole.bytes ask;

@@ -1,3 +1,4 @@
+mod Cuts
 pub mod Fresh
 pub mod Served
 pub mod Same

@@ -1,6 +1,6 @@
 -- How far the request in flight of a source has come across, if both sides of a crossbar are watched. It is this
 -- project's own.
-use Rattle.std.specs.Prelude.{◌≡◌, Option, Some, None}
+use Rattle.std.specs.Prelude.{◌≡◌, ◌↔◌, ℕ, ◌/◌, true, false, List, length, Option, Some, None, slice_get, slice_index_or}
 use Rattle.check_cells.specs.Pattern.{Pattern}
 use Rattle.check_flight.specs.declared.answer.Answer.{Answer}
 use Rattle.check_flight.specs.declared.crossing.Reach.{Reach}
@@ -24,7 +24,31 @@ given Waiting = None
 given Crossed = None
 given (Given answer) = Some answer
 
--- two captured replies are the same but for their sources: each byte is known in both and the same, or unknown in both.
--- Of denied replies no byte is looked at (`captured_bytes` of `check_cells`).
-abbrev pub IsSameReply : Pattern → Pattern → Type 0
-IsSameReply given captured = record given { source = captured.source } ≡ captured
+-- a cut of so many bytes of a captured reply is spoiled: a byte of it is
+abbrev pub IsCutSpoiled : ℕ → Pattern → ℕ → Type 0
+IsCutSpoiled width reply cut =
+    (place : ℕ) × (place / width ≡ cut) × (slice_index_or reply.spoiled place false ≡ true)
+
+-- the bytes of a cut are the same in both: each is known in both and the same, or unknown in both
+abbrev pub AreSameInCut : ℕ → ℕ → List (Option ℕ) → List (Option ℕ) → Type 0
+AreSameInCut width cut given captured =
+    (place : ℕ) → place / width ≡ cut → slice_get captured place ≡ slice_get given place
+
+-- a cut is the same in both replies: it is spoiled in both, or in neither and its bytes are the same
+pub record IsSameCut (width : ℕ) (given captured : Pattern) (cut : ℕ) : Type 0 where
+  pub spoiled : IsCutSpoiled width given cut ↔ IsCutSpoiled width captured cut
+  pub bytes : (IsCutSpoiled width given cut → ⊥) → AreSameInCut width cut given.bytes captured.bytes
+
+-- the bytes of two replies are the same, cut by cut
+pub record AreSameParts (width : ℕ) (given captured : Pattern) : Type 0 where
+  pub counted : length captured.bytes ≡ length given.bytes
+  pub each : (cut : ℕ) → IsSameCut width given captured cut
+
+-- two captured replies are the same but for their sources, in cuts of so many bytes: the same cuts are spoiled, and in each other
+-- cut each byte is known in both and the same, or unknown in both. Of denied replies no byte is looked at (`captured_bytes` of
+-- `check_cells`)
+pub record IsSameReply (width : ℕ) (given captured : Pattern) : Type 0 where
+  pub op : captured.op ≡ given.op
+  pub size : captured.size ≡ given.size
+  pub denied : captured.denied ≡ given.denied
+  pub parts : AreSameParts width given captured

@@ -17,7 +17,7 @@ impl Answer {
     /// An acknowledgement to source 0 from port 0: room for answers that are written one after the other.
     pub fn blank() -> Answer
         ensures { result ≡ record {
-          reply = record { op = AccessAck; size = 0; source = 0; denied = Some false; bytes = [] };
+          reply = record { op = AccessAck; size = 0; source = 0; denied = Some false; bytes = []; spoiled = [] };
           port = 0;
           index = 0;
         } }

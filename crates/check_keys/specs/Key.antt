@@ -1,12 +1,13 @@
 -- The keys of a system file. This project's own.
 use Rattle.std.specs.Prelude.{ℕ, List, codes}
 use Rattle.check_keys.specs.declared.fault.Key.{Key}
-use Rattle.check_keys.specs.declared.fault.Key.TheVariants.{Bus, Unaligned, Decode, Resets, Period, Port, Name, Kind, Base, Length, Ranges, Reset, Image, Unknown, Sizes, Order, Mirror, Volatile, OnReset, Hosts, Master, Sources, Crossing, First, Stride, Reach, Fifo}
+use Rattle.check_keys.specs.declared.fault.Key.TheVariants.{Bus, Unaligned, Corrupt, Decode, Resets, Period, Port, Name, Kind, Base, Length, Ranges, Reset, Image, Unknown, Sizes, Order, Mirror, Volatile, OnReset, Hosts, Master, Sources, Crossing, First, Stride, Reach, Fifo}
 
 -- the key, as a file has it
 abbrev pub key_name : Key → List ℕ
 key_name Bus = codes "bus"
 key_name Unaligned = codes "unaligned"
+key_name Corrupt = codes "corrupt"
 key_name Decode = codes "decode"
 key_name Resets = codes "resets"
 key_name Period = codes "period"

@@ -23,7 +23,7 @@ wire_keys =
 -- the keys that a table of this kind may have. `slots` and `ops` are a script's, and mean nothing to a judge
 abbrev pub known_keys : TableKind → List (List ℕ)
 known_keys Top =
-    codes "bus" ∷ codes "unaligned" ∷ codes "decode" ∷ codes "resets" ∷ codes "period" ∷ codes "port" ∷ codes "master" ∷
+    codes "bus" ∷ codes "unaligned" ∷ codes "corrupt" ∷ codes "decode" ∷ codes "resets" ∷ codes "period" ∷ codes "port" ∷ codes "master" ∷
     codes "clock" ∷ codes "reset" ∷ codes "reset_active" ∷ codes "edge" ∷ codes "bits" ∷ codes "names" ∷ codes "slots" ∷ codes "extra" ∷ []
 known_keys Names = wire_keys
 known_keys Port =

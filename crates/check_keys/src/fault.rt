@@ -15,6 +15,7 @@ use tl_map::{AddressMapFault, SourceOwnerFault};
 pub enum Key {
     Bus,
     Unaligned,
+    Corrupt,
     Decode,
     Resets,
     Period,
@@ -50,6 +51,7 @@ impl Key {
         match self {
             Key::Bus => "bus",
             Key::Unaligned => "unaligned",
+            Key::Corrupt => "corrupt",
             Key::Decode => "decode",
             Key::Resets => "resets",
             Key::Period => "period",

@@ -105,6 +105,7 @@ impl TableKind {
             TableKind::Top => &[
                 b"bus",
                 b"unaligned",
+                b"corrupt",
                 b"decode",
                 b"resets",
                 b"period",

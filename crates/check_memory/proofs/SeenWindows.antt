@@ -169,6 +169,7 @@ pub answered_legal : (memory : Partial) (ask : Request) (cells : List (Option �
       source = ask.source;
       denied = Some false;
       bytes = cells;
+      spoiled = [];
     } ≡ pattern memory ask
 answered_legal memory ask cells is same =
     let shows : List (Option ℕ) → Pattern =
@@ -178,6 +179,7 @@ answered_legal memory ask cells is same =
       source = ask.source;
       denied = Some false;
       bytes = bytes;
+      spoiled = [];
     } in
     ap shows same ∙ sym (legal_pattern is)
   where
@@ -187,6 +189,7 @@ answered_legal memory ask cells is same =
       source = ask.source;
       denied = Some false;
       bytes = shown_cells (reply_op_of ask.op) (window_of memory ask);
+      spoiled = [];
     }
     legal_pattern is' = rw (is', pattern) refl
 
@@ -199,6 +202,7 @@ pub answered : (memory : Partial) (ask : Request) (cells : List (Option ℕ)) �
       source = ask.source;
       denied = Some false;
       bytes = cells;
+      spoiled = [];
     } ≡ pattern memory ask
 answered memory ask cells is carries same =
     answered_legal memory ask cells is (same ∙ shown_carried (reply_op_of ask.op) (window_of memory ask) carries)

@@ -22,7 +22,7 @@ use Rattle.check_memory.specs.Cells.{put_cell, clear_cell, put_cells, combined, 
 use Rattle.check_memory.specs.Partial.{Partial, start_of, placed, permits, takes_bytes, holds, is_volatile, visible, window_of, after_partial, AreWithin}
 use Rattle.check_memory.specs.Pattern.{Pattern, pattern, shown_cells, seen_as}
 use Rattle.check_memory.specs.Whole.{whole, true_window, true_after, true_reply}
-use Rattle.check_memory.specs.Laws.{IsLawfulAsk, IsWhole}
+use Rattle.check_memory.specs.Laws.{IsLawfulAsk, unspoiled, IsWhole}
 use Rattle.check_memory.proofs.Legal.{takes_legal}
 use Rattle.check_memory.proofs.Soundness.{swapped, within_if_held, held_if_permitted, window_long, given_long, true_same, true_taken, taken, untaken}
 use Rattle.check_memory.proofs.Unknown.{unknown_none}
@@ -117,7 +117,7 @@ known-chosen true cells bytes zeros same = same
 known-chosen false cells bytes zeros same = refl
 
 whole_answers : (memory : Partial) (bytes : List ℕ) (ask : Request) → memory.volatile ≡ []
-    → pattern (whole memory bytes) ask ≡ seen_as (true_reply memory bytes ask)
+    → unspoiled (pattern (whole memory bytes) ask) ≡ seen_as (true_reply memory bytes ask)
 whole_answers memory bytes ask none =
     let zeros = replicate {A = ℕ} (2 ^ ask.size) 0 in
     let op = reply_op_of ask.op in
@@ -130,9 +130,14 @@ whole_answers memory bytes ask none =
       source = ask.source;
       denied = Some (if permits memory ask then false else true);
       bytes = cells;
+      spoiled = [];
     } in
+    let told = shown op (if permits memory ask then true_window bytes (placed memory ask) else zeros) in
+    let same : pattern (whole memory bytes) ask ≡ with_bytes (known told) =
     ap with_bytes (ap (shown_cells op) chosen
-    ∙ known-shown op (if permits memory ask then true_window bytes (placed memory ask) else zeros))
+    ∙ known-shown op (if permits memory ask then true_window bytes (placed memory ask) else zeros)) in
+    ap unspoiled same
+    ∙ ap (λ n. record (with_bytes (known told)) { spoiled = replicate n false }) (length-map told (λ byte. Some byte))
 
 whole_leaves : (memory : Partial) (bytes : List ℕ) (ask : Request) (takes : Bool) → takes_bytes memory ask ≡ takes
     → memory.volatile ≡ [] → AreWithin memory.ranges (length bytes) → IsLawfulAsk ask

@@ -1,12 +1,12 @@
 -- The laws, said on their own.
-use Rattle.std.specs.Prelude.{◌≡◌, ◌↔◌, ℕ, ◌+◌, ◌<◌, ◌^◌, true, false, ◌++◌, ◌∷◌, [], List, length, slice_index_or, Option, None}
+use Rattle.std.specs.Prelude.{◌≡◌, ◌↔◌, ℕ, ◌+◌, ◌<◌, ◌^◌, true, false, ◌++◌, ◌∷◌, [], List, length, replicate, slice_index_or, Option, None}
 use Rattle.tl_types.specs.Request.{Request, IsLawfulRequest}
 use Rattle.tl_ops.specs.Store.{Store, legal, reply, after}
 use Rattle.tl_ops.specs.Support.{row_of_kind}
 use Rattle.check_memory.specs.Known.{IsBelow, known}
 use Rattle.check_memory.specs.Cells.{is_atomic, is_swap}
 use Rattle.check_memory.specs.Partial.{Partial, start_of, permits, is_volatile, visible, after_partial, AreWithin}
-use Rattle.check_memory.specs.Pattern.{Pattern, pattern, FitsPattern, seen_as}
+use Rattle.check_memory.specs.Pattern.{Pattern, pattern, FitsPattern, FitsCaptured, seen_as}
 use Rattle.check_memory.specs.declared.slave.Slave.{Slave}
 use Rattle.check_memory.specs.Slave.{expected_of, MayReply}
 use Rattle.check_memory.specs.Whole.{whole, true_after, true_reply}
@@ -15,10 +15,14 @@ use Rattle.check_memory.specs.Whole.{whole, true_after, true_reply}
 abbrev pub IsLawfulAsk : Request → Type 0
 IsLawfulAsk ask = IsLawfulRequest ask.op ask.size ask.bytes
 
+-- an expected reply as it is captured if no byte is spoiled
+abbrev pub unspoiled : Pattern → Pattern
+unspoiled reply = record reply { spoiled = replicate (length reply.bytes) false }
+
 -- a memory that is wholly known, and of which no byte changes by itself, answers and changes as the definitions of tl_ops
 -- say, and stays wholly known
 pub record IsWhole (memory : Partial) (bytes : List ℕ) (ask : Request) : Type 0 where
-  pub answers : pattern (whole memory bytes) ask ≡ seen_as (true_reply memory bytes ask)
+  pub answers : unspoiled (pattern (whole memory bytes) ask) ≡ seen_as (true_reply memory bytes ask)
   pub leaves : after_partial (whole memory bytes) ask ≡ whole memory (true_after memory bytes ask)
   pub counted : length (true_after memory bytes ask) ≡ length bytes
 
@@ -105,4 +109,4 @@ StoreIsInstance =
 abbrev pub FitsIfItMayReply : Type 0
 FitsIfItMayReply =
     (slave : Slave) (ask : Request) (captured : Pattern)
-    → FitsPattern (expected_of slave ask) captured ↔ MayReply slave ask captured
+    → FitsCaptured (expected_of slave ask) captured ↔ MayReply slave ask captured

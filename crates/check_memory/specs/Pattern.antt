@@ -1,11 +1,11 @@
 -- The answer that is expected of a port, of which some parts may be unknown. What is answered is the chapter "TL-UL and
 -- TL-UH operations" of the TileLink specification; what may be unknown is this project's own.
-use Rattle.std.specs.Prelude.{◌≡◌, ◌^◌, true, false, if◌then◌else◌, length, replicate, Some}
+use Rattle.std.specs.Prelude.{◌≡◌, ◌^◌, true, false, if◌then◌else◌, [], length, replicate, Some}
 use Rattle.tl_types.specs.Operation.{reply_op_of, reply_byte_count}
 use Rattle.tl_types.specs.Request.{Request}
 use Rattle.check_memory.specs.Known.{known}
 use Rattle.check_memory.specs.Partial.{Partial, permits, window_of}
-pub use Rattle.check_cells.specs.Pattern.{Pattern, FitsPattern, shown_cells, device_pattern, captured_bytes, captured_as, seen_as}
+pub use Rattle.check_cells.specs.Pattern.{Pattern, FitsPattern, FitsCaptured, shown_cells, device_pattern, captured_bytes, captured_as, seen_as}
 
 -- a device's reply fits whatever its denied flag and its bytes are, unknown ones too
 pub record FitsDevice (ask : Request) (captured : Pattern) : Type 0 where
@@ -23,4 +23,5 @@ pattern memory ask = record {
   denied = Some (if permits memory ask then false else true);
   bytes = shown_cells (reply_op_of ask.op)
       (if permits memory ask then window_of memory ask else known (replicate (2 ^ ask.size) 0));
+  spoiled = [];
 }

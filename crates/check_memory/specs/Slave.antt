@@ -4,7 +4,7 @@ use Rattle.tl_types.specs.Request.{Request}
 use Rattle.check_memory.specs.declared.slave.Slave.{Slave}
 use Rattle.check_memory.specs.declared.slave.Slave.TheVariants.{Memory, Device}
 use Rattle.check_memory.specs.Partial.{after_partial, after_forgetting, takes_bytes}
-use Rattle.check_memory.specs.Pattern.{Pattern, FitsPattern, FitsDevice, pattern, device_pattern}
+use Rattle.check_memory.specs.Pattern.{Pattern, FitsCaptured, FitsDevice, pattern, device_pattern}
 
 -- the slave after a request
 abbrev pub slave_after : Slave → Request → Slave
@@ -29,5 +29,5 @@ expected_of Device ask = device_pattern ask
 
 -- a captured reply is one that the slave may give
 abbrev pub MayReply : Slave → Request → Pattern → Type 0
-MayReply (Memory memory) ask captured = FitsPattern (pattern memory ask) captured
+MayReply (Memory memory) ask captured = FitsCaptured (pattern memory ask) captured
 MayReply Device ask captured = FitsDevice ask captured

@@ -421,6 +421,7 @@ fn deny(ask: &Ask, answer: &mut Pattern)
       source = ask.now.source;
       denied = Some true;
       bytes = shown_cells (reply_op_of ask.now.op) (known_of (replicate (2 ^ ask.now.size) 0));
+      spoiled = [];
     } }
 {
     answer.head(ask, Some(true));

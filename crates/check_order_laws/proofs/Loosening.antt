@@ -60,9 +60,11 @@ module _ (plan : Plan) (before after : List PortSlave) where
       go : (beat : Beat) → IsCompliant one past (record x { beat = beat }) beat
           → IsCompliant other past (record x { beat = beat }) beat
       go (A beat) was = was
-      go (D beat) was = λ ask next.
-          subst (λ b. HasKnownLanes (bus_of plan.layout x.link) b ask beat x.known) (lanes (port_for plan x.link ask))
-          (was ask next)
+      go (D beat) was = (
+        was.0,
+        λ ask next. subst (λ b. HasKnownLanes (bus_of plan.layout x.link) b ask beat x.known)
+            (lanes (port_for plan x.link ask)) (was.1 ask next),
+      )
 
   -- what is due at a port whose slave is the same
   pub same_due : (past : List Sighting) (port : ℕ) → reset_of other port ≡ reset_of one port

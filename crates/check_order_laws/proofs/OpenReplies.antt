@@ -1,9 +1,9 @@
 -- A beat of a reply: the request that it answers is open before its first beat, and not afterwards.
-use Rattle.std.proofs.Common.{◌≡◌, ◌∙◌, ◌+◌, ℕ, Bool, true, false, if◌then◌else◌, List, [], ◌∷◌, ◌++◌, Option, Some, None, unwrap_or, refl, ap, sym, subst}
+use Rattle.std.proofs.Common.{◌≡◌, ◌∙◌, ◌+◌, ℕ, Bool, true, false, if◌then◌else◌, List, [], ◌∷◌, ◌++◌, replicate, Option, Some, None, unwrap_or, refl, ap, sym, subst}
 use Rattle.std.specs.Prelude.{◌==◌, ◌&&◌}
 use Rattle.tl_types.specs.Request.{Request}
-use Rattle.check_beats.specs.Message.{seen_cells as seen_bytes}
-use Rattle.check_beats.specs.State.{Under, ReplyBegun, first_reply, ends_reply, replied_beats, replied_bytes}
+use Rattle.check_beats.specs.Message.{seen_cells as seen_bytes, is_spoiled}
+use Rattle.check_beats.specs.State.{Under, ReplyBegun, first_reply, ends_reply, replied_beats, replied_bytes, replied_spoiled}
 use Rattle.check_beats.specs.declared.beat.ReplyHead.{ReplyHead}
 use Rattle.check_flight.specs.Flight.{Turn, Flight, idle, asked}
 use Rattle.check_flight.specs.Flight.Turn.{Idle, Asking, Asked}
@@ -112,7 +112,8 @@ module _ (plan : Plan) (s : State) (past : List Sighting) (linked : LinksAre pla
       ∙ ap (λ (ends : Bool). replies_to plan link own (if ends then None else Some (record {
         first = unwrap_or (first_reply under.replying) beat;
         beats = replied_beats under.replying + 1;
-        bytes = replied_bytes under.replying ++ seen_bytes beat.denied known lanes 0 under.bus;
+        bytes = replied_bytes under.replying ++ seen_bytes beat known lanes 0 under.bus;
+        spoiled = replied_spoiled under.replying ++ replicate under.bus (is_spoiled beat);
       }))) is
       ∙ ap (λ n. wide_of plan link n == own) (first_source under.replying beat allowed.fits.same)
       ∙ eqb_own own

@@ -76,7 +76,7 @@ abbrev pub IsSystemFault : Asked → GivenParts → SystemFault → Type 0
 IsSystemFault asked given fault =
     IsFirstFaultOf given.parts fault
     ⊎ (system : Description) × Makes given.parts system
-    × (shared_slaves asked.terms given.images system.ports ≡ Err fault)
+    × (shared_slaves system.rules.corrupt asked.terms given.images system.ports ≡ Err fault)
 
 -- ---- a verdict as it is told
 
@@ -197,7 +197,7 @@ pub record IsPrepared (asked : Asked) (parts : Parts) (images : List (List ℕ))
 abbrev pub IsUnprepared : Terms → Parts → List (List ℕ) → CheckFault → Type 0
 IsUnprepared terms parts images (check.System fault) =
     IsFirstFaultOf parts fault
-    ⊎ (system : Description) × Makes parts system × (shared_slaves terms images system.ports ≡ Err fault)
+    ⊎ (system : Description) × Makes parts system × (shared_slaves system.rules.corrupt terms images system.ports ≡ Err fault)
 IsUnprepared terms parts images (check.Capture fault) = ⊥
 IsUnprepared terms parts images (check.Keys fault) = ⊥
 IsUnprepared terms parts images (check.Unnamed link) = ⊥

@@ -1,18 +1,21 @@
 -- Beats on a bus of eight bytes spell the replies that they spell in `tl_beats`.
-use Rattle.std.proofs.Common.{◌≡◌, ◌∙◌, ℕ, zero, suc, ◌<◌, Bool, true, false, List, Option, Some, None, ap, sym, subst, refl, arith}
-use Rattle.std.specs.Prelude.{◌↔◌, ◌&&◌, map, slice_get, slice_index, IsTrue}
+use Rattle.std.proofs.Common.{◌≡◌, ◌∙◌, ℕ, zero, suc, ◌<◌, Bool, true, false, List, Option, Some, None, ap, sym, subst, refl, arith, replicate, length}
+use Rattle.std.specs.Prelude.{◌&&◌, not, map, slice_get, slice_index, IsTrue}
 use Rattle.std.specs.Int.{bit_at}
 use Rattle.std.proofs.lemmas.List.{length-map}
 use Rattle.tl_types.specs.Operation.{reply_carries_bytes}
 use Rattle.tl_types.specs.Response.{Response}
 use Rattle.tl_types.specs.declared.operation.ReplyOp.{ReplyOp}
+use Rattle.tl_types.specs.declared.operation.ReplyOp.TheVariants.{AccessAck, AccessAckData, HintAck}
 use Rattle.tl_beats.specs.Replies as narrow_reply
 use Rattle.tl_beats.specs.declared.beat.DBeat.{DBeat}
 use Rattle.check_cells.specs.Pattern.{seen_as}
 use Rattle.check_beats.specs.Bus.{lane_on_bus}
 use Rattle.check_beats.specs.Form.{IsRightMark}
+use Rattle.check_beats.specs.Rules.{IsMarkedBy}
 use Rattle.check_beats.specs.Spelling.{IsReplyBeatOf, SpellsReplyOnBus, StandsAt}
-use Rattle.check_scripts.specs.Beats.{all_lanes, reply_beat_of, ReplySpelledAlike}
+use Rattle.check_scripts.specs.Beats.{all_lanes, reply_beat_of, AreMarkedByRules, ReplySpelledAlike}
+use Rattle.check_scripts.specs.Instance.{strict_rules}
 use Rattle.check_scripts.proofs.Mapped.{from_map, in_map}
 
 -- each of the eight lanes is known
@@ -36,8 +39,14 @@ byte_of_pattern : (lanes : List ℕ) (lane : ℕ) (byte : Option ℕ) (b : ℕ) 
 byte_of_pattern lanes lane None b is stands = absurd (cc)
 byte_of_pattern lanes lane (Some c) b is stands = let same : c ≡ b = cc in stands.1 ∙ same
 
+-- ---- marks
+
+-- a beat is marked as the standard asks
+abbrev IsAsAsked : ReplyOp → Bool → Bool → Type 0
+IsAsAsked op denied corrupt = corrupt ≡ (denied && reply_carries_bytes op)
+
 -- a flag that is as the standard asks is one that `tl_beats` takes
-flag_taken : (op : ReplyOp) (denied corrupt : Bool) → IsRightMark op denied corrupt → narrow_reply.IsLawfulFlag op denied corrupt
+flag_taken : (op : ReplyOp) (denied corrupt : Bool) → IsAsAsked op denied corrupt → narrow_reply.IsLawfulFlag op denied corrupt
 flag_taken op denied corrupt is = record {
   carries = λ set. (both denied (reply_carries_bytes op) (sym is ∙ set)).1;
   of_denied = λ set. (both denied (reply_carries_bytes op) (sym is ∙ set)).0;
@@ -48,62 +57,113 @@ flag_taken op denied corrupt is = record {
     both true false is = absurd (cc)
     both false b is = absurd (cc)
 
-beat_alike : (reply : Response) (address b : ℕ) (beat : DBeat)
-    → IsReplyBeatOf 8 (seen_as reply) address b (reply_beat_of beat)
-    ↔ (narrow_reply.IsReplyBeatOf reply address b beat × IsRightMark reply.op reply.denied beat.corrupt)
-beat_alike reply address b beat = (
-  (λ s.
-      let granted : reply.denied ≡ beat.denied = some_same s.fields.denied in
-      let flag : IsRightMark reply.op reply.denied beat.corrupt =
-      subst (λ (d : Bool). IsRightMark reply.op d beat.corrupt) (sym granted) s.corrupt in (
-        record {
-          fields = record { opcode = s.fields.opcode; size = s.fields.size; source = s.fields.source; denied = sym granted };
-          corrupt = flag_taken reply.op reply.denied beat.corrupt flag;
-          bytes = λ plain j byte at row.
-              byte_of_pattern beat.lanes (lane_on_bus 8 address reply.size j) (Some byte) byte refl
-              (s.bytes (sym granted ∙ plain) j (Some byte) (in_map (λ (x : ℕ). Some x) reply.bytes j byte at) row);
-        },
-        flag,
-      )),
-  (λ s. record {
-    fields = record {
-      opcode = s.0.fields.opcode;
-      param = refl;
-      size = s.0.fields.size;
-      source = s.0.fields.source;
-      denied = ap (λ (d : Bool). Some d) (sym s.0.fields.denied);
-    };
-    corrupt = subst (λ (d : Bool). IsRightMark reply.op d beat.corrupt) (sym s.0.fields.denied) s.1;
-    bytes = λ plain j byte at row.
-        from_map (λ (x : ℕ). Some x)
-        (λ (x : Option ℕ). StandsAt all_lanes beat.lanes (lane_on_bus 8 address reply.size j) x) reply.bytes j
-        (λ x there. (
-          lane_known (lane_on_bus 8 address reply.size j) (lane_below address reply.size j),
-          s.0.bytes (sym s.0.fields.denied ∙ plain) j x there row,
-        )) byte at;
-  }),
-)
+-- what holds of each mark, with what the rules of a script's links ask, is what the standard asks
+as_asked : (op : ReplyOp) (denied corrupt : Bool) → IsRightMark op denied corrupt → (denied ≡ false → corrupt ≡ false)
+    → IsAsAsked op denied corrupt
+as_asked op false corrupt right strict = strict refl
+as_asked AccessAck true corrupt right strict = right.bare refl
+as_asked AccessAckData true corrupt right strict = right.refused refl refl
+as_asked HintAck true corrupt right strict = right.bare refl
+
+right_mark : (op : ReplyOp) (denied corrupt : Bool) → IsAsAsked op denied corrupt → IsRightMark op denied corrupt
+right_mark op denied corrupt is = record {
+  bare = λ none. is ∙ ap (λ (c : Bool). denied && c) none ∙ nothing denied;
+  refused = λ set carries. is ∙ ap (λ (c : Bool). denied && c) carries ∙ ap (λ (d : Bool). d && true) set;
+}
+  where
+    nothing : (a : Bool) → (a && false) ≡ false
+    nothing true = refl
+    nothing false = refl
+
+strict_mark : (op : ReplyOp) (denied corrupt : Bool) → IsAsAsked op denied corrupt → denied ≡ false → corrupt ≡ false
+strict_mark op denied corrupt is granted = is ∙ ap (λ (d : Bool). d && reply_carries_bytes op) granted
+
+-- such a beat is not spoiled
+not_spoiled : (denied corrupt : Bool) → (denied ≡ false → corrupt ≡ false) → (corrupt && not denied) ≡ false
+not_spoiled false corrupt strict = ap (λ (c : Bool). c && true) (strict refl)
+not_spoiled true true strict = refl
+not_spoiled true false strict = refl
+
+-- no byte of a reply that is wholly known is spoiled
+none_marked : (n j : ℕ) (mark : Bool) → slice_get (replicate {A = Bool} n false) j ≡ Some mark → mark ≡ false
+none_marked zero j mark is = absurd (cc)
+none_marked (suc n) zero mark is = let same : false ≡ mark = cc in sym same
+none_marked (suc n) (suc j) mark is = none_marked n j mark is
+
+-- ---- beats
+
+beat_there : (reply : Response) (address b : ℕ) (beat : DBeat)
+    → IsReplyBeatOf 8 (seen_as reply) address b (reply_beat_of beat) → IsMarkedBy strict_rules (reply_beat_of beat).head
+    → narrow_reply.IsReplyBeatOf reply address b beat × IsAsAsked reply.op reply.denied beat.corrupt
+beat_there reply address b beat s strict =
+    let granted : reply.denied ≡ beat.denied = some_same s.fields.denied in
+    let flag : IsAsAsked reply.op reply.denied beat.corrupt =
+    subst (λ (d : Bool). IsAsAsked reply.op d beat.corrupt) (sym granted)
+    (as_asked reply.op beat.denied beat.corrupt s.corrupt (strict refl)) in (
+      record {
+        fields = record { opcode = s.fields.opcode; size = s.fields.size; source = s.fields.source; denied = sym granted };
+        corrupt = flag_taken reply.op reply.denied beat.corrupt flag;
+        bytes = λ plain j byte at row.
+            byte_of_pattern beat.lanes (lane_on_bus 8 address reply.size j) (Some byte) byte refl
+            (s.bytes (sym granted ∙ plain) (strict refl (sym granted ∙ plain)) j (Some byte)
+            (in_map (λ (x : ℕ). Some x) reply.bytes j byte at) row);
+      },
+      flag,
+    )
   where
     some_same : {a b : Bool} → ◌≡◌ {A = Option Bool} (Some a) (Some b) → a ≡ b
     some_same e = cc
+
+beat_back : (reply : Response) (address b : ℕ) (beat : DBeat) → narrow_reply.IsReplyBeatOf reply address b beat
+    → IsAsAsked reply.op reply.denied beat.corrupt
+    → IsReplyBeatOf 8 (seen_as reply) address b (reply_beat_of beat) × IsMarkedBy strict_rules (reply_beat_of beat).head
+beat_back reply address b beat s flag =
+    let mine : IsAsAsked reply.op beat.denied beat.corrupt =
+    subst (λ (d : Bool). IsAsAsked reply.op d beat.corrupt) (sym s.fields.denied) flag in
+    let strict = strict_mark reply.op beat.denied beat.corrupt mine in (
+      record {
+        fields = record {
+          opcode = s.fields.opcode;
+          param = refl;
+          size = s.fields.size;
+          source = s.fields.source;
+          denied = ap (λ (d : Bool). Some d) (sym s.fields.denied);
+        };
+        corrupt = right_mark reply.op beat.denied beat.corrupt mine;
+        marks = λ j mark at row.
+            none_marked (length reply.bytes) j mark at ∙ sym (not_spoiled beat.denied beat.corrupt strict);
+        bytes = λ plain clean j byte at row.
+            from_map (λ (x : ℕ). Some x)
+            (λ (x : Option ℕ). StandsAt all_lanes beat.lanes (lane_on_bus 8 address reply.size j) x) reply.bytes j
+            (λ x there. (
+              lane_known (lane_on_bus 8 address reply.size j) (lane_below address reply.size j),
+              s.bytes (sym s.fields.denied ∙ plain) j x there row,
+            )) byte at;
+      },
+      (λ rule. strict),
+    )
 
 pub reply_spelled_alike : ReplySpelledAlike
 reply_spelled_alike reply address beats = (
   (λ s. (
     record {
-      count = sym (length-map beats reply_beat_of) ∙ s.count;
-      each = λ b beat at. (alike s b beat at).0;
+      count = sym (length-map beats reply_beat_of) ∙ s.0.count;
+      each = λ b beat at. (there s.0 s.1 b beat at).0;
     },
-    (λ b beat at. (alike s b beat at).1),
+    (λ b beat at. (there s.0 s.1 b beat at).1),
   )),
-  (λ s. record {
-    count = length-map beats reply_beat_of ∙ s.0.count;
-    each = λ b beat at. from_map reply_beat_of (λ x. IsReplyBeatOf 8 (seen_as reply) address b x) beats b
-        (λ x is. (beat_alike reply address b x).1 (s.0.each b x is, s.1 b x is)) beat at;
-  }),
+  (λ s. (
+    record {
+      count = length-map beats reply_beat_of ∙ s.0.count;
+      each = λ b beat at. from_map reply_beat_of (λ x. IsReplyBeatOf 8 (seen_as reply) address b x) beats b
+          (λ x is. (beat_back reply address b x (s.0.each b x is) (s.1 b x is)).0) beat at;
+    },
+    (λ b beat at. (beat_back reply address b beat (s.0.each b beat at) (s.1 b beat at)).1),
+  )),
 )
   where
-    alike : SpellsReplyOnBus 8 (seen_as reply) address (map reply_beat_of beats) → (b : ℕ) (beat : DBeat)
-        → slice_get beats b ≡ Some beat
-        → narrow_reply.IsReplyBeatOf reply address b beat × IsRightMark reply.op reply.denied beat.corrupt
-    alike s b beat at = (beat_alike reply address b beat).0 (s.each b (reply_beat_of beat) (in_map reply_beat_of beats b beat at))
+    there : SpellsReplyOnBus 8 (seen_as reply) address (map reply_beat_of beats) → AreMarkedByRules beats → (b : ℕ)
+        (beat : DBeat) → slice_get beats b ≡ Some beat
+        → narrow_reply.IsReplyBeatOf reply address b beat × IsAsAsked reply.op reply.denied beat.corrupt
+    there s strict b beat at =
+        beat_there reply address b beat (s.each b (reply_beat_of beat) (in_map reply_beat_of beats b beat at)) (strict b beat at)

@@ -43,7 +43,7 @@ use Rattle.check_beats.specs.declared.bus.Bus.TheVariants.{Eight}
 use Rattle.check_keys.specs.Bus.{bus_in_table}
 use Rattle.check_keys.specs.Value.{array_of, flag_at, number_at, number_if_any, table_of, tables_of, text_if_any, up_to, value_at}
 use Rattle.check_keys.specs.declared.fault.Key.{Key}
-use Rattle.check_keys.specs.declared.fault.Key.TheVariants.{Bus, Unaligned, Decode, Resets, Period, Port as PortKey, Master as MasterKey, Sources}
+use Rattle.check_keys.specs.declared.fault.Key.TheVariants.{Bus, Unaligned, Corrupt, Decode, Resets, Period, Port as PortKey, Master as MasterKey, Sources}
 use Rattle.check_keys.specs.declared.fault.SystemFault.{SystemFault}
 use Rattle.check_keys.specs.declared.fault.SystemFault.TheVariants.{Missing, NotToml, TooLong, WrongType}
 use Rattle.tl_map.specs.declared.limits.TheConstants.{MAX_JUDGED_MASTERS, MAX_JUDGED_PORTS, MAX_JUDGED_SOURCES}
@@ -276,10 +276,11 @@ decode_read members absent = rw absent refl
 abbrev script_rules : SystemRules
 script_rules = record { links = strict_rules; resets = false }
 
-rules_read : (members : Members) → IsAbsent Unaligned members → IsAbsent Decode members → IsAbsent Resets members
-    → IsAbsent Period members → rules_in members ≡ Ok script_rules
+rules_read : (members : Members) → IsAbsent Unaligned members → IsAbsent Corrupt members → IsAbsent Decode members
+    → IsAbsent Resets members → IsAbsent Period members → rules_in members ≡ Ok script_rules
 unfolding rules_in flag_at number_if_any
-rules_read members aligned decode resets period = rw (aligned, decode_read members decode, resets, period) refl
+rules_read members aligned corrupt decode resets period =
+    rw (aligned, corrupt, decode_read members decode, resets, period) refl
 
 -- no port of a script lists masters
 lists_read : (names : List (Option (List ℕ))) (stores : List Store) (ports : List Port) → ArePortsOf stores ports
@@ -401,8 +402,9 @@ parts_of_same bytes parts plain ranges counts is =
       ports = ports.same.ports;
       read = rw document_is (parts_read members ports.same.ports (map plain_master (old_counts_of parts))
           (nothing_said ports.same.ports) (nothing_said (map plain_master (old_counts_of parts)))
-          (bus_read members (plain.bus members document_is)) (rules_read members (plain.unaligned members document_is) (plain.decode members document_is)
-          (plain.resets members document_is) (plain.period members document_is))
+          (bus_read members (plain.bus members document_is)) (rules_read members (plain.unaligned members document_is)
+          (plain.corrupt members document_is) (plain.decode members document_is) (plain.resets members document_is)
+          (plain.period members document_is))
           (ports_read members parts.stores ports) masters
           (lists_read (names_of_masters (map plain_master (old_counts_of parts))) parts.stores ports.same.ports ports.same.are)
           (paths_read (nothing_said ports.same.ports) (none_listed ports.same.ports) 0 (old_counts_of parts)));

@@ -1,5 +1,6 @@
 -- What it says that a bus of eight bytes is that of `tl_beats`: these are this project's own words.
-use Rattle.std.specs.Prelude.{◌≡◌, ◌↔◌, ℕ, Bool, false, List, map, Some, slice_get}
+use Rattle.std.specs.Prelude.{◌≡◌, ◌↔◌, ℕ, Bool, false, ◌&&◌, List, map, Some, slice_get}
+use Rattle.tl_types.specs.Operation.{reply_carries_bytes}
 use Rattle.tl_types.specs.Request.{Request}
 use Rattle.tl_types.specs.Response.{Response}
 use Rattle.tl_types.specs.declared.operation.AskOp.{AskOp}
@@ -9,8 +10,10 @@ use Rattle.tl_beats.specs.declared.beat.ABeat.{ABeat}
 use Rattle.tl_beats.specs.declared.beat.DBeat.{DBeat}
 use Rattle.check_cells.specs.Pattern.{seen_as}
 use Rattle.check_beats.specs.Bus.{active_mask_on_bus, beat_count_on_bus, lane_on_bus}
-use Rattle.check_beats.specs.Form.{IsRightMark, IsLawfulMaskOnBus}
+use Rattle.check_beats.specs.Form.{IsLawfulMaskOnBus}
+use Rattle.check_beats.specs.Rules.{IsMarkedBy}
 use Rattle.check_beats.specs.Spelling.{AskBeat, ReplyBeat, SpellsAskOnBus, SpellsReplyOnBus}
+use Rattle.check_scripts.specs.Instance.{strict_rules}
 
 -- on a bus of 8 bytes each byte stands at the lane, each message has the beats, and the same lanes are active as
 -- `tl_beats` says.
@@ -52,11 +55,17 @@ AskSpelledAlike =
 -- the beats are marked corrupt as the standard asks: those that carry bytes of a denied reply are, and no others
 abbrev pub AreMarked : Response → List DBeat → Type 0
 AreMarked reply beats =
-    (b : ℕ) (beat : DBeat) → slice_get beats b ≡ Some beat → IsRightMark reply.op reply.denied beat.corrupt
+    (b : ℕ) (beat : DBeat) → slice_get beats b ≡ Some beat
+    → beat.corrupt ≡ (reply.denied && reply_carries_bytes reply.op)
+
+-- the same by the rules of a script's links: no beat is marked of a reply that is not denied
+abbrev pub AreMarkedByRules : List DBeat → Type 0
+AreMarkedByRules beats =
+    (b : ℕ) (beat : DBeat) → slice_get beats b ≡ Some beat → IsMarkedBy strict_rules (reply_beat_of beat).head
 
 -- and a reply, which is wholly known, if the beats are marked as the standard asks, which `tl_beats` leaves open
 abbrev pub ReplySpelledAlike : Type 0
 ReplySpelledAlike =
     (reply : Response) (address : ℕ) (beats : List DBeat)
-    → SpellsReplyOnBus 8 (seen_as reply) address (map reply_beat_of beats)
+    → (SpellsReplyOnBus 8 (seen_as reply) address (map reply_beat_of beats) × AreMarkedByRules beats)
     ↔ (narrow_reply.SpellsReply reply address beats × AreMarked reply beats)

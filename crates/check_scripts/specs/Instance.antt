@@ -10,7 +10,7 @@ use Rattle.check_beats.specs.declared.bus.Bus.TheVariants.{Eight}
 use Rattle.check_beats.specs.declared.rules.LinkRules.{LinkRules}
 use Rattle.check_keys.specs.Key.{key_name}
 use Rattle.check_keys.specs.declared.fault.Key.{Key}
-use Rattle.check_keys.specs.declared.fault.Key.TheVariants.{Bus, Unaligned, Decode, Resets, Period, Name, Ranges, Image, Unknown, Sizes, Order, Mirror, Volatile, OnReset, Hosts, Sources, Crossing, Fifo, First, Stride, Reach}
+use Rattle.check_keys.specs.declared.fault.Key.TheVariants.{Bus, Unaligned, Corrupt, Decode, Resets, Period, Name, Ranges, Image, Unknown, Sizes, Order, Mirror, Volatile, OnReset, Hosts, Sources, Crossing, Fifo, First, Stride, Reach}
 use Rattle.check_description.specs.Laws.{IsPlainMemory, store_at_reset}
 use Rattle.check_description.specs.Order.{no_orders}
 use Rattle.check_description.specs.declared.crossing.PortCrossing.TheVariants.{Same}
@@ -57,6 +57,7 @@ pub record IsPlainMaster (members : Members) : Type 0 where
 pub record SaysNothingNew (bytes : List ℕ) : Type 0 where
   pub bus : (members : Members) → document_of bytes ≡ Ok members → IsAbsent Bus members
   pub unaligned : (members : Members) → document_of bytes ≡ Ok members → IsAbsent Unaligned members
+  pub corrupt : (members : Members) → document_of bytes ≡ Ok members → IsAbsent Corrupt members
   pub decode : (members : Members) → document_of bytes ≡ Ok members → IsAbsent Decode members
   pub resets : (members : Members) → document_of bytes ≡ Ok members → IsAbsent Resets members
   pub period : (members : Members) → document_of bytes ≡ Ok members → IsAbsent Period members
@@ -100,9 +101,9 @@ plain_master count = record {
   fifo = false;
 }
 
--- requests are aligned, and decoders look at all their bytes. A clock is a unit of time.
+-- requests are aligned, no data of a reply is corrupt, and decoders look at all bytes of a request. A clock is a unit of time.
 abbrev pub strict_rules : LinkRules
-strict_rules = record { unaligned = false; by_address = false; period = 1 }
+strict_rules = record { unaligned = false; corrupt = false; by_address = false; period = 1 }
 
 -- nothing is said of each of these
 abbrev pub nothing_said : {A B : Type 0} → List A → List (Option B)

@@ -5,7 +5,7 @@ use Rattle.tl_types.specs.Fault.{IsFirstOf}
 use Rattle.tl_map.specs.Map.{RoutesBytes}
 use Rattle.tl_map.specs.declared.range.Range.{Range}
 use Rattle.check_beats.specs.Form.{FitsAsk, FitsReply, IsKnown}
-use Rattle.check_beats.specs.Rules.{IsAlignedBy, decoded_size}
+use Rattle.check_beats.specs.Rules.{IsAlignedBy, IsMarkedBy, decoded_size}
 use Rattle.check_beats.specs.State.{ends_reply, first_ask, first_reply}
 use Rattle.check_beats.specs.declared.beat.AskHead.{AskHead}
 use Rattle.check_beats.specs.declared.beat.ReplyHead.{ReplyHead}
@@ -20,7 +20,7 @@ use Rattle.check_watch.specs.declared.links.Links.TheVariants.{Both, Ports}
 use Rattle.check_watch.specs.Allowed.{BeginsFree, BeginsPlaced, IsAnswer, IsAllowedReply, IsMust, OfAsked}
 use Rattle.check_watch.specs.Faults.{HasAnswerReason, HasEndReason, IsFirstReplyReason, reason_rank}
 use Rattle.check_watch.specs.Paths.{has_path}
-use Rattle.check_watch.specs.Plan.{DecodesTo, Layout, HasSource, RoutesWide, reached}
+use Rattle.check_watch.specs.Plan.{DecodesTo, Layout, HasSource, RoutesWide, reached, wider_bus}
 use Rattle.check_watch.specs.Scene.{Scene}
 use Rattle.check_watch.proofs.Judging.{AskUpTo}
 use Rattle.check_watch.proofs.Replying.{first_answer, first_end}
@@ -80,7 +80,11 @@ module _ (layout : Layout) (links : LinkRules) (map : List (List Range)) (port :
   }
 
   module _ (beyond : Beyond) (view : PortView) (beat : ReplyHead) (known : ℕ) (lanes : List ℕ)
-      (fits : FitsReply (first_reply view.under.replying) beat) (small : beat.source < 65536) where
+      (fits : FitsReply (first_reply view.under.replying) beat) (marked : IsMarkedBy links beat)
+      (small : beat.source < 65536) where
+    own_marked : IsMarkedBy layout.rules beat
+    own_marked = subst (λ (r : LinkRules). IsMarkedBy r beat) (sym own.rules) marked
+
     abbrev here : Scene
     here = port_scene layout port beyond view (D beat)
 
@@ -101,22 +105,23 @@ module _ (layout : Layout) (links : LinkRules) (map : List (List Range)) (port :
         → IsFirstOf (HasAnswerReason port turn_here view.under.bus (may_be_unknown view.slave) beat known) reason_rank reason
         → IsFirstReplyReason layout (Port port) here beat known lanes reason
     answer_first reason first =
-        first_answer layout (Port port) here beat known lanes fits (own_source beat.source small) reason
+        first_answer layout (Port port) here beat known lanes fits own_marked (own_source beat.source small) reason
         (subst (λ (u : Bool). IsFirstOf (HasAnswerReason port turn_here view.under.bus u beat known) reason_rank reason)
         (sym unknown_here) first)
 
     pub end_first : AnswersFound → IsTrue (ends_reply view.under.bus view.under.replying beat) → (reason : Reason)
-        → HasEndReason false beyond.crossing (due_in view port beat.source) (captured_in view beat known lanes) reason
+        → HasEndReason false (wider_bus layout (Port port) port) beyond.crossing (due_in view port beat.source) (captured_in view beat known lanes) reason
         → IsFirstReplyReason layout (Port port) here beat known lanes reason
     end_first answers ends reason has =
-        first_end layout (Port port) here beat known lanes fits (own_source beat.source small) (answers_here answers)
+        first_end layout (Port port) here beat known lanes fits own_marked (own_source beat.source small) (answers_here answers)
         reason (ends, has)
 
     pub reply_allowed : AnswersFound → (IsTrue (ends_reply view.under.bus view.under.replying beat)
-        → IsMust false beyond.crossing (due_in view port beat.source) (captured_in view beat known lanes))
+        → IsMust false (wider_bus layout (Port port) port) beyond.crossing (due_in view port beat.source) (captured_in view beat known lanes))
         → IsAllowedReply layout (Port port) here beat known lanes
     reply_allowed answers well = record {
       fits = fits;
+      marked = own_marked;
       source = own_source beat.source small;
       answers = answers_here answers;
       ends = well;

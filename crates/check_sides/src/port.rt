@@ -155,9 +155,9 @@ impl PortLink {
         requires fits { FitsReply (first_reply self.now.under.replying) beat.now }
         requires ends { IsTrue (ends_reply self.now.under.bus self.now.under.replying beat.now) }
         requires lanes { self.now.under.bus ≤ length lanes.now }
-        ensures reason { (crossing : Crossing) → IfSome result (HasEndReason false crossing
+        ensures reason { (wider : ℕ) (crossing : Crossing) → IfSome result (HasEndReason false wider crossing
             (due_in self.now port beat.now.source) (captured_in self.now beat.now known lanes.now)) }
-        ensures none { (crossing : Crossing) → IfNone result (IsMust false crossing
+        ensures none { (wider : ℕ) (crossing : Crossing) → IfNone result (IsMust false wider crossing
             (due_in self.now port beat.now.source) (captured_in self.now beat.now known lanes.now)) }
     {
         let mut reply = Pattern::blank();
@@ -170,21 +170,22 @@ impl PortLink {
     fn reply_reason(
         &self,
         port: usize,
+        rules: LinkRules,
         beat: &ReplyHead,
         known: u64,
         lanes: &[u8],
     ) -> Option<Reason>
         requires lanes { self.now.under.bus ≤ length lanes.now }
-        ensures reason { (layout : Layout) (beyond : Beyond) (rules : LinkRules) (map : List (List Range))
+        ensures reason { (layout : Layout) (beyond : Beyond) (map : List (List Range))
             → IsOwnPort layout rules map → IfSome result (IsFirstReplyReason layout (Port port)
             (port_scene layout port beyond self.now (D beat.now)) beat.now known lanes.now) }
-        ensures allowed { (layout : Layout) (beyond : Beyond) (rules : LinkRules) (map : List (List Range))
+        ensures allowed { (layout : Layout) (beyond : Beyond) (map : List (List Range))
             → IsOwnPort layout rules map → IfNone result (IsAllowedReply layout (Port port)
             (port_scene layout port beyond self.now (D beat.now)) beat.now known lanes.now) }
         ensures fits { IfNone result (FitsReply (first_reply self.now.under.replying) beat.now) }
     {
         let source = beat.source;
-        if let Some(fault) = self.under.reply_fault(beat) {
+        if let Some(fault) = self.under.reply_fault(rules, beat) {
             return Some(Reason::Form(fault));
         }
         let flight = self.flights.flight(source);
@@ -219,20 +220,27 @@ impl PortLink {
     {
         match beat {
             Beat::A(beat) => self.ask_reason(port, rules, map, beat, known),
-            Beat::D(beat) => self.reply_reason(port, beat, known, lanes),
+            Beat::D(beat) => self.reply_reason(port, rules, beat, known, lanes),
         }
     }
 
     /// The wrong reply that a beat ends: what the slave expects, and what was captured.
-    fn wrong_reply(&self, port: usize, beat: &ReplyHead, known: u64, lanes: &[u8]) -> Fault
+    fn wrong_reply(
+        &self,
+        port: usize,
+        rules: LinkRules,
+        beat: &ReplyHead,
+        known: u64,
+        lanes: &[u8],
+    ) -> Fault
         requires lanes { self.now.under.bus ≤ length lanes.now }
-        ensures { (layout : Layout) (beyond : Beyond)
+        ensures { (layout : Layout) (beyond : Beyond) → layout.rules ≡ rules
             → IsFirstReplyReason layout (Port port)
             (port_scene layout port beyond self.now (D beat.now)) beat.now known lanes.now WrongReply
             → IsWrongReply (port_scene layout port beyond self.now (D beat.now))
             beat.now known lanes.now result }
     {
-        if let Some(_fault) = self.under.reply_fault(beat) {
+        if let Some(_fault) = self.under.reply_fault(rules, beat) {
             return Fault::NotGiven;
         }
         if !self.under.ends_reply(beat) {
@@ -251,20 +259,22 @@ impl PortLink {
     pub(crate) fn fault(
         &self,
         port: usize,
+        rules: LinkRules,
         beat: &Beat,
         known: u64,
         lanes: &[u8],
         reason: Reason,
     ) -> Fault
         requires lanes { self.now.under.bus ≤ length lanes.now }
-        ensures { (plan : Plan) (past : List Sighting) → KeepsPort plan port past self.now
+        ensures { (plan : Plan) (past : List Sighting) → plan.layout.rules ≡ rules
+            → KeepsPort plan port past self.now
             → IsFirstReason plan past (seen_at (Port port) beat.now known lanes.now) reason
             → IsFirstGroupFault plan past (seen_at (Port port) beat.now known lanes.now) result }
     {
         match reason {
             Reason::WrongReply => match beat {
                 Beat::A(_) => Fault::NotGiven,
-                Beat::D(beat) => self.wrong_reply(port, beat, known, lanes),
+                Beat::D(beat) => self.wrong_reply(port, rules, beat, known, lanes),
             },
             _ => fault_of(reason),
         }

@@ -204,7 +204,8 @@ impl PortLink {
         ensures bus { self.new.under.bus ≡ self.old.under.bus }
     {
         if let Some(reason) = self.reason(port, rules, map, beat, known, lanes) {
-            return Err(StepError::Unlawful(self.fault(port, beat, known, lanes, reason)));
+            let fault = self.fault(port, rules, beat, known, lanes, reason);
+            return Err(StepError::Unlawful(fault));
         }
         let seen = self.seen(port, beat, known, lanes);
         match self.admit(alloc, port, beat, known, lanes) {

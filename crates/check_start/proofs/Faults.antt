@@ -24,31 +24,31 @@ goes_on : (made : Slaves) (more : List PortSlave → List PortSlave) (fault : Sy
     → (made >>= (λ slaves. Ok (more slaves))) ≡ Err fault
 goes_on made more fault is = ap (λ (m : Slaves). m >>= (λ slaves. Ok (more slaves))) is
 
-from_fault : (one other : SlaveSide) (orders : SideOrders) (images : List (List ℕ)) (number : ℕ) (ports : List Port)
-    (fault : SystemFault) → slaves_from one orders images number ports ≡ Err fault
-    → slaves_from other orders images number ports ≡ Err fault
-from_fault one other orders images number [] fault is = absurd cc
-from_fault one other orders images number (port ∷ ports) fault is =
+from_fault : (corrupt : Bool) (one other : SlaveSide) (orders : SideOrders) (images : List (List ℕ)) (number : ℕ) (ports : List Port)
+    (fault : SystemFault) → slaves_from corrupt one orders images number ports ≡ Err fault
+    → slaves_from corrupt other orders images number ports ≡ Err fault
+from_fault corrupt one other orders images number [] fault is = absurd cc
+from_fault corrupt one other orders images number (port ∷ ports) fault is =
     go _ _ (nat_lt (first_length port.ranges) (length (image_at images number)))
-    (from_fault one other orders images (number + 1) ports fault) is
+    (from_fault corrupt one other orders images (number + 1) ports fault) is
   where
     go : (a b : PortSlave) (long : Bool)
-        → (slaves_from one orders images (number + 1) ports ≡ Err fault
-        → slaves_from other orders images (number + 1) ports ≡ Err fault)
+        → (slaves_from corrupt one orders images (number + 1) ports ≡ Err fault
+        → slaves_from corrupt other orders images (number + 1) ports ≡ Err fault)
         → (unless long (ImageTooLong number) a
-        >>= (λ slave. slaves_from one orders images (number + 1) ports >>= (λ rest. Ok (slave ∷ rest)))) ≡ Err fault
+        >>= (λ slave. slaves_from corrupt one orders images (number + 1) ports >>= (λ rest. Ok (slave ∷ rest)))) ≡ Err fault
         → (unless long (ImageTooLong number) b
-        >>= (λ slave. slaves_from other orders images (number + 1) ports >>= (λ rest. Ok (slave ∷ rest)))) ≡ Err fault
+        >>= (λ slave. slaves_from corrupt other orders images (number + 1) ports >>= (λ rest. Ok (slave ∷ rest)))) ≡ Err fault
     go a b true rest is = cc
     go a b false rest is =
-        goes_on (slaves_from other orders images (number + 1) ports) (λ slaves. b ∷ slaves) fault
-        (rest (stops (slaves_from one orders images (number + 1) ports) (λ slaves. a ∷ slaves) fault is))
+        goes_on (slaves_from corrupt other orders images (number + 1) ports) (λ slaves. b ∷ slaves) fault
+        (rest (stops (slaves_from corrupt one orders images (number + 1) ports) (λ slaves. a ∷ slaves) fault is))
 
-pub same_fault : (one other : SlaveSide) (orders : SideOrders) (images : List (List ℕ)) (ports : List Port)
-    (fault : SystemFault) → slaves_at_reset one orders images ports ≡ Err fault
-    → slaves_at_reset other orders images ports ≡ Err fault
-same_fault one other orders images ports fault is =
-    let error = error_slave orders.masters in
-    goes_on (slaves_from other orders images 0 ports) (λ slaves. slaves ++ error ∷ []) fault
-    (from_fault one other orders images 0 ports fault
-    (stops (slaves_from one orders images 0 ports) (λ slaves. slaves ++ error ∷ []) fault is))
+pub same_fault : (corrupt : Bool) (one other : SlaveSide) (orders : SideOrders) (images : List (List ℕ)) (ports : List Port)
+    (fault : SystemFault) → slaves_at_reset corrupt one orders images ports ≡ Err fault
+    → slaves_at_reset corrupt other orders images ports ≡ Err fault
+same_fault corrupt one other orders images ports fault is =
+    let error = error_slave corrupt orders.masters in
+    goes_on (slaves_from corrupt other orders images 0 ports) (λ slaves. slaves ++ error ∷ []) fault
+    (from_fault corrupt one other orders images 0 ports fault
+    (stops (slaves_from corrupt one orders images 0 ports) (λ slaves. slaves ++ error ∷ []) fault is))

@@ -15,8 +15,8 @@ use Rattle.check_start.proofs.Loading.{loads_counted, loads_hold}
 
 -- a plan of beats is one of the system
 pub plan_of : (terms : Terms) (system : Description) (images : List (List ℕ)) (begins : Plan) → IsPlan begins
-    → begins.layout ≡ layout_of terms system → shared_slaves terms images system.ports ≡ Ok begins.resets
-    → (IsTrue (are_apart (layout_of terms system)) → own_slaves terms images system.ports ≡ Ok begins.own)
+    → begins.layout ≡ layout_of terms system → shared_slaves system.rules.corrupt terms images system.ports ≡ Ok begins.resets
+    → (IsTrue (are_apart (layout_of terms system)) → own_slaves system.rules.corrupt terms images system.ports ≡ Ok begins.own)
     → (plan : SystemPlan) × IsPlanOf terms system images plan
 plan_of terms system images begins is layout resets own = (
   record { begins = begins; loads = loads_of system.ports; within = terms.within },
@@ -33,8 +33,8 @@ loads_are terms system images plan is =
           ∙ ap (λ n. n + 1) (sym (ap (λ (l : Layout). length l.ports) is.layout
           ∙ length-map system.ports (λ (port : Port). port.ranges)));
       shared = subst (λ loads. AreLoads loads plan.begins.resets loaded) (sym is.loads)
-          (loads_hold (shared_side terms.links) terms.orders images system.ports plan.begins.resets is.resets);
+          (loads_hold system.rules.corrupt (shared_side terms.links) terms.orders images system.ports plan.begins.resets is.resets);
       own = λ apart. subst (λ loads. AreLoads loads plan.begins.own loaded) (sym is.loads)
-          (loads_hold side.Ports terms.orders images system.ports plan.begins.own
+          (loads_hold system.rules.corrupt side.Ports terms.orders images system.ports plan.begins.own
           (is.own (subst (λ (l : Layout). IsTrue (are_apart l)) is.layout apart)));
     }

@@ -1,5 +1,5 @@
 -- The slaves of a system's ports at reset. This project's own.
-use Rattle.std.specs.Prelude.{ℕ, ◌+◌, if◌then◌else◌, List, [], ◌∷◌, ◌++◌, Result, Ok, slice_get, unwrap_or}
+use Rattle.std.specs.Prelude.{ℕ, Bool, ◌+◌, if◌then◌else◌, List, [], ◌∷◌, ◌++◌, Result, Ok, slice_get, unwrap_or}
 use Rattle.check_flight.specs.PortSlave.{PortSlave}
 use Rattle.check_flight.specs.declared.order.Order.{Order}
 use Rattle.check_flight.specs.declared.order.SideOrders.{SideOrders}
@@ -46,22 +46,23 @@ shared_side links.Each = Masters
 abbrev pub image_at : List (List ℕ) → ℕ → List ℕ
 image_at images port = unwrap_or (slice_get images port) []
 
--- the slaves of ports, the first of which has this number; or the first fault of one
-abbrev pub slaves_from : SlaveSide → SideOrders → List (List ℕ) → ℕ → List Port → Result (List PortSlave) SystemFault
-slaves_from side orders images number [] = Ok []
-slaves_from side orders images number (port ∷ ports) =
-    slave_at_reset number port (image_at images number) (order_of side orders port)
-    >>= (λ slave. slaves_from side orders images (number + 1) ports >>= (λ rest. Ok (slave ∷ rest)))
+-- the slaves of ports, the first of which has this number, of a system in which data may be corrupt or not; or the first fault of
+-- one
+abbrev pub slaves_from : Bool → SlaveSide → SideOrders → List (List ℕ) → ℕ → List Port → Result (List PortSlave) SystemFault
+slaves_from corrupt side orders images number [] = Ok []
+slaves_from corrupt side orders images number (port ∷ ports) =
+    slave_at_reset corrupt number port (image_at images number) (order_of side orders port)
+    >>= (λ slave. slaves_from corrupt side orders images (number + 1) ports >>= (λ rest. Ok (slave ∷ rest)))
 
 -- the slaves of all ports, the error port's last: its requests are seen at the masters' links alone
-abbrev pub slaves_at_reset : SlaveSide → SideOrders → List (List ℕ) → List Port → Result (List PortSlave) SystemFault
-slaves_at_reset side orders images ports =
-    slaves_from side orders images 0 ports >>= (λ slaves. Ok (slaves ++ error_slave orders.masters ∷ []))
+abbrev pub slaves_at_reset : Bool → SlaveSide → SideOrders → List (List ℕ) → List Port → Result (List PortSlave) SystemFault
+slaves_at_reset corrupt side orders images ports =
+    slaves_from corrupt side orders images 0 ports >>= (λ slaves. Ok (slaves ++ error_slave corrupt orders.masters ∷ []))
 
 -- those of links that are judged together, and those of ports' links that are judged each by itself
-abbrev pub shared_slaves : Terms → List (List ℕ) → List Port → Result (List PortSlave) SystemFault
-shared_slaves terms images ports = slaves_at_reset (shared_side terms.links) terms.orders images ports
+abbrev pub shared_slaves : Bool → Terms → List (List ℕ) → List Port → Result (List PortSlave) SystemFault
+shared_slaves corrupt terms images ports = slaves_at_reset corrupt (shared_side terms.links) terms.orders images ports
 
 -- the slaves of ports' links that are judged each by itself
-abbrev pub own_slaves : Terms → List (List ℕ) → List Port → Result (List PortSlave) SystemFault
-own_slaves terms images ports = slaves_at_reset Ports terms.orders images ports
+abbrev pub own_slaves : Bool → Terms → List (List ℕ) → List Port → Result (List PortSlave) SystemFault
+own_slaves corrupt terms images ports = slaves_at_reset corrupt Ports terms.orders images ports

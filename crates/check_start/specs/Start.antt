@@ -29,8 +29,8 @@ layout_of terms system = record {
 pub record IsPlanOf (terms : Terms) (system : Description) (images : List (List ℕ)) (plan : SystemPlan) : Type 0 where
   pub is : IsPlan plan.begins
   pub layout : plan.begins.layout ≡ layout_of terms system
-  pub resets : shared_slaves terms images system.ports ≡ Ok plan.begins.resets
-  pub own : IsTrue (are_apart (layout_of terms system)) → own_slaves terms images system.ports ≡ Ok plan.begins.own
+  pub resets : shared_slaves system.rules.corrupt terms images system.ports ≡ Ok plan.begins.resets
+  pub own : IsTrue (are_apart (layout_of terms system)) → own_slaves system.rules.corrupt terms images system.ports ≡ Ok plan.begins.own
   pub loads : plan.loads ≡ loads_of system.ports
   pub within : plan.within ≡ terms.within
 

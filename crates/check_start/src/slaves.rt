@@ -74,9 +74,10 @@ pub fn image_at(images: &[Vec<u8>], port: usize) -> &[u8]
     }
 }
 
-/// The slave of the port of this number.
+/// The slave of the port of this number, of a system in which data may be corrupt or not.
 fn port_slave(
     alloc: Global,
+    corrupt: bool,
     number: usize,
     port: &Port,
     images: &[Vec<u8>],
@@ -84,27 +85,35 @@ fn port_slave(
     orders: SideOrders,
 ) -> Result<PortSlave, SystemFault>
     ensures { Gives (λ slave. slave) result
-        (slave_at_reset number (port_view port.now) (image_at (map (λ image. image.items) images.now) number)
+        (slave_at_reset corrupt number (port_view port.now) (image_at (map (λ image. image.items) images.now) number)
         (order_of side orders (port_view port.now))) }
 {
     let order = order_of(side, orders, port);
-    slave_of(alloc, number, port, image_at(images, number), order)
+    slave_of(
+        alloc,
+        corrupt,
+        number,
+        port,
+        image_at(images, number),
+        order,
+    )
 }
 
 /// The slaves of the ports, with these bytes of their images, as a side sees them, by these orders for ports that say none.
 fn port_slaves(
     alloc: Global,
+    corrupt: bool,
     ports: &[Port],
     images: &[Vec<u8>],
     side: SlaveSide,
     orders: SideOrders,
 ) -> Result<Vec<PortSlave>, SystemFault>
     ensures { Gives (λ slaves. slaves.items) result
-        (slaves_from side orders (map (λ image. image.items) images.now) 0 (map port_view ports.now)) }
+        (slaves_from corrupt side orders (map (λ image. image.items) images.now) 0 (map port_view ports.now)) }
 {
     let mut slaves = Vec::with_capacity(alloc, ports.len() + 1)?;
     for (number, port) in ports.iter().enumerate() {
-        slaves.push(port_slave(alloc, number, port, images, side, orders)?)?;
+        slaves.push(port_slave(alloc, corrupt, number, port, images, side, orders)?)?;
     }
     Ok(slaves)
 }
@@ -112,15 +121,16 @@ fn port_slaves(
 /// The same, and after them the slave of the error port.
 pub fn slaves_of(
     alloc: Global,
+    corrupt: bool,
     ports: &[Port],
     images: &[Vec<u8>],
     side: SlaveSide,
     orders: SideOrders,
 ) -> Result<Vec<PortSlave>, SystemFault>
     ensures { Gives (λ slaves. slaves.items) result
-        (slaves_at_reset side orders (map (λ image. image.items) images.now) (map port_view ports.now)) }
+        (slaves_at_reset corrupt side orders (map (λ image. image.items) images.now) (map port_view ports.now)) }
 {
-    let mut slaves = port_slaves(alloc, ports, images, side, orders)?;
-    slaves.push(error_slave(alloc, orders.masters))?;
+    let mut slaves = port_slaves(alloc, corrupt, ports, images, side, orders)?;
+    slaves.push(error_slave(alloc, corrupt, orders.masters))?;
     Ok(slaves)
 }

@@ -122,18 +122,26 @@ fn buses_of(alloc: Global, parts: &Described) -> Result<LinkBuses, AllocError>
 /// The slaves that ports' links have by themselves: those of their side if some link is judged by itself, else none.
 fn own_slaves(
     alloc: Global,
+    corrupt: bool,
     ports: &[Port],
     images: &[Vec<u8>],
     terms: Terms,
     apart: &[bool],
 ) -> Result<Vec<PortSlave>, SystemFault>
     ensures own { IfOk result (λ own. IsTrue (is_some_by terms.links apart.now)
-        → slaves_of_links terms (map (λ image. image.items) images.now) (map port_view ports.now) ≡ Ok own.items) }
+        → slaves_of_links corrupt terms (map (λ image. image.items) images.now) (map port_view ports.now) ≡ Ok own.items) }
     ensures fault { IfErr result (λ fault. fault ≢ Memory
-        → slaves_of_links terms (map (λ image. image.items) images.now) (map port_view ports.now) ≡ Err fault) }
+        → slaves_of_links corrupt terms (map (λ image. image.items) images.now) (map port_view ports.now) ≡ Err fault) }
 {
     if is_some_alone(terms.links, apart) {
-        slaves_of(alloc, ports, images, SlaveSide::Ports, terms.orders)
+        slaves_of(
+            alloc,
+            corrupt,
+            ports,
+            images,
+            SlaveSide::Ports,
+            terms.orders,
+        )
     } else {
         Ok(Vec::new(alloc))
     }
@@ -149,22 +157,30 @@ struct Slaves {
 /// The slaves at reset.
 fn reset_slaves(
     alloc: Global,
+    corrupt: bool,
     ports: &[Port],
     images: &[Vec<u8>],
     terms: Terms,
     apart: &[bool],
 ) -> Result<Slaves, SystemFault>
     ensures shared { IfOk result (λ slaves.
-        shared_slaves terms (map (λ image. image.items) images.now) (map port_view ports.now)
+        shared_slaves corrupt terms (map (λ image. image.items) images.now) (map port_view ports.now)
         ≡ Ok slaves.shared.items) }
     ensures own { IfOk result (λ slaves. IsTrue (is_some_by terms.links apart.now)
-        → slaves_of_links terms (map (λ image. image.items) images.now) (map port_view ports.now)
+        → slaves_of_links corrupt terms (map (λ image. image.items) images.now) (map port_view ports.now)
         ≡ Ok slaves.own.items) }
     ensures fault { IfErr result (λ fault. fault ≢ Memory
-        → shared_slaves terms (map (λ image. image.items) images.now) (map port_view ports.now) ≡ Err fault) }
+        → shared_slaves corrupt terms (map (λ image. image.items) images.now) (map port_view ports.now) ≡ Err fault) }
 {
-    let shared = slaves_of(alloc, ports, images, shared_side(terms.links), terms.orders)?;
-    let own = own_slaves(alloc, ports, images, terms, apart)?;
+    let shared = slaves_of(
+        alloc,
+        corrupt,
+        ports,
+        images,
+        shared_side(terms.links),
+        terms.orders,
+    )?;
+    let own = own_slaves(alloc, corrupt, ports, images, terms, apart)?;
     Ok(Slaves { shared, own })
 }
 
@@ -191,13 +207,20 @@ pub fn begin(
     ensures few_masters { IfOk result (λ begun. length begun.master_buses.items ≤ MAX_JUDGED_MASTERS) }
     ensures few_ports { IfOk result (λ begun. length begun.port_buses.items ≤ MAX_JUDGED_PORTS) }
     ensures fault { IfErr result (λ fault. fault ≢ Memory
-        → shared_slaves terms (map (λ image. image.items) images.now) system.ports ≡ Err fault) }
+        → shared_slaves system.rules.corrupt terms (map (λ image. image.items) images.now) system.ports ≡ Err fault) }
 {
     let names = system_names(alloc, &system)?;
     let parts = system.into_parts();
     let apart = apart_of(alloc, &parts.ports)?;
     let fifos = fifos_of(alloc, &parts.masters, &parts.ports)?;
-    let slaves = reset_slaves(alloc, &parts.ports, images, terms, &apart)?;
+    let slaves = reset_slaves(
+        alloc,
+        parts.rules.corrupt,
+        &parts.ports,
+        images,
+        terms,
+        &apart,
+    )?;
     // one for the judge, and one for the reader of rows
     let buses = buses_of(alloc, &parts)?;
     let told = buses_of(alloc, &parts)?;

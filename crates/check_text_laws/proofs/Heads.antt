@@ -23,7 +23,7 @@ use Rattle.check_watch_laws.specs.Moments.Act.{Accepts}
 use Rattle.check_watch_laws.proofs.Crossing.{all_stand, asks_owned, last_of_all, story_at}
 use Rattle.check_watch_laws.proofs.Flights.{in_step, pending}
 use Rattle.check_watch_laws.proofs.Placing.{asks_placed}
-use Rattle.check_watch_laws.proofs.Standing.{IsOut, Stands, Story, is_out}
+use Rattle.check_watch_laws.proofs.Standing.{IsOut, Stands, Story, goes_to, is_out}
 use Rattle.check_watch_laws.proofs.Turns.{link_on}
 use Rattle.check_order_laws.specs.Open.{IsOpen}
 use Rattle.check_order_laws.proofs.Asked.{IsAskedAt, asked_if_open}
@@ -92,13 +92,13 @@ some_pending there number ask is none =
 
 module _ (plan : Plan) (wide : ℕ) (story : Story) (there : Turn) (number : ℕ) (ask : Request)
     (is : there ≡ Asked number ask) where
-  sent_out : (n : ℕ) (sent : Request) (out : Bool) (crossing : Crossing) → IsOut plan wide story out sent crossing there
-      → IsSentAs (Asked n sent) ask
-  sent_out n sent false crossing stands = absurd (some_pending there number ask is stands.free)
-  sent_out n sent true Waiting stands = absurd (some_pending there number ask is stands.free)
-  sent_out n sent true Crossed stands =
+  sent_out : (n : ℕ) (sent : Request) (out : Bool) (port : ℕ) (crossing : Crossing)
+      → IsOut plan wide story out port sent crossing there → IsSentAs (Asked n sent) ask
+  sent_out n sent false port crossing stands = absurd (some_pending there number ask is stands.free)
+  sent_out n sent true port Waiting stands = absurd (some_pending there number ask is stands.free)
+  sent_out n sent true port Crossed stands =
       let same : ask ≡ record sent { source = wide } =
-      asked_same number stands.port ask (record sent { source = wide }) (sym is ∙ stands.is) in
+      asked_same number port ask (record sent { source = wide }) (sym is ∙ stands.is) in
       record {
         number = n;
         sent = sent;
@@ -107,12 +107,12 @@ module _ (plan : Plan) (wide : ℕ) (story : Story) (there : Turn) (number : ℕ
         address = ap (λ (r : Request). r.address) same;
         size = ap (λ (r : Request). r.size) same;
       }
-  sent_out n sent true (Given answer) stands = absurd (some_pending there number ask is stands.free)
+  sent_out n sent true port (Given answer) stands = absurd (some_pending there number ask is stands.free)
 
   was_sent : (turn : Turn) (crossing : Crossing) → Stands plan wide story turn crossing there → IsSentAs turn ask
   was_sent Idle crossing stands = absurd (some_pending there number ask is stands.free)
   was_sent (Asking n) crossing stands = absurd (some_pending there number ask is stands.free)
-  was_sent (Asked n sent) crossing stands = sent_out n sent (is_out plan wide n sent) crossing stands
+  was_sent (Asked n sent) crossing stands = sent_out n sent (is_out plan wide n sent) (goes_to plan wide n sent) crossing stands
 
 -- ---- what is open is counted
 

@@ -14,7 +14,7 @@ use Rattle.check_flight.specs.Flight.Turn.{Idle, Asking, Asked}
 use Rattle.check_flight.specs.declared.answer.Answer.{Answer}
 use Rattle.check_watch.specs.Allowed.{IsAllowedAsk, IsAllowedReply, IsMust}
 use Rattle.check_watch.specs.Past.{State, scene_of, state_after}
-use Rattle.check_watch.specs.Plan.{Layout, Plan, LinkSide, is_link, is_of, link_number, route_of, same_side, side_of, wide_of}
+use Rattle.check_watch.specs.Plan.{Layout, Plan, LinkSide, is_link, is_of, link_number, route_of, same_side, side_of, wide_of, wider_bus}
 use Rattle.check_watch.specs.Scene.{Scene, ask_by, captured, ended_by, flight_after, is_given, must_by, seen, seen_ask, seen_reply, turn_by, under_after}
 use Rattle.check_watch.specs.declared.beat.Beat.TheVariants.{A, D}
 use Rattle.check_watch.specs.declared.beat.Link.{Link}
@@ -81,10 +81,10 @@ some_of : (o : Option Answer) (P : Answer → Type 0) → IsSomeAnd o P → (ans
 some_of None P is = absurd is
 some_of (Some answer) P is = (answer, refl)
 
-must_some : (given_there : Bool) (crossing : Crossing) (due : Option Answer) (reply : Pattern)
-    → IsMust given_there crossing due reply → (answer : Answer) × (must_by given_there crossing due ≡ Some answer)
-must_some true crossing due reply is = some_of (given crossing) _ is
-must_some false crossing due reply is = some_of due _ is
+must_some : (given_there : Bool) (wider : ℕ) (crossing : Crossing) (due : Option Answer) (reply : Pattern)
+    → IsMust given_there wider crossing due reply → (answer : Answer) × (must_by given_there crossing due ≡ Some answer)
+must_some true wider crossing due reply is = some_of (given crossing) _ is
+must_some false wider crossing due reply is = some_of due _ is
 
 -- the last beat of a lawful reply ends it
 pub reply_whole : (layout : Layout) (link : Link) (scene : Scene) (beat : ReplyHead) (known : ℕ) (lanes : List ℕ)
@@ -104,7 +104,8 @@ reply_whole layout link scene beat known lanes allowed = go (ends_reply scene.un
     go false is = refl
     go true is =
         let asked = asked_at (link_number link) scene.flight.turn _ allowed.answers in
-        let answer = must_some (is_given layout link scene.port) scene.crossing scene.flight.due reply (allowed.ends is) in
+        let answer = must_some (is_given layout link scene.port) (wider_bus layout link scene.port) scene.crossing
+        scene.flight.due reply (allowed.ends is) in
         (λ i. ends_a_reply (ended_by (seen_reply (asked.1 i) reply (answer.1 i))))
 
 -- ---- one beat more

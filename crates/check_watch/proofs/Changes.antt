@@ -167,7 +167,7 @@ module _ (plan : Plan) (past : List Sighting) (link : Link) (known : ℕ) (lanes
       none (subst (λ (l : Layout). HasSource l link beat.source) (sym suits.layout) lawful.1.source)
 
   pub reply_fits : (fault : FormFault)
-      → IsFirstReplyFormFault (first_reply ((state plan past).links (side_of link) (link_number link)).replying) beat fault → ⊥
+      → IsFirstReplyFormFault plan.layout.rules (first_reply ((state plan past).links (side_of link) (link_number link)).replying) beat fault → ⊥
   reply_fits fault first =
       no_reply_reason plan.layout link (scene_in_group plan past (reply_at link known lanes beat)) beat known lanes lawful.1 (Form fault)
       first.applies

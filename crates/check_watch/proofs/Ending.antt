@@ -37,11 +37,11 @@ reply_told number (Asking at) P reply due Q of some = absurd of
 reply_told number (Asked at ask) P reply None Q of some = absurd some
 reply_told number (Asked at ask) P reply (Some answer) Q of some = refl
 
-must_told : (number : ℕ) (turn : Turn) (P : Request → Type 0) (reply : Pattern) (across : Bool) (crossing : Crossing)
-    (due : Option Answer) → OfAsked number turn P → IsMust across crossing due reply
+must_told : (number : ℕ) (turn : Turn) (P : Request → Type 0) (reply : Pattern) (across : Bool) (wider : ℕ)
+    (crossing : Crossing) (due : Option Answer) → OfAsked number turn P → IsMust across wider crossing due reply
     → ended_by (seen_reply turn reply (must_by across crossing due)) ≡ ends.Reply
-must_told number turn P reply true crossing due of must = reply_told number turn P reply (given crossing) _ of must
-must_told number turn P reply false crossing due of must = reply_told number turn P reply due _ of must
+must_told number turn P reply true wider crossing due of must = reply_told number turn P reply (given crossing) _ of must
+must_told number turn P reply false wider crossing due of must = reply_told number turn P reply due _ of must
 
 told_if : (b : Bool) (turn : Turn) (reply : Pattern) (due : Option Answer)
     → (IsTrue b → ended_by (seen_reply turn reply due) ≡ ends.Reply)
@@ -84,4 +84,4 @@ module _ (plan : Plan) (past : List Sighting) (view : GroupView) (link : Link) (
       ∙ sym (told_if (ends_reply under.bus under.replying beat) here.flight.turn
       (captured here.under here.flight.turn beat known lanes)
       (must_by (is_given plan.layout link here.port) here.crossing here.flight.due)
-      (λ done. must_told (link_number link) here.flight.turn _ _ _ _ _ lawful.1.answers (lawful.1.ends done)))
+      (λ done. must_told (link_number link) here.flight.turn _ _ _ _ _ _ lawful.1.answers (lawful.1.ends done)))

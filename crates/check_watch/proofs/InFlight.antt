@@ -1,13 +1,13 @@
 -- A message that is under way is one of a request in flight.
-use Rattle.std.proofs.Common.{◌≡◌, ◌∙◌, ℕ, ◌⊎◌, inl, inr, Bool, true, false, if◌then◌else◌, List, [], ◌∷◌, Option, Some, None, unwrap_or, ◌+◌, ◌++◌, refl, ap, sym, subst, eqb-true}
+use Rattle.std.proofs.Common.{◌≡◌, ◌∙◌, ℕ, ◌⊎◌, inl, inr, Bool, true, false, if◌then◌else◌, List, [], ◌∷◌, Option, Some, None, unwrap_or, ◌+◌, ◌++◌, replicate, refl, ap, sym, subst, eqb-true}
 use Rattle.std.specs.Prelude.{◌==◌, ◌&&◌}
 use Rattle.std.proofs.lemmas.Bool.{eqb-false}
 use Rattle.tl_types.specs.Request.{Request}
 use Rattle.check_beats.specs.Form.{Continues, SameFields, SameReplyFields}
-use Rattle.check_beats.specs.State.{Under, AskBegun, ReplyBegun, first_ask, first_reply, ends_ask, ends_reply, ask_of, ask_after, reply_after, asked_beats, asked_bytes, replied_beats, replied_bytes}
+use Rattle.check_beats.specs.State.{Under, AskBegun, ReplyBegun, first_ask, first_reply, ends_ask, ends_reply, ask_of, ask_after, reply_after, asked_beats, asked_bytes, replied_beats, replied_bytes, replied_spoiled}
 use Rattle.check_beats.specs.declared.beat.AskHead.{AskHead}
 use Rattle.check_beats.specs.declared.beat.ReplyHead.{ReplyHead}
-use Rattle.check_beats.specs.Message.{ask_part, seen_cells as seen_bytes}
+use Rattle.check_beats.specs.Message.{ask_part, seen_cells as seen_bytes, is_spoiled}
 use Rattle.check_flight.specs.Flight.{Turn, Flight, idle}
 use Rattle.check_flight.specs.Flight.Turn.{Idle, Asking, Asked}
 use Rattle.check_watch.specs.declared.beat.Beat.{Beat}
@@ -370,17 +370,20 @@ module _ (plan : Plan) (s : State) (asks : AsksFly plan s) (replies : RepliesFly
           absurd (none_or_some begun (sym (ap (λ (b : Bool). if b then None else Some (record {
             first = unwrap_or (first_reply before.replying) beat;
             beats = replied_beats before.replying + 1;
-            bytes = replied_bytes before.replying ++ seen_bytes beat.denied known lanes 0 before.bus;
+            bytes = replied_bytes before.replying ++ seen_bytes beat known lanes 0 before.bus;
+            spoiled = replied_spoiled before.replying ++ replicate before.bus (is_spoiled beat);
           })) e) ∙ is))
       go false e is =
           let at : record {
             first = unwrap_or (first_reply before.replying) beat;
             beats = replied_beats before.replying + 1;
-            bytes = replied_bytes before.replying ++ seen_bytes beat.denied known lanes 0 before.bus;
+            bytes = replied_bytes before.replying ++ seen_bytes beat known lanes 0 before.bus;
+            spoiled = replied_spoiled before.replying ++ replicate before.bus (is_spoiled beat);
           } ≡ begun = some_same _ begun (sym (ap (λ (b : Bool). if b then None else Some (record {
             first = unwrap_or (first_reply before.replying) beat;
             beats = replied_beats before.replying + 1;
-            bytes = replied_bytes before.replying ++ seen_bytes beat.denied known lanes 0 before.bus;
+            bytes = replied_bytes before.replying ++ seen_bytes beat known lanes 0 before.bus;
+            spoiled = replied_spoiled before.replying ++ replicate before.bus (is_spoiled beat);
           })) e) ∙ is) in
           let source : begun.first.source ≡ beat.source =
           sym (ap (λ (b : ReplyBegun). b.first.source) at) ∙ head_reply before.replying beat allowed.fits.same in

@@ -4,10 +4,12 @@ use Rattle.std.specs.Prelude.{IsTrue, IsSome}
 use Rattle.tl_types.specs.Fault.{IsFirstOf}
 use Rattle.tl_types.specs.declared.operation.ReplyOp.{ReplyOp}
 use Rattle.check_beats.specs.Form.{FitsReply, HasReplyFormFault, IsRightMark}
+use Rattle.check_beats.specs.Rules.{IsMarkedBy}
 use Rattle.check_beats.specs.State.{ends_reply, first_reply}
 use Rattle.check_beats.specs.declared.beat.ReplyHead.{ReplyHead}
 use Rattle.check_beats.specs.declared.fault.FormFault.{FormFault}
 use Rattle.check_beats.specs.declared.fault.FormFault.TheVariants.{Changed, Opcode, Param, Size, Unaligned, Mask, CorruptFlag, UnknownData as UnknownLanes}
+use Rattle.check_beats.specs.declared.rules.LinkRules.{LinkRules}
 use Rattle.check_flight.specs.declared.answer.Answer.{Answer}
 use Rattle.check_flight.specs.Flight.{Turn}
 use Rattle.check_flight.specs.Flight.Turn.{Idle, Asking, Asked}
@@ -21,7 +23,7 @@ use Rattle.check_watch.specs.declared.fault.Reason.TheVariants.{Form, NoSuchSour
 use Rattle.check_watch.specs.Allowed.{OfAsked, IsAnswer, IsMust, IsAllowedReply}
 use Rattle.check_watch.specs.Faults.{HasAnswerReason, HasEndReason, EndsWith, HasReplyReason, IsFirstReplyReason, reason_rank}
 use Rattle.check_watch.specs.Past.{port_of, slave_at}
-use Rattle.check_watch.specs.Plan.{Layout, Plan, HasSource, IsWideAt, link_number}
+use Rattle.check_watch.specs.Plan.{Layout, Plan, HasSource, IsWideAt, link_number, wider_bus}
 use Rattle.check_watch.specs.Scene.{Scene, once_answered, is_given}
 use Rattle.check_watch.specs.View.{GroupView, SuitsGroup, under_in, flight_in, crossing_at, scene_in, answered_in, due_in, captured_in}
 use Rattle.check_watch.proofs.Codes.{same_reply_op}
@@ -29,18 +31,19 @@ use Rattle.check_watch.proofs.Judging.{wide_is}
 
 -- ---- no reason before
 
-no_form_fault : (begun : Option ReplyHead) (beat : ReplyHead) → FitsReply begun beat → (fault : FormFault)
-    → HasReplyFormFault begun beat fault → ⊥
-no_form_fault begun beat fits Changed has = has fits.same
-no_form_fault begun beat fits Opcode has = has fits.formed.op fits.formed.code
-no_form_fault begun beat fits Param has = has fits.formed.param
-no_form_fault begun beat fits Size has = omega (arith, fits.formed.in_limit, has)
-no_form_fault begun beat fits Unaligned has = has
-no_form_fault begun beat fits Mask has = has
-no_form_fault begun beat fits CorruptFlag has =
+no_form_fault : (rules : LinkRules) (begun : Option ReplyHead) (beat : ReplyHead) → FitsReply begun beat
+    → IsMarkedBy rules beat → (fault : FormFault) → HasReplyFormFault rules begun beat fault → ⊥
+no_form_fault rules begun beat fits marked Changed has = has fits.same
+no_form_fault rules begun beat fits marked Opcode has = has fits.formed.op fits.formed.code
+no_form_fault rules begun beat fits marked Param has = has fits.formed.param
+no_form_fault rules begun beat fits marked Size has = omega (arith, fits.formed.in_limit, has)
+no_form_fault rules begun beat fits marked Unaligned has = has
+no_form_fault rules begun beat fits marked Mask has = has
+no_form_fault rules begun beat fits marked CorruptFlag (inl has) =
     let is = same_reply_op fits.formed.op has.0 beat.opcode fits.formed.code has.1 in
     has.2 (subst (λ (o : ReplyOp). IsRightMark o beat.denied beat.corrupt) is fits.formed.flag)
-no_form_fault begun beat fits UnknownLanes has = has
+no_form_fault rules begun beat fits marked CorruptFlag (inr has) = has marked
+no_form_fault rules begun beat fits marked UnknownLanes has = has
 
 module _ (number : ℕ) (turn : Turn) (bus : ℕ) (unknown : Bool) (beat : ReplyHead) (known : ℕ) where
   answer_rank : (reason : Reason) → HasAnswerReason number turn bus unknown beat known reason → reason_rank reason ≤ 17
@@ -85,7 +88,8 @@ not_both given (Some answer) is some (inl so) = absurd (cc)
 not_both given (Some answer) is some (inr not) = absurd (cc)
 
 module _ (layout : Layout) (link : Link) (scene : Scene) (beat : ReplyHead) (known : ℕ) (lanes : List ℕ)
-    (fits : FitsReply (first_reply scene.under.replying) beat) (source : HasSource layout link beat.source) where
+    (fits : FitsReply (first_reply scene.under.replying) beat) (marked : IsMarkedBy layout.rules beat)
+    (source : HasSource layout link beat.source) where
   abbrev AnswersHere : Type 0
   AnswersHere =
       OfAsked (link_number link) scene.flight.turn (IsAnswer scene.under.bus (may_be_unknown scene.slave) beat known)
@@ -112,7 +116,7 @@ module _ (layout : Layout) (link : Link) (scene : Scene) (beat : ReplyHead) (kno
   none_before_answer : (rank : ℕ) → rank ≤ 17
       → ((other : Reason) → reason_rank other < rank → HasHere other → ⊥)
       → (other : Reason) → reason_rank other < rank → HasReplyReason layout link scene beat known lanes other → ⊥
-  none_before_answer rank small none (Form f) lower has = no_form_fault (first_reply scene.under.replying) beat fits f has
+  none_before_answer rank small none (Form f) lower has = no_form_fault layout.rules (first_reply scene.under.replying) beat fits marked f has
   none_before_answer rank small none NoSuchSource lower has = has source
   none_before_answer rank small none SourceBusy lower has = has
   none_before_answer rank small none WrongPort lower has = has
@@ -157,7 +161,7 @@ module _ (layout : Layout) (link : Link) (scene : Scene) (beat : ReplyHead) (kno
       → (other : Reason) → reason_rank other < reason_rank reason
       → HasReplyReason layout link scene beat known lanes other → ⊥
   none_before_end answers reason ends (Form f) lower has =
-      no_form_fault (first_reply scene.under.replying) beat fits f has
+      no_form_fault layout.rules (first_reply scene.under.replying) beat fits marked f has
   none_before_end answers reason ends NoSuchSource lower has = has source
   none_before_end answers reason ends SourceBusy lower has = has
   none_before_end answers reason ends WrongPort lower has = has
@@ -220,7 +224,7 @@ module _ (layout : Layout) (link : Link) (scene : Scene) (beat : ReplyHead) (kno
 module _ (layout : Layout) (link : Link) (scene : Scene) (beat : ReplyHead) (known : ℕ) (lanes : List ℕ)
     (allowed : IsAllowedReply layout link scene beat known lanes) where
   pub no_reply_reason : (reason : Reason) → HasReplyReason layout link scene beat known lanes reason → ⊥
-  no_reply_reason (Form f) has = no_form_fault (first_reply scene.under.replying) beat allowed.fits f has
+  no_reply_reason (Form f) has = no_form_fault layout.rules (first_reply scene.under.replying) beat allowed.fits allowed.marked f has
   no_reply_reason NoSuchSource has = has allowed.source
   no_reply_reason SourceBusy has = has
   no_reply_reason WrongPort has = has
@@ -239,7 +243,7 @@ module _ (layout : Layout) (link : Link) (scene : Scene) (beat : ReplyHead) (kno
 -- a beat that ends a wrong reply has the form of one
 pub no_form_before : (layout : Layout) (link : Link) (scene : Scene) (beat : ReplyHead) (known : ℕ) (lanes : List ℕ)
     (fault : FormFault) → IsFirstReplyReason layout link scene beat known lanes WrongReply
-    → HasReplyFormFault (first_reply scene.under.replying) beat fault → ⊥
+    → HasReplyFormFault layout.rules (first_reply scene.under.replying) beat fault → ⊥
 no_form_before layout link scene beat known lanes fault first has = first.first (Form fault) (small fault) has
   where
     small : (f : FormFault) → reason_rank (Form f) < 20
@@ -261,7 +265,7 @@ none_or_due (Some answer) is some = absurd (cc)
 module _ (plan : Plan) (view : GroupView) (link : Link) (beat : ReplyHead) (known : ℕ) (lanes : List ℕ) (wide port : ℕ)
     (suits : SuitsGroup plan view) (found : IsWideAt view.layout link beat.source wide)
     (port_here : port ≡ port_of plan link (flight_in view link wide).turn (D beat))
-    (fits : FitsReply (first_reply (under_in view link).replying) beat) where
+    (fits : FitsReply (first_reply (under_in view link).replying) beat) (marked : IsMarkedBy view.layout.rules beat) where
   abbrev pub scene_at : Layout → ℕ → ℕ → Scene
   scene_at layout w p = once_answered layout link (record {
     under = under_in view link;
@@ -306,25 +310,25 @@ module _ (plan : Plan) (view : GroupView) (link : Link) (beat : ReplyHead) (know
       → IsFirstReplyReason view.layout link (scene_in plan view link (D beat)) beat known lanes reason
   answer_first reason first =
       carried_here (λ s. IsFirstReplyReason view.layout link s beat known lanes reason)
-      (first_answer view.layout link (scene_at view.layout wide port) beat known lanes fits (wide, found) reason
+      (first_answer view.layout link (scene_at view.layout wide port) beat known lanes fits marked (wide, found) reason
       (subst (λ (u : Bool). IsFirstOf (HasAnswerReason (link_number link) (flight_in view link wide).turn
       (under_in view link).bus u beat known) reason_rank reason) (sym unknown_here) first))
 
   pub end_first : (reason : Reason) → AnswersFound
       → IsTrue (ends_reply (under_in view link).bus (under_in view link).replying beat)
-      → HasEndReason (is_given view.layout link port) (crossing_at view.crossings wide) (due_in view link wide port)
+      → HasEndReason (is_given view.layout link port) (wider_bus view.layout link port) (crossing_at view.crossings wide) (due_in view link wide port)
       (captured_in view link wide beat known lanes) reason
       → IsFirstReplyReason view.layout link (scene_in plan view link (D beat)) beat known lanes reason
   end_first reason answers ends has =
       carried_here (λ s. IsFirstReplyReason view.layout link s beat known lanes reason)
-      (first_end view.layout link (scene_at view.layout wide port) beat known lanes fits (wide, found)
+      (first_end view.layout link (scene_at view.layout wide port) beat known lanes fits marked (wide, found)
       (answers_here answers) reason (ends, has))
 
   pub reply_allowed : AnswersFound
       → (IsTrue (ends_reply (under_in view link).bus (under_in view link).replying beat)
-      → IsMust (is_given view.layout link port) (crossing_at view.crossings wide) (due_in view link wide port)
+      → IsMust (is_given view.layout link port) (wider_bus view.layout link port) (crossing_at view.crossings wide) (due_in view link wide port)
       (captured_in view link wide beat known lanes))
       → IsAllowedReply view.layout link (scene_in plan view link (D beat)) beat known lanes
   reply_allowed answers well =
       carried_here (λ s. IsAllowedReply view.layout link s beat known lanes)
-      (record { fits = fits; source = (wide, found); answers = answers_here answers; ends = well })
+      (record { fits = fits; marked = marked; source = (wide, found); answers = answers_here answers; ends = well })

@@ -4,9 +4,9 @@ use Rattle.std.specs.Prelude.{◌≡◌, ℕ, Bool, true, false, List, Option, N
 use Rattle.tl_types.specs.Operation.{reply_op_of}
 use Rattle.tl_types.specs.Request.{Request}
 use Rattle.tl_types.specs.Wire.{reply_opcode_of}
-use Rattle.check_cells.specs.Pattern.{Pattern, FitsPattern}
+use Rattle.check_cells.specs.Pattern.{Pattern, FitsCaptured}
 use Rattle.check_beats.specs.Form.{FitsAsk, FitsReply, IsKnown, IsKnownReply}
-use Rattle.check_beats.specs.Rules.{IsAlignedBy}
+use Rattle.check_beats.specs.Rules.{IsAlignedBy, IsMarkedBy}
 use Rattle.check_beats.specs.State.{first_ask, first_reply, ends_ask, ends_reply, ask_of}
 use Rattle.check_beats.specs.declared.beat.AskHead.{AskHead}
 use Rattle.check_beats.specs.declared.beat.ReplyHead.{ReplyHead}
@@ -19,7 +19,7 @@ use Rattle.check_flight.specs.PortSlave.{may_be_unknown}
 use Rattle.check_watch.specs.declared.beat.Link.{Link}
 use Rattle.check_watch.specs.declared.beat.Link.TheVariants.{Master, Port}
 use Rattle.check_watch.specs.declared.links.Links.TheVariants.{Both}
-use Rattle.check_watch.specs.Plan.{RoutesWide, Layout, HasSource, link_number, are_both}
+use Rattle.check_watch.specs.Plan.{RoutesWide, Layout, HasSource, link_number, are_both, wider_bus}
 use Rattle.check_watch.specs.Scene.{Scene, captured, is_given}
 
 -- ---- requests
@@ -92,23 +92,25 @@ pub record IsAnswer (bus : ℕ) (unknown : Bool) (beat : ReplyHead) (known : ℕ
   pub opcode : beat.opcode ≡ reply_opcode_of (reply_op_of ask.op)
   pub lanes : HasKnownLanes bus unknown ask beat known
 
--- a captured reply is the one that must come: across, the one that the port gave, else one that fits what the port's
--- slave expects
-abbrev pub IsMust : Bool → Crossing → Option Answer → Pattern → Type 0
-IsMust true crossing due reply = IsSomeAnd (given crossing) (λ answer. IsSameReply answer.reply reply)
-IsMust false crossing due reply = IsSomeAnd due (λ answer. FitsPattern answer.reply reply)
+-- a captured reply is the one that must come: across, the one that the port gave, in cuts of the wider of the two buses; else
+-- one that fits what the port's slave expects
+abbrev pub IsMust : Bool → ℕ → Crossing → Option Answer → Pattern → Type 0
+IsMust true wider crossing due reply = IsSomeAnd (given crossing) (λ answer. IsSameReply wider answer.reply reply)
+IsMust false wider crossing due reply = IsSomeAnd due (λ answer. FitsCaptured answer.reply reply)
 
 -- a reply that ends is the one that must come
 abbrev pub EndsWell : Layout → Link → Scene → ReplyHead → ℕ → List ℕ → Type 0
 EndsWell layout link scene beat known lanes =
     IsTrue (ends_reply scene.under.bus scene.under.replying beat)
-    → IsMust (is_given layout link scene.port) scene.crossing scene.flight.due
+    → IsMust (is_given layout link scene.port) (wider_bus layout link scene.port) scene.crossing scene.flight.due
     (captured scene.under scene.flight.turn beat known lanes)
 
 -- a beat of a reply is lawful
 pub record IsAllowedReply (layout : Layout) (link : Link) (scene : Scene) (beat : ReplyHead) (known : ℕ)
     (lanes : List ℕ) : Type 0 where
+  -- it is one of the message under way, and is marked corrupt only if that is allowed
   pub fits : FitsReply (first_reply scene.under.replying) beat
+  pub marked : IsMarkedBy layout.rules beat
   pub source : HasSource layout link beat.source
   -- the request of its source that is in flight has ended, and it answers that
   pub answers : OfAsked (link_number link) scene.flight.turn

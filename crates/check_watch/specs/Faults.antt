@@ -18,7 +18,7 @@ use Rattle.check_watch.specs.declared.fault.Fault.{Fault}
 use Rattle.check_watch.specs.declared.fault.Fault.TheVariants as faults
 use Rattle.check_watch.specs.declared.fault.Reason.{Reason}
 use Rattle.check_watch.specs.declared.fault.Reason.TheVariants.{Form, NoSuchSource, SourceBusy, WrongPort, NoRequest, EarlyReply, OutOfOrder, WrongSize, WrongOpcode, UnknownData, NotSent, NotGiven, WrongReply}
-use Rattle.check_watch.specs.Plan.{Layout, HasSource, link_number}
+use Rattle.check_watch.specs.Plan.{Layout, HasSource, link_number, wider_bus}
 use Rattle.check_watch.specs.Scene.{Scene, captured, is_given}
 use Rattle.check_watch.specs.Allowed.{BeginsFree, BeginsPlaced, EndsSent, OfAsked, HasKnownLanes, IsMust}
 
@@ -61,28 +61,28 @@ HasAnswerReason number turn bus unknown beat known WrongReply = ⊥
 -- a whole reply is not the one that must come, for this reason. `NotGiven` is for what crosses both watched sides,
 -- `WrongReply` for what a slave expects; if nothing is expected at all, nothing was given. After a lawful past that is
 -- never so: a request that has ended has a reply due, or crosses.
-abbrev pub HasEndReason : Bool → Crossing → Option Answer → Pattern → Reason → Type 0
-HasEndReason given crossing due reply (Form fault) = ⊥
-HasEndReason given crossing due reply NoSuchSource = ⊥
-HasEndReason given crossing due reply SourceBusy = ⊥
-HasEndReason given crossing due reply WrongPort = ⊥
-HasEndReason given crossing due reply NoRequest = ⊥
-HasEndReason given crossing due reply EarlyReply = ⊥
-HasEndReason given crossing due reply OutOfOrder = ⊥
-HasEndReason given crossing due reply WrongSize = ⊥
-HasEndReason given crossing due reply WrongOpcode = ⊥
-HasEndReason given crossing due reply UnknownData = ⊥
-HasEndReason given crossing due reply NotSent = ⊥
-HasEndReason given crossing due reply NotGiven =
-    (IsTrue given ⊎ (due ≡ None)) × (IsMust given crossing due reply → ⊥)
-HasEndReason given crossing due reply WrongReply =
-    (given ≡ false) × IsSome due × (IsMust given crossing due reply → ⊥)
+abbrev pub HasEndReason : Bool → ℕ → Crossing → Option Answer → Pattern → Reason → Type 0
+HasEndReason given wider crossing due reply (Form fault) = ⊥
+HasEndReason given wider crossing due reply NoSuchSource = ⊥
+HasEndReason given wider crossing due reply SourceBusy = ⊥
+HasEndReason given wider crossing due reply WrongPort = ⊥
+HasEndReason given wider crossing due reply NoRequest = ⊥
+HasEndReason given wider crossing due reply EarlyReply = ⊥
+HasEndReason given wider crossing due reply OutOfOrder = ⊥
+HasEndReason given wider crossing due reply WrongSize = ⊥
+HasEndReason given wider crossing due reply WrongOpcode = ⊥
+HasEndReason given wider crossing due reply UnknownData = ⊥
+HasEndReason given wider crossing due reply NotSent = ⊥
+HasEndReason given wider crossing due reply NotGiven =
+    (IsTrue given ⊎ (due ≡ None)) × (IsMust given wider crossing due reply → ⊥)
+HasEndReason given wider crossing due reply WrongReply =
+    (given ≡ false) × IsSome due × (IsMust given wider crossing due reply → ⊥)
 
 -- the reply that a beat ends is not the one that must come, for this reason
 abbrev pub EndsWith : Layout → Link → Scene → ReplyHead → ℕ → List ℕ → Reason → Type 0
 EndsWith layout link scene beat known lanes reason =
     IsTrue (ends_reply scene.under.bus scene.under.replying beat)
-    × HasEndReason (is_given layout link scene.port) scene.crossing scene.flight.due
+    × HasEndReason (is_given layout link scene.port) (wider_bus layout link scene.port) scene.crossing scene.flight.due
     (captured scene.under scene.flight.turn beat known lanes) reason
 
 -- the same, as an answer
@@ -94,7 +94,7 @@ AnswersWith link scene beat known reason =
 -- links that are judged together, but one of each link: `check_turns` adds it
 abbrev pub HasReplyReason : Layout → Link → Scene → ReplyHead → ℕ → List ℕ → Reason → Type 0
 HasReplyReason layout link scene beat known lanes (Form fault) =
-    HasReplyFormFault (first_reply scene.under.replying) beat fault
+    HasReplyFormFault layout.rules (first_reply scene.under.replying) beat fault
 HasReplyReason layout link scene beat known lanes NoSuchSource = HasSource layout link beat.source → ⊥
 HasReplyReason layout link scene beat known lanes SourceBusy = ⊥
 HasReplyReason layout link scene beat known lanes WrongPort = ⊥

@@ -1,6 +1,6 @@
 -- What a judge knows of a crossbar ahead: which links are watched, which sources the masters have, which port serves
 -- which addresses, to which ports each master has a path, and which bus each link has. It is this project's own.
-use Rattle.std.specs.Prelude.{◌≡◌, ◌↔◌, ℕ, ◌<◌, Bool, true, false, ◌&&◌, ◌==◌, not, if◌then◌else◌, nat_lt, slice_index_or, List, Option, length}
+use Rattle.std.specs.Prelude.{◌≡◌, ◌↔◌, ℕ, ◌<◌, Bool, true, false, ◌&&◌, ◌==◌, not, max, if◌then◌else◌, nat_lt, slice_index_or, List, Option, length}
 use Rattle.tl_map.specs.declared.range.Range.{Range}
 use Rattle.tl_map.specs.Owner.{IsOf, IsOwned, IsWideSource}
 use Rattle.tl_map.specs.Map.{RoutesBytes}
@@ -129,6 +129,10 @@ buses_of layout AtPorts = layout.port_buses
 -- how many bytes the bus of a link has
 abbrev pub bus_of : Layout → Link → ℕ
 bus_of layout link = bus_at (buses_of layout (side_of link)) (link_number link)
+
+-- how many bytes the wider one has of the bus of a link and of that of a port's link
+abbrev pub wider_bus : Layout → Link → ℕ → ℕ
+wider_bus layout link port = max (bus_of layout link) (bus_at layout.port_buses port)
 
 -- replies of this link begin in the order of their requests
 abbrev pub is_fifo : Layout → Link → Bool

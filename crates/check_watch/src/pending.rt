@@ -75,7 +75,7 @@ impl GroupWatch {
         ensures in_limit { IsInLimit (wides_in self.now) result }
     {
         let under = self.link(link);
-        if under.reply_fault(beat).is_some() || !under.ends_reply(beat) {
+        if under.reply_fault(self.rules(), beat).is_some() || !under.ends_reply(beat) {
             return Change::Nothing;
         }
         match self.wide(link, beat.source) {

@@ -1,5 +1,5 @@
 //! Judging beats of channel D.
-ghost use Rattle.std.specs.Prelude.{◌≡◌, ◌<◌, ◌≤◌, ◌↔◌, length, false, IsTrue, IfOk, OnOk, IfErr, IfSome, IfNone, option_map};
+ghost use Rattle.std.specs.Prelude.{◌≡◌, ℕ, ◌<◌, ◌≤◌, ◌↔◌, length, false, IsTrue, IfOk, OnOk, IfErr, IfSome, IfNone, option_map};
 ghost use Rattle.tl_types.specs.Fault.{IsFirstOf};
 ghost use Rattle.check_beats.specs.Form.{FitsReply};
 ghost use Rattle.check_beats.specs.State.{ends_reply, first_reply};
@@ -8,7 +8,7 @@ ghost use Rattle.check_watch.specs.declared.beat.Beat.TheVariants.{D};
 ghost use Rattle.check_watch.specs.declared.fault.Reason.TheVariants.{WrongReply};
 ghost use Rattle.check_watch.specs.Allowed.{OfAsked, HasKnownLanes, IsAnswer, IsMust, IsAllowedReply};
 ghost use Rattle.check_watch.specs.Faults.{IsWrongReply, HasAnswerReason, HasEndReason, IsFirstReplyReason, reason_rank};
-ghost use Rattle.check_watch.specs.Plan.{Plan, HasLink, link_number};
+ghost use Rattle.check_watch.specs.Plan.{Plan, HasLink, link_number, wider_bus};
 ghost use Rattle.check_watch.specs.Scene.{is_given, seen};
 ghost use Rattle.check_watch.specs.View.{IsPlace, SuitsGroup, wides_in, under_in, crossing_at, scene_in, due_in, captured_in};
 
@@ -66,10 +66,10 @@ pub fn answer_reason(
 
 /// Why a captured reply is not the one that its port's slave expects, at a link to which no port gives one.
 pub fn due_reason(due: Option<&Answer>, reply: &Pattern) -> Option<Reason>
-    ensures reason { (crossing : Crossing) → IfSome result
-        (HasEndReason false crossing (option_map (λ answer. answer.now) due.entry) reply.now) }
-    ensures none { (crossing : Crossing) → IfNone result
-        (IsMust false crossing (option_map (λ answer. answer.now) due.entry) reply.now) }
+    ensures reason { (wider : ℕ) (crossing : Crossing) → IfSome result
+        (HasEndReason false wider crossing (option_map (λ answer. answer.now) due.entry) reply.now) }
+    ensures none { (wider : ℕ) (crossing : Crossing) → IfNone result
+        (IsMust false wider crossing (option_map (λ answer. answer.now) due.entry) reply.now) }
 {
     match due {
         Some(answer) => {
@@ -101,16 +101,17 @@ fn whole_reason(
     requires ends { let under = under_in watch.now link in IsTrue (ends_reply under.bus under.replying beat.now) }
     requires lanes { (under_in watch.now link).bus ≤ length lanes.now }
     ensures reason { IfSome result (HasEndReason (is_given watch.now.layout link place.port)
-        (crossing_at watch.now.crossings place.wide) (due_in watch.now link place.wide place.port)
+        (wider_bus watch.now.layout link place.port) (crossing_at watch.now.crossings place.wide) (due_in watch.now link place.wide place.port)
         (captured_in watch.now link place.wide beat.now known lanes.now)) }
     ensures none { IfNone result (IsMust (is_given watch.now.layout link place.port)
-        (crossing_at watch.now.crossings place.wide) (due_in watch.now link place.wide place.port)
+        (wider_bus watch.now.layout link place.port) (crossing_at watch.now.crossings place.wide) (due_in watch.now link place.wide place.port)
         (captured_in watch.now link place.wide beat.now known lanes.now)) }
 {
     let mut reply = Pattern::blank();
     watch.capture(link, place.wide, beat, known, lanes, &mut reply);
     if watch.is_given(link, place.port) {
-        if watch.crossing(place.wide).gave(&reply) {
+        let wider = watch.wider_bus(link, place.port);
+        if watch.crossing(place.wide).gave(wider, &reply) {
             return None;
         }
         return Some(Reason::NotGiven);
@@ -136,12 +137,12 @@ fn end_reason(
     ensures ends { let under = under_in watch.now link in
         IfSome result (λ reason. IsTrue (ends_reply under.bus under.replying beat.now)) }
     ensures reason { IfSome result (HasEndReason (is_given watch.now.layout link place.port)
-        (crossing_at watch.now.crossings place.wide) (due_in watch.now link place.wide place.port)
+        (wider_bus watch.now.layout link place.port) (crossing_at watch.now.crossings place.wide) (due_in watch.now link place.wide place.port)
         (captured_in watch.now link place.wide beat.now known lanes.now)) }
     ensures none { let under = under_in watch.now link in
         IfNone result (IsTrue (ends_reply under.bus under.replying beat.now)
         → IsMust (is_given watch.now.layout link place.port)
-        (crossing_at watch.now.crossings place.wide) (due_in watch.now link place.wide place.port)
+        (wider_bus watch.now.layout link place.port) (crossing_at watch.now.crossings place.wide) (due_in watch.now link place.wide place.port)
         (captured_in watch.now link place.wide beat.now known lanes.now)) }
 {
     if !watch.link(link).ends_reply(beat) {
@@ -169,7 +170,7 @@ pub fn judge_reply(
     ensures place { IfOk result (IsPlace watch.now link (D beat.now)) }
 {
     let under = watch.link(link);
-    if let Some(fault) = under.reply_fault(beat) {
+    if let Some(fault) = under.reply_fault(watch.rules(), beat) {
         return Err(Reason::Form(fault));
     }
     let Some(source) = watch.wide(link, beat.source) else {
@@ -208,7 +209,7 @@ pub fn wrong_reply(
         → IsWrongReply (scene_in plan watch.now link (D beat.now)) beat.now known lanes.now result }
 {
     let under = watch.link(link);
-    if let Some(_fault) = under.reply_fault(beat) {
+    if let Some(_fault) = under.reply_fault(watch.rules(), beat) {
         return Fault::NotGiven;
     }
     if !under.ends_reply(beat) {

@@ -6,11 +6,11 @@ ghost use Rattle.check_beats.specs.Bus.{bus_bytes};
 ghost use Rattle.check_beats.specs.State.{ends_reply, first_reply};
 ghost use Rattle.check_beats.specs.Form.{FitsReply};
 ghost use Rattle.check_flight.specs.Crossing.Crossing.{Waiting};
-ghost use Rattle.check_flight.specs.Side.{flight_at};
+ghost use Rattle.check_flight.specs.Side.{bus_at, flight_at};
 ghost use Rattle.check_watch.specs.declared.beat.Beat.TheVariants.{D};
 ghost use Rattle.check_beats.specs.declared.beat.ReplyHead.{ReplyHead};
 ghost use Rattle.check_watch.specs.Past.{port_of, slave_at};
-ghost use Rattle.check_watch.specs.Plan.{Plan, IsPlan, RoutesAt, RoutesWide, HasLink, IsWideAt, IsGroupLink, are_both, bus_of, crosses_at_port, is_apart};
+ghost use Rattle.check_watch.specs.Plan.{Plan, IsPlan, RoutesAt, RoutesWide, HasLink, IsWideAt, IsGroupLink, are_both, bus_of, crosses_at_port, is_apart, wider_bus};
 ghost use Rattle.check_watch.specs.Scene.{begins, takes_effect, is_given, must_by};
 ghost use Rattle.check_watch.specs.View.{GroupView, IsSized, wides_in, SuitsGroup, KeepsGroup, own_side, under_in, flight_in, crossing_at, is_answering_in, due_in, captured_in};
 
@@ -18,7 +18,7 @@ use crate::beat::{Beat, Link};
 use crate::fifos::FifoLinks;
 use crate::links::Links;
 use crate::wiring::Wiring;
-use check_beats::{Bus, LinkRules, ReplyHead, UnderWay};
+use check_beats::{Bus, LinkRules, MAX_LANES, ReplyHead, UnderWay};
 use check_cells::Pattern;
 use check_flight::{Answer, Crossing, Flight, FlightPlace, Order, PortSlave, Side};
 use std::alloc::{AllocError, Global};
@@ -206,6 +206,28 @@ impl GroupWatch {
     {
         self.sized();
         self.link(link).bus()
+    }
+
+    /// How many bytes the bus of a port's link has: one, if the port has no link.
+    fn port_bus(&self, port: usize) -> usize
+        ensures value { result ≡ bus_at self.now.layout.port_buses port }
+        ensures some { 0 < result }
+        ensures in_limit { result ≤ MAX_LANES }
+    {
+        match self.wiring.port_buses.get(port) {
+            Some(bus) => bus.bytes(),
+            None => 1,
+        }
+    }
+
+    /// How many bytes the wider one has of the bus of a link and of that of a port's link.
+    pub(crate) fn wider_bus(&self, link: Link, port: usize) -> usize
+        requires known { HasLink self.now.layout link }
+        ensures value { result ≡ wider_bus self.now.layout link port }
+        ensures some { 0 < result }
+        ensures in_limit { result ≤ MAX_LANES }
+    {
+        self.bus(link).bytes().max(self.port_bus(port))
     }
 
     /// When requests of a port take effect.

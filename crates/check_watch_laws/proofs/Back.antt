@@ -1,5 +1,5 @@
 -- Beats that keep the rules at each moment are lawful.
-use Rattle.std.proofs.Common.{◌≡◌, ◌∙◌, ℕ, ◌%◌, ◌^◌, Bool, true, false, List, [], ◌∷◌, length, take, refl, ap, sym, subst}
+use Rattle.std.proofs.Common.{◌≡◌, ◌∙◌, ℕ, ◌%◌, ◌^◌, Bool, true, false, List, [], ◌∷◌, take, refl, ap, sym, subst}
 use Rattle.std.specs.Prelude.{◌&&◌}
 use Rattle.tl_types.specs.Request.{Request}
 use Rattle.check_cells.specs.Pattern.{Pattern}
@@ -18,7 +18,7 @@ use Rattle.check_watch.specs.declared.links.Links.TheVariants.{Both, Masters, Po
 use Rattle.check_watch.specs.Allowed.{IsSent, OfAsked, HasKnownLanes, IsAnswer, IsMust, EndsWell, IsAllowedAsk, IsAllowedReply}
 use Rattle.check_watch.specs.Lawful.{IsLawfulGroup, IsAllowed}
 use Rattle.check_watch.specs.Past.{State, port_in, scene_found, scene_of, state}
-use Rattle.check_watch.specs.Plan.{Plan, IsPlan, Layout, Sighting, side_of, link_number, wide_of, are_both, may_cross, bus_of, HasLink, IsGroupLink}
+use Rattle.check_watch.specs.Plan.{Plan, IsPlan, Layout, Sighting, side_of, link_number, wide_of, are_both, may_cross, route_of, bus_of, wider_bus, HasLink, IsGroupLink}
 use Rattle.check_watch.specs.Plan.LinkSide.{AtMasters, AtPorts}
 use Rattle.check_watch.specs.Scene.{captured, is_given}
 use Rattle.check_watch.proofs.InFlight.{ask_at, reply_at}
@@ -38,7 +38,7 @@ use Rattle.check_watch_laws.proofs.Heads.{AskHeads, ask_heads}
 use Rattle.check_watch_laws.proofs.Links.{links_are, under_by}
 use Rattle.check_watch_laws.proofs.Orders.{due_by_rules}
 use Rattle.check_watch_laws.proofs.Replying.{replies_have_heads}
-use Rattle.check_watch_laws.proofs.Standing.{IsOut, Stands, is_out}
+use Rattle.check_watch_laws.proofs.Standing.{IsOut, Stands, goes_to, is_out}
 use Rattle.check_watch_laws.proofs.Taking.{next_is}
 use Rattle.check_watch_laws.proofs.Whole.{slave_found, unknown_stays}
 
@@ -116,7 +116,7 @@ module _ (plan : Plan) (is_plan : IsPlan plan) (past : List Sighting) (watched :
   abbrev IsWell : Link → ReplyHead → Request → Bool → Type 0
   IsWell at beat ask given =
       let scene = scene_of plan s at (D beat) in
-      IsMust given scene.crossing scene.flight.due (got_now at beat ask.address)
+      IsMust given (wider_bus plan.layout at scene.port) scene.crossing scene.flight.due (got_now at beat ask.address)
 
   -- from a port
   given_so : (at : Link) (beat : ReplyHead) → KeepsRules plan (reply_at at known lanes beat ∷ past) → (ask : Request)
@@ -134,10 +134,13 @@ module _ (plan : Plan) (is_plan : IsPlan plan) (past : List Sighting) (watched :
       (s.flights AtPorts wide).turn =
       subst (λ t. Stands plan wide (story_at plan wide past) t (s.crossings wide)
       (s.flights AtPorts wide).turn) in_flight (all_stand plan is_plan both.0 past watched lawful wide) in
-      given_back plan past lawful m known lanes beat ask in_flight ends out (rules.crossings both.0 wide)
+      let route_is : port_in plan m turn ≡ route_of plan m ask.address ask.size = ap (λ t. port_in plan m t) in_flight in
+      subst (λ p. IsMust true (wider_bus plan.layout (Master m) p) (s.crossings wide)
+      (scene_of plan s (Master m) (D beat)).flight.due (got_now (Master m) beat ask.address)) (sym route_is)
+      (given_back plan past lawful m known lanes beat ask in_flight ends out (rules.crossings both.0 wide)
       (s.crossings wide) (s.flights AtPorts wide).turn
-      (subst (λ b. IsOut plan wide (story_at plan wide past) b ask (s.crossings wide)
-      (s.flights AtPorts wide).turn) out stands)
+      (subst (λ b. IsOut plan wide (story_at plan wide past) b (goes_to plan wide m ask) ask (s.crossings wide)
+      (s.flights AtPorts wide).turn) out stands))
 
   well : (beat : ReplyHead) → KeepsRules plan (reply_at link known lanes beat ∷ past) → (ask : Request)
       → (s.flights (side_of link) (wide_of plan link beat.source)).turn ≡ Asked (link_number link) ask
@@ -152,7 +155,8 @@ module _ (plan : Plan) (is_plan : IsPlan plan) (past : List Sighting) (watched :
       ap (λ t. captured (s.links (side_of link) (link_number link)) t beat known lanes) in_flight
       ∙ ap (λ (u : Under). captured u (Asked (link_number link) ask) beat known lanes) (under_is link)
       ∙ sym (reply_on_bus plan.layout link (replying_at plan.layout link past) ask.address beat known lanes) in
-      subst (λ (r : Pattern). IsMust (is_given plan.layout link found) scene.crossing scene.flight.due r) (sym got_is)
+      subst (λ (r : Pattern). IsMust (is_given plan.layout link found) (wider_bus plan.layout link found)
+      scene.crossing scene.flight.due r) (sym got_is)
       (go (is_given plan.layout link found) refl ends)
     where
       go : (given : Bool) → is_given plan.layout link (scene_found plan s link (D beat)).port ≡ given
@@ -184,9 +188,10 @@ module _ (plan : Plan) (is_plan : IsPlan plan) (past : List Sighting) (watched :
       let lanes_known : HasKnownLanes scene.under.bus (may_be_unknown scene.slave) answering.ask beat known =
       subst (λ n. HasKnownLanes n (may_be_unknown scene.slave) answering.ask beat known) bus
       (subst (λ b. HasKnownLanes (bus_of plan.layout link) b answering.ask beat known) (sym unknown)
-      (seen answering.ask next)) in
+      (seen.1 answering.ask next)) in
       record {
         fits = subst (λ (u : Under). FitsReply (first_reply u.replying) beat) (sym (under_is link)) fits;
+        marked = seen.0;
         source = rules.messages.known.0;
         answers = subst (λ t. OfAsked (link_number link) t
             (IsAnswer scene.under.bus (may_be_unknown scene.slave) beat known)) (sym answering.in_flight) (

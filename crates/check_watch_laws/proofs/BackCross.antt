@@ -17,7 +17,7 @@ use Rattle.check_watch_laws.specs.Crossed.{AskSeen, asking_at, asks}
 use Rattle.check_watch_laws.specs.Crossings.{sent_out, requests_of, MessagesCross}
 use Rattle.check_watch_laws.proofs.BackTurns.{asks_with_ask}
 use Rattle.check_watch_laws.proofs.Crossing.{story_at}
-use Rattle.check_watch_laws.proofs.Standing.{IsOut, is_out, Stands}
+use Rattle.check_watch_laws.proofs.Standing.{IsOut, goes_to, is_out, Stands}
 
 requests_more : (seen : List AskSeen) (last : AskSeen)
     → requests_of (seen ++ last ∷ []) ≡ requests_of seen ++ last.ask ∷ []
@@ -67,7 +67,7 @@ module _ (plan : Plan) (past : List Sighting) (p known : ℕ) (lanes : List ℕ)
   sent_back (Asking n) far there stands = absurd (too_few stands.same)
   sent_back (Asked n sent) far there stands = go (is_out plan wide n sent) far stands
     where
-      go : (out : Bool) (far : Crossing) → IsOut plan wide (story_at plan wide past) out sent far there
+      go : (out : Bool) (far : Crossing) → IsOut plan wide (story_at plan wide past) out (goes_to plan wide n sent) sent far there
           → (record sent { source = ask.source } ≡ ask) × (far ≡ Waiting)
       go false far stands = absurd (too_few stands.same)
       go true Crossed stands = absurd (too_few stands.same)

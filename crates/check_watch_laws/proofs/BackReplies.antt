@@ -1,8 +1,8 @@
 -- Replies of slaves, and replies that cross, are those that must come: the way back from what lawful beats say of replies.
-use Rattle.std.proofs.Common.{◌≡◌, ◌∙◌, ℕ, ◌%◌, ◌^◌, true, false, if◌then◌else◌, List, [], ◌∷◌, ◌++◌, zip, take, Option, Some, None, refl, ap, sym, subst, append-nil}
+use Rattle.std.proofs.Common.{◌≡◌, ◌∙◌, ℕ, ◌%◌, ◌^◌, max, true, false, if◌then◌else◌, List, [], ◌∷◌, ◌++◌, zip, take, Option, Some, None, refl, ap, sym, subst, append-nil}
 use Rattle.std.specs.Prelude.{◌==◌, ◌&&◌, IsSomeAnd}
 use Rattle.tl_types.specs.Request.{Request}
-use Rattle.check_cells.specs.Pattern.{Pattern, FitsPattern}
+use Rattle.check_cells.specs.Pattern.{Pattern, FitsCaptured}
 use Rattle.check_beats.specs.State.{ends_reply, reply_of}
 use Rattle.check_beats.specs.declared.beat.ReplyHead.{ReplyHead}
 use Rattle.check_flight.specs.declared.answer.Answer.{Answer}
@@ -15,7 +15,7 @@ use Rattle.check_watch.specs.declared.beat.Link.{Link}
 use Rattle.check_watch.specs.declared.beat.Link.TheVariants.{Master, Port}
 use Rattle.check_watch.specs.Lawful.{IsLawfulGroup}
 use Rattle.check_watch.specs.Past.{State, scene_found, scene_of, state}
-use Rattle.check_watch.specs.Plan.{Plan, Layout, Sighting, side_of, link_number, wide_of, same_side, bus_of, HasLink, IsGroupLink}
+use Rattle.check_watch.specs.Plan.{Plan, Layout, Sighting, side_of, link_number, wide_of, same_side, bus_of, wider_bus, HasLink, IsGroupLink}
 use Rattle.check_watch.specs.Plan.LinkSide.{AtMasters, AtPorts}
 use Rattle.check_watch.specs.Scene.{takes_effect, is_given}
 use Rattle.check_watch.proofs.InFlight.{reply_at}
@@ -30,7 +30,7 @@ use Rattle.check_watch_laws.proofs.Dues.{IsSourced, are_due}
 use Rattle.check_watch_laws.proofs.Flights.{pending, InStep, in_step}
 use Rattle.check_watch_laws.proofs.Links.{links_are}
 use Rattle.check_watch_laws.proofs.Memory.{owed}
-use Rattle.check_watch_laws.proofs.Standing.{Story, AllGiven, IsOut, is_out, outside_answered}
+use Rattle.check_watch_laws.proofs.Standing.{Story, AllGiven, IsOut, goes_to, is_out, outside_answered}
 use Rattle.check_watch_laws.proofs.Taking.{takes}
 use Rattle.check_watch_laws.proofs.Telling.{at_port, told_at, seen_more, put_last, sourced_late, goes_there, are_told}
 use Rattle.check_watch_laws.proofs.Told.{AreMatched}
@@ -51,19 +51,21 @@ last_entry_of wide (x ∷ seen) last [] rest all are = absurd all
 last_entry_of wide (x ∷ seen) last (e ∷ front) rest all are = last_entry_of wide seen last front rest all.1 are.1
 
 -- a reply that comes to a master was given
-not_all_given : (wide : ℕ) (seen given : List (AskSeen × ReplySeen)) (last : AskSeen × ReplySeen)
-    → AllGiven wide seen given → AreGiven wide (seen ++ last ∷ []) given → ⊥
-not_all_given wide [] [] last all are = are
-not_all_given wide [] (g ∷ given) last all are = all
-not_all_given wide (x ∷ seen) [] last all are = all
-not_all_given wide (x ∷ seen) (g ∷ given) last all are = not_all_given wide seen given last all.1 are.1
+not_all_given : (layout : Layout) (wide : ℕ) (seen given : List (AskSeen × ReplySeen)) (last : AskSeen × ReplySeen)
+    → AllGiven layout wide seen given → AreGiven layout wide (seen ++ last ∷ []) given → ⊥
+not_all_given layout wide [] [] last all are = are
+not_all_given layout wide [] (g ∷ given) last all are = all
+not_all_given layout wide (x ∷ seen) [] last all are = all
+not_all_given layout wide (x ∷ seen) (g ∷ given) last all are = not_all_given layout wide seen given last all.1 are.1
 
-last_given : (wide : ℕ) (seen front : List (AskSeen × ReplySeen)) (last one : AskSeen × ReplySeen)
-    → AllGiven wide seen front → AreGiven wide (seen ++ last ∷ []) (front ++ one ∷ []) → IsGiven wide last one
-last_given wide [] [] last one all are = are.0
-last_given wide [] (g ∷ front) last one all are = absurd all
-last_given wide (x ∷ seen) [] last one all are = absurd all
-last_given wide (x ∷ seen) (g ∷ front) last one all are = last_given wide seen front last one all.1 are.1
+last_given : (layout : Layout) (wide : ℕ) (seen front : List (AskSeen × ReplySeen)) (last one : AskSeen × ReplySeen)
+    → AllGiven layout wide seen front → AreGiven layout wide (seen ++ last ∷ []) (front ++ one ∷ [])
+    → IsGiven layout wide last one
+last_given layout wide [] [] last one all are = are.0
+last_given layout wide [] (g ∷ front) last one all are = absurd all
+last_given layout wide (x ∷ seen) [] last one all are = absurd all
+last_given layout wide (x ∷ seen) (g ∷ front) last one all are =
+    last_given layout wide seen front last one all.1 are.1
 
 -- if a reply is not given by a port, the slave answers here
 effect_of : (layout : Layout) (link : Link) (port : ℕ) → is_given layout link port ≡ false
@@ -81,7 +83,7 @@ owed_entry : (plan : Plan) (port wide n : ℕ) (link : Link) (ask : Request) (du
     → (port_for plan link ask == port) ≡ true
     → owed plan port wide (side_of link) (Asked n ask) due ≡ entry ∷ more → IsSourced (Asked n ask) due
     → IsEntry wide (record { link = link; ask = ask }, reply) entry
-    → IsSomeAnd due (λ answer. FitsPattern answer.reply (reply.reply ask.address))
+    → IsSomeAnd due (λ answer. FitsCaptured answer.reply (reply.reply ask.address))
 owed_entry plan port wide n link ask None entry more reply number goes is sourced one = cc
 owed_entry plan port wide n link ask (Some answer) entry more reply number goes is sourced one =
     let there : link_on (side_of link) n ≡ link = ap (λ k. link_on (side_of link) k) number ∙ own_link link in
@@ -92,7 +94,7 @@ owed_entry plan port wide n link ask (Some answer) entry more reply number goes 
     let same : own ≡ entry = ap (first_entry own) lists in
     let this : IsEntry wide (record { link = link; ask = ask }, reply) own =
     subst (λ e. IsEntry wide (record { link = link; ask = ask }, reply) e) (sym same) one in
-    subst (λ k. FitsPattern (record answer.reply { source = k }) (reply.reply ask.address)) (sym sourced) this.fits
+    subst (λ k. FitsCaptured (record answer.reply { source = k }) (reply.reply ask.address)) (sym sourced) this.fits
 
 -- ---- a reply that ends
 
@@ -150,7 +152,7 @@ module _ (plan : Plan) (past : List Sighting) (watched : AreWatched plan.layout 
   pub memory_back : is_given plan.layout link found ≡ false
       → ((port : ℕ) → (history : List (Request × Pattern))
       × IsDueAt plan (reply_at link known lanes beat ∷ past) port history)
-      → IsSomeAnd due (λ answer. FitsPattern answer.reply (ended_now.reply ask.address))
+      → IsSomeAnd due (λ answer. FitsCaptured answer.reply (ended_now.reply ask.address))
   memory_back given memories =
       let linked = links_are plan past in
       let steps = in_step plan past lawful in
@@ -225,7 +227,7 @@ module _ (plan : Plan) (past : List Sighting) (lawful : IsLawfulGroup plan past)
   abbrev before : List (AskSeen × ReplySeen)
   before = answered_from_outside plan (exchanges plan AtMasters wide past)
 
-  given_now : AreGiven wide (before ++ one ∷ []) (exchanges plan AtPorts wide past)
+  given_now : AreGiven plan.layout wide (before ++ one ∷ []) (exchanges plan AtPorts wide past)
   given_now =
       let step = in_step plan past lawful AtMasters wide in
       let asked_so : asks plan AtMasters wide past ≡ step.done ++ one.0 ∷ [] =
@@ -240,16 +242,24 @@ module _ (plan : Plan) (past : List Sighting) (lawful : IsLawfulGroup plan past)
       ∙ ap (λ b. replies plan AtMasters wide past ++ (if b then got_now ∷ [] else [])) ends)
       ∙ outside_answered plan wide story step.done one.0 one.1 asked_so step.counted
       ∙ ap (λ b. before ++ (if b then one ∷ [] else [])) out in
-      subst (λ l. AreGiven wide l (exchanges plan AtPorts wide past)) seen crossing.given
+      subst (λ l. AreGiven plan.layout wide l (exchanges plan AtPorts wide past)) seen crossing.given
 
-  pub given_back : (far : Crossing) (there : Turn) → IsOut plan wide story true ask far there
-      → IsSomeAnd (given_in far) (λ answer. IsSameReply answer.reply (got_now.reply ask.address))
+  -- the port that the request went to
+  abbrev port : ℕ
+  port = goes_to plan wide m ask
+
+  pub given_back : (far : Crossing) (there : Turn) → IsOut plan wide story true port ask far there
+      → IsSomeAnd (given_in far)
+      (λ answer. IsSameReply (wider_bus plan.layout (Master m) port) answer.reply (got_now.reply ask.address))
   given_back Waiting there stands =
-      absurd (not_all_given wide before (exchanges plan AtPorts wide past) one stands.given given_now)
+      absurd (not_all_given plan.layout wide before (exchanges plan AtPorts wide past) one stands.given given_now)
   given_back Crossed there stands =
-      absurd (not_all_given wide before (exchanges plan AtPorts wide past) one stands.given given_now)
+      absurd (not_all_given plan.layout wide before (exchanges plan AtPorts wide past) one stands.given given_now)
   given_back (Given answer) there stands =
-      let this : IsGiven wide one stands.last =
-      last_given wide before stands.front one stands.last stands.given
-      (subst (λ l. AreGiven wide (before ++ one ∷ []) l) stands.split given_now) in
-      subst (λ (r : Pattern). IsSameReply r (got_now.reply ask.address)) (sym stands.reply_is) this.reply
+      let this : IsGiven plan.layout wide one stands.last =
+      last_given plan.layout wide before stands.front one stands.last stands.given
+      (subst (λ l. AreGiven plan.layout wide (before ++ one ∷ []) l) stands.split given_now) in
+      subst (λ (r : Pattern). IsSameReply (wider_bus plan.layout (Master m) port) r (got_now.reply ask.address))
+      (sym stands.reply_is)
+      (subst (λ (l : Link). IsSameReply (max (bus_of plan.layout (Master m)) (bus_of plan.layout l))
+      (stands.last.1.reply stands.last.0.ask.address) (got_now.reply ask.address)) stands.link_is this.reply)

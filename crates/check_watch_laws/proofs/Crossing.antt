@@ -1,5 +1,5 @@
 -- What lawful beats say of a crossbar both of whose sides are watched.
-use Rattle.std.proofs.Common.{◌≡◌, ◌∙◌, ℕ, ◌%◌, ◌^◌, ◌<◌, ◌⊎◌, inl, inr, Bool, true, false, if◌then◌else◌, List, [], ◌∷◌, ◌++◌, Some, None, length, take, refl, ap, sym, subst, arith, eqb-true, append-nil}
+use Rattle.std.proofs.Common.{◌≡◌, ◌∙◌, ℕ, ◌%◌, ◌^◌, ◌⊎◌, inl, inr, Bool, true, false, if◌then◌else◌, List, [], ◌∷◌, ◌++◌, Some, None, length, take, refl, ap, sym, subst, arith, eqb-true, append-nil}
 use Rattle.std.specs.Prelude.{◌==◌, ◌&&◌}
 use Rattle.std.specs.List.{AllByRecursion}
 use Rattle.tl_types.specs.Request.{Request}
@@ -21,7 +21,7 @@ use Rattle.check_watch.specs.declared.links.Links.TheVariants.{Both}
 use Rattle.check_watch.specs.Allowed.{IsAskedAs, IsMust, IsAllowedAsk, IsAllowedReply}
 use Rattle.check_watch.specs.Lawful.{IsLawfulGroup, IsAllowed}
 use Rattle.check_watch.specs.Past.{State, port_in, scene_of, state, state_after}
-use Rattle.check_watch.specs.Plan.{Plan, IsPlan, Sighting, LinkSide, side_of, link_number, is_of, are_both, may_cross, bus_of, HasLink, HasSource, IsGroupLink, RoutesWide, route_of, seen_at}
+use Rattle.check_watch.specs.Plan.{Plan, IsPlan, Sighting, LinkSide, side_of, link_number, is_of, are_both, may_cross, bus_of, HasLink, HasSource, IsGroupLink, RoutesWide, route_of, wider_bus, seen_at}
 use Rattle.check_watch.specs.Plan.LinkSide.{AtMasters, AtPorts}
 use Rattle.check_watch.specs.Scene.{ask_by, turn_by, captured, flight_after, is_given, given_by}
 use Rattle.check_watch.proofs.InFlight.{ask_at, reply_at}
@@ -33,7 +33,7 @@ use Rattle.check_watch_laws.proofs.Flights.{pending, InStep, nothing_pending, in
 use Rattle.check_watch_laws.proofs.Links.{links_are}
 use Rattle.check_watch_laws.proofs.Placing.{beat_placed, asks_placed_so}
 use Rattle.check_watch_laws.proofs.Replying.{all_more}
-use Rattle.check_watch_laws.proofs.Standing.{Story, IsAtRest, IsOut, is_out, Stands, IsGot, IsTheSent, IsItsGift, master_asks, master_gets, port_asks, port_gives, given_but_one}
+use Rattle.check_watch_laws.proofs.Standing.{Story, IsAtRest, IsOut, goes_to, is_out, Stands, IsGot, IsTheSent, IsItsGift, master_asks, master_gets, port_asks, port_gives, given_but_one}
 use Rattle.check_watch_laws.proofs.Taking.{crosses_there}
 use Rattle.check_watch_laws.proofs.Turns.{asks_fly, open_before, asked_at}
 
@@ -272,7 +272,7 @@ module _ (plan : Plan) (is_plan : IsPlan plan) (both : plan.layout.links ≡ Bot
         (wide_here plan is_plan m beat.source allowed.source) owned.2).1
 
     got : ends_reply_here (Master m) beat ≡ true → is_out plan getter m got_answers.0 ≡ true
-        → IsGot plan getter got_answers.0 got_reply (s.crossings getter)
+        → IsGot plan getter m got_answers.0 got_reply (s.crossings getter)
     got ends out =
         let route_is : port_in plan m
         (s.flights AtMasters getter).turn ≡ route_of plan m got_answers.0.address got_answers.0.size =
@@ -280,12 +280,15 @@ module _ (plan : Plan) (is_plan : IsPlan plan) (both : plan.layout.links ≡ Bot
         let given : is_given plan.layout (Master m) (port_in plan m (s.flights AtMasters getter).turn) ≡ true =
         ap (λ l. are_both l && may_cross plan.layout (port_in plan m (s.flights AtMasters getter).turn)) both
         ∙ ap (λ p. may_cross plan.layout p) route_is ∙ out in
+        let wider : ℕ = wider_bus plan.layout (Master m) (port_in plan m (s.flights AtMasters getter).turn) in
         record {
-          must = subst (λ (r : Pattern). IsMust true (s.crossings getter) got_flight.due r)
+          must = subst (λ p. IsMust true (wider_bus plan.layout (Master m) p) (s.crossings getter) got_flight.due
+              (got_here (Master m) beat got_answers.0.address)) route_is
+              (subst (λ (r : Pattern). IsMust true wider (s.crossings getter) got_flight.due r)
               (got_is (Master m) beat (s.flights AtMasters getter).turn m got_answers.0 got_answers.1)
-              (subst (λ g. IsMust g (s.crossings getter) got_flight.due
+              (subst (λ g. IsMust g wider (s.crossings getter) got_flight.due
               (captured (s.links AtMasters m) (s.flights AtMasters getter).turn beat known lanes)) given
-              (allowed.ends (ends_is (Master m) beat ∙ ends)));
+              (allowed.ends (ends_is (Master m) beat ∙ ends))));
           own = got_own;
         }
 
@@ -359,7 +362,7 @@ module _ (plan : Plan) (is_plan : IsPlan plan) (both : plan.layout.links ≡ Bot
 
     -- the request that ends was sent
     the_sent : ends_ask_here (Port p) beat ≡ true
-        → IsTheSent plan took (s.flights AtMasters took).turn (s.crossings took) (asked_here (Port p) beat)
+        → IsTheSent plan took (s.flights AtMasters took).turn (s.crossings took) p (asked_here (Port p) beat)
     the_sent ends =
         let ends_too : ends_ask took_under.bus took_under.asking beat ≡ true =
         ap (λ (u : Under). ends_ask u.bus u.asking beat) (links_are plan past (Port p)) ∙ ends in
@@ -382,6 +385,7 @@ module _ (plan : Plan) (is_plan : IsPlan plan) (both : plan.layout.links ≡ Bot
           in_flight = found.2;
           same = found.3;
           waits = sent.1;
+          goes = route;
           out = ap (λ r. may_cross plan.layout r) route ∙ crosses;
           own = refl;
         }
@@ -484,7 +488,7 @@ module _ (plan : Plan) (is_plan : IsPlan plan) (both : plan.layout.links ≡ Bot
         (if gift_ends then idle else gift_flight).turn
     own_given =
         let ends = ends_reply_here (Port p) beat in
-        let given = port_gives plan giver (story_at plan giver past) (Port p) p gift_answers.0 gift_step.done
+        let given = port_gives plan giver (story_at plan giver past) p gift_answers.0 gift_step.done
         gift_reply gift_got (s.flights AtMasters giver).turn (s.crossings giver)
         (s.flights AtPorts giver).turn gift_flight.due
         gift_answers.1 gift_asked gift_step.counted (before giver) ends gift in
@@ -552,7 +556,7 @@ module _ (plan : Plan) (past : List Sighting) (wide : ℕ)
   crossing_by turn crossing there stands = go turn crossing stands
     where
       full : sent_out plan wide (asks plan AtMasters wide past) ≡ requests_of (asks plan AtPorts wide past)
-          → AreGiven wide (answered_from_outside plan (exchanges plan AtMasters wide past))
+          → AreGiven plan.layout wide (answered_from_outside plan (exchanges plan AtMasters wide past))
           (exchanges plan AtPorts wide past) → MessagesCross plan past wide
       full same given = record {
         owned = owned;
@@ -563,43 +567,43 @@ module _ (plan : Plan) (past : List Sighting) (wide : ℕ)
       }
 
       none : (given : List (AskSeen × ReplySeen))
-          → AreGiven wide (answered_from_outside plan (exchanges plan AtMasters wide past)) (given ++ [])
-          → AreGiven wide (answered_from_outside plan (exchanges plan AtMasters wide past)) given
-      none given is = subst (λ l. AreGiven wide (answered_from_outside plan (exchanges plan AtMasters wide past)) l)
+          → AreGiven plan.layout wide (answered_from_outside plan (exchanges plan AtMasters wide past)) (given ++ [])
+          → AreGiven plan.layout wide (answered_from_outside plan (exchanges plan AtMasters wide past)) given
+      none given is = subst (λ l. AreGiven plan.layout wide (answered_from_outside plan (exchanges plan AtMasters wide past)) l)
           (append-nil given) is
 
       rest : IsAtRest plan wide story there → MessagesCross plan past wide
       rest stands = full stands.same (none (exchanges plan AtPorts wide past)
-          (given_but_one wide (answered_from_outside plan (exchanges plan AtMasters wide past))
+          (given_but_one plan.layout wide (answered_from_outside plan (exchanges plan AtMasters wide past))
           (exchanges plan AtPorts wide past) [] stands.given (omega arith)))
 
-      out : (out : Bool) (ask : Request) (crossing : Crossing) → IsOut plan wide story out ask crossing there
-          → MessagesCross plan past wide
-      out false ask crossing stands = rest stands
-      out true ask Waiting stands = record {
+      out : (out : Bool) (port : ℕ) (ask : Request) (crossing : Crossing)
+          → IsOut plan wide story out port ask crossing there → MessagesCross plan past wide
+      out false port ask crossing stands = rest stands
+      out true port ask Waiting stands = record {
         owned = owned;
         waiting = record ask { source = wide } ∷ [];
         requests = stands.same;
         one_waits = omega arith;
         given = none (exchanges plan AtPorts wide past)
-            (given_but_one wide (answered_from_outside plan (exchanges plan AtMasters wide past))
+            (given_but_one plan.layout wide (answered_from_outside plan (exchanges plan AtMasters wide past))
             (exchanges plan AtPorts wide past) [] stands.given (omega arith));
       }
-      out true ask Crossed stands =
+      out true port ask Crossed stands =
           full stands.same (none (exchanges plan AtPorts wide past)
-          (given_but_one wide (answered_from_outside plan (exchanges plan AtMasters wide past))
+          (given_but_one plan.layout wide (answered_from_outside plan (exchanges plan AtMasters wide past))
           (exchanges plan AtPorts wide past) [] stands.given (omega arith)))
-      out true ask (Given answer) stands = full stands.same
-          (subst (λ l. AreGiven wide (answered_from_outside plan (exchanges plan AtMasters wide past)) l)
+      out true port ask (Given answer) stands = full stands.same
+          (subst (λ l. AreGiven plan.layout wide (answered_from_outside plan (exchanges plan AtMasters wide past)) l)
           (sym stands.split)
-          (given_but_one wide (answered_from_outside plan (exchanges plan AtMasters wide past)) stands.front
+          (given_but_one plan.layout wide (answered_from_outside plan (exchanges plan AtMasters wide past)) stands.front
           (stands.last ∷ []) stands.given (omega arith)))
 
       go : (turn : Turn) (crossing : Crossing) → Stands plan wide story turn crossing there
           → MessagesCross plan past wide
       go Idle crossing stands = rest stands
       go (Asking n) crossing stands = rest stands
-      go (Asked n ask) crossing stands = out (is_out plan wide n ask) ask crossing stands
+      go (Asked n ask) crossing stands = out (is_out plan wide n ask) (goes_to plan wide n ask) ask crossing stands
 
 pub crossing : (plan : Plan) (past : List Sighting) → IsPlan plan → plan.layout.links ≡ Both
     → AreWatched plan.layout past → IsLawfulGroup plan past → (wide : ℕ) → MessagesCross plan past wide

@@ -1,10 +1,10 @@
 -- A reply that is due has the source of its request; and if it is due as its request is answered, and not before, it is
 -- under way.
-use Rattle.std.proofs.Common.{◌≡◌, ◌∙◌, ℕ, ◌+◌, Bool, true, false, if◌then◌else◌, List, [], ◌∷◌, ◌++◌, Option, Some, None, unwrap_or, refl, ap, sym, subst}
+use Rattle.std.proofs.Common.{◌≡◌, ◌∙◌, ℕ, ◌+◌, Bool, true, false, if◌then◌else◌, List, [], ◌∷◌, ◌++◌, replicate, Option, Some, None, unwrap_or, refl, ap, sym, subst}
 use Rattle.std.specs.Prelude.{◌&&◌}
 use Rattle.tl_types.specs.Request.{Request}
-use Rattle.check_beats.specs.Message.{seen_cells as seen_bytes}
-use Rattle.check_beats.specs.State.{Under, ReplyBegun, first_reply, ends_reply, replied_beats, replied_bytes}
+use Rattle.check_beats.specs.Message.{seen_cells as seen_bytes, is_spoiled}
+use Rattle.check_beats.specs.State.{Under, ReplyBegun, first_reply, ends_reply, replied_beats, replied_bytes, replied_spoiled}
 use Rattle.check_beats.specs.declared.beat.AskHead.{AskHead}
 use Rattle.check_beats.specs.declared.beat.ReplyHead.{ReplyHead}
 use Rattle.check_contests.specs.declared.accepted.Accepted.{Accepted}
@@ -196,7 +196,8 @@ module _ (plan : Plan) (s : State) (same_order : (port : ℕ) → order_at plan 
         let begun : ReplyBegun = record {
           first = unwrap_or (first_reply under.replying) beat;
           beats = replied_beats under.replying + 1;
-          bytes = replied_bytes under.replying ++ seen_bytes beat.denied known lanes 0 under.bus;
+          bytes = replied_bytes under.replying ++ seen_bytes beat known lanes 0 under.bus;
+          spoiled = replied_spoiled under.replying ++ replicate under.bus (is_spoiled beat);
         } in (
           begun,
           ap (λ (h : Bool). (if h then under_after under (D beat) known lanes else under).replying) (own_is link)

@@ -1,11 +1,11 @@
 -- The beats of a message that is under way have the fields of its first beat.
-use Rattle.std.proofs.Common.{arith, length, ◌≡◌, ◌∙◌, ℕ, ◌+◌, Bool, true, false, if◌then◌else◌, List, [], ◌∷◌, ◌++◌, Option, Some, None, slice_get, unwrap_or, refl, ap, sym, subst}
+use Rattle.std.proofs.Common.{arith, length, ◌≡◌, ◌∙◌, ℕ, ◌+◌, Bool, true, false, if◌then◌else◌, List, [], ◌∷◌, ◌++◌, replicate, Option, Some, None, slice_get, unwrap_or, refl, ap, sym, subst}
 use Rattle.check_beats.specs.Bus.{bus_bytes, bus_log}
 use Rattle.check_beats.specs.Form.{SameFields, SameReplyFields}
 use Rattle.check_beats.specs.Laws.{AreFitting, asking, begun, AreFittingReplies, replying, begun_reply}
-use Rattle.check_beats.specs.Message.{ask_part, seen_cells as seen_bytes}
+use Rattle.check_beats.specs.Message.{ask_part, seen_cells as seen_bytes, is_spoiled}
 use Rattle.check_beats.specs.Spelling.{AskBeat, ReplyBeat}
-use Rattle.check_beats.specs.State.{AskBegun, ReplyBegun, first_ask, first_reply, ends_ask, ends_reply, ask_after, reply_after, asked_beats, asked_bytes, replied_beats, replied_bytes}
+use Rattle.check_beats.specs.State.{AskBegun, ReplyBegun, first_ask, first_reply, ends_ask, ends_reply, ask_after, reply_after, asked_beats, asked_bytes, replied_beats, replied_bytes, replied_spoiled}
 use Rattle.check_beats.specs.declared.beat.AskHead.{AskHead}
 use Rattle.check_beats.specs.declared.beat.ReplyHead.{ReplyHead}
 use Rattle.check_beats.specs.declared.bus.Bus.{Bus}
@@ -87,7 +87,8 @@ first_reply_after n kept beat known lanes b = go (ends_reply n kept beat)
     go : (ends : Bool) → (if ends then None else Some (record {
       first = unwrap_or (first_reply kept) beat;
       beats = replied_beats kept + 1;
-      bytes = replied_bytes kept ++ seen_bytes beat.denied known lanes 0 n;
+      bytes = replied_bytes kept ++ seen_bytes beat known lanes 0 n;
+      spoiled = replied_spoiled kept ++ replicate n (is_spoiled beat);
     })) ≡ Some b → (unwrap_or (first_reply kept) beat ≡ b.first) × (ends ≡ false)
     go true is = absurd (cc)
     go false is = (ap (first_reply_in beat) is, refl)

@@ -1,18 +1,18 @@
 -- How far the messages of a wide source have come across.
-use Rattle.std.proofs.Common.{◌≡◌, ◌∙◌, ℕ, ◌≤◌, Bool, true, false, if◌then◌else◌, List, [], ◌∷◌, ◌++◌, length, map, filter, zip, Option, Some, None, refl, ap, sym, subst, append-nil}
+use Rattle.std.proofs.Common.{◌≡◌, ◌∙◌, ℕ, ◌≤◌, max, Bool, true, false, if◌then◌else◌, List, [], ◌∷◌, ◌++◌, length, map, filter, zip, Option, Some, None, refl, ap, sym, subst, append-nil}
 use Rattle.std.specs.Prelude.{IsSomeAnd}
 use Rattle.std.proofs.lemmas.List.{map-append}
 use Rattle.std.proofs.lemmas.List.Elements.{filter-append}
 use Rattle.tl_types.specs.Request.{Request}
-use Rattle.check_cells.specs.Pattern.{Pattern, FitsPattern}
+use Rattle.check_cells.specs.Pattern.{Pattern, FitsCaptured}
 use Rattle.check_flight.specs.declared.answer.Answer.{Answer}
 use Rattle.check_flight.specs.Crossing.{Crossing, given as given_in, IsSameReply}
 use Rattle.check_flight.specs.Crossing.Crossing.{Waiting, Crossed, Given}
 use Rattle.check_flight.specs.Flight.{Turn}
 use Rattle.check_flight.specs.Flight.Turn.{Idle, Asking, Asked}
 use Rattle.check_watch.specs.declared.beat.Link.{Link}
-use Rattle.check_watch.specs.declared.beat.Link.TheVariants.{Master}
-use Rattle.check_watch.specs.Plan.{Plan, may_cross, route_of}
+use Rattle.check_watch.specs.declared.beat.Link.TheVariants.{Master, Port}
+use Rattle.check_watch.specs.Plan.{Plan, Layout, may_cross, route_of, bus_of, wider_bus}
 use Rattle.check_watch.specs.Plan.LinkSide.{AtPorts}
 use Rattle.check_watch.specs.Scene.{turn_by, given_by}
 use Rattle.check_watch_laws.specs.Crossed.{AskSeen, ReplySeen}
@@ -21,25 +21,28 @@ use Rattle.check_watch_laws.specs.Crossings.{goes_out, sent_out, answered_from_o
 use Rattle.check_watch_laws.proofs.Lists.{zip_past, zip_more}
 use Rattle.check_watch_laws.proofs.Flights.{pending}
 
-abbrev pub AllGiven : ℕ → List (AskSeen × ReplySeen) → List (AskSeen × ReplySeen) → Type 0
-AllGiven wide [] [] = Unit {0}
-AllGiven wide [] (one ∷ given) = ⊥
-AllGiven wide (seen ∷ more) [] = ⊥
-AllGiven wide (seen ∷ more) (one ∷ given) = IsGiven wide seen one × AllGiven wide more given
+abbrev pub AllGiven : Layout → ℕ → List (AskSeen × ReplySeen) → List (AskSeen × ReplySeen) → Type 0
+AllGiven layout wide [] [] = Unit {0}
+AllGiven layout wide [] (one ∷ given) = ⊥
+AllGiven layout wide (seen ∷ more) [] = ⊥
+AllGiven layout wide (seen ∷ more) (one ∷ given) = IsGiven layout wide seen one × AllGiven layout wide more given
 
-given_more : (wide : ℕ) (seen given : List (AskSeen × ReplySeen)) (last one : AskSeen × ReplySeen)
-    → AllGiven wide seen given → IsGiven wide last one → AllGiven wide (seen ++ last ∷ []) (given ++ one ∷ [])
-given_more wide [] [] last one all is = (is, tt)
-given_more wide [] (g ∷ given) last one all is = absurd all
-given_more wide (x ∷ seen) [] last one all is = absurd all
-given_more wide (x ∷ seen) (g ∷ given) last one all is = (all.0, given_more wide seen given last one all.1 is)
+given_more : (layout : Layout) (wide : ℕ) (seen given : List (AskSeen × ReplySeen)) (last one : AskSeen × ReplySeen)
+    → AllGiven layout wide seen given → IsGiven layout wide last one
+    → AllGiven layout wide (seen ++ last ∷ []) (given ++ one ∷ [])
+given_more layout wide [] [] last one all is = (is, tt)
+given_more layout wide [] (g ∷ given) last one all is = absurd all
+given_more layout wide (x ∷ seen) [] last one all is = absurd all
+given_more layout wide (x ∷ seen) (g ∷ given) last one all is =
+    (all.0, given_more layout wide seen given last one all.1 is)
 
-pub given_but_one : (wide : ℕ) (seen given rest : List (AskSeen × ReplySeen)) → AllGiven wide seen given
-    → length rest ≤ 1 → AreGiven wide seen (given ++ rest)
-given_but_one wide [] [] rest all few = few
-given_but_one wide [] (g ∷ given) rest all few = absurd all
-given_but_one wide (x ∷ seen) [] rest all few = absurd all
-given_but_one wide (x ∷ seen) (g ∷ given) rest all few = (all.0, given_but_one wide seen given rest all.1 few)
+pub given_but_one : (layout : Layout) (wide : ℕ) (seen given rest : List (AskSeen × ReplySeen))
+    → AllGiven layout wide seen given → length rest ≤ 1 → AreGiven layout wide seen (given ++ rest)
+given_but_one layout wide [] [] rest all few = few
+given_but_one layout wide [] (g ∷ given) rest all few = absurd all
+given_but_one layout wide (x ∷ seen) [] rest all few = absurd all
+given_but_one layout wide (x ∷ seen) (g ∷ given) rest all few =
+    (all.0, given_but_one layout wide seen given rest all.1 few)
 
 -- what has been seen of a wide source: at masters' links and at ports'
 pub record Story : Type 0 where
@@ -56,47 +59,51 @@ module _ (plan : Plan) (wide : ℕ) where
   pub record IsAtRest (story : Story) (there : Turn) : Type 0 where
     pub same : sent_out plan wide story.sent ≡ requests_of story.taken
     pub free : pending AtPorts there ≡ []
-    pub given : AllGiven wide (outside story) (zip story.taken story.gave)
+    pub given : AllGiven plan.layout wide (outside story) (zip story.taken story.gave)
 
   -- this request is, and no port has taken it
   pub record IsSentOut (story : Story) (ask : Request) (there : Turn) : Type 0 where
     pub same : sent_out plan wide story.sent ≡ requests_of story.taken ++ record ask { source = wide } ∷ []
     pub free : pending AtPorts there ≡ []
-    pub given : AllGiven wide (outside story) (zip story.taken story.gave)
+    pub given : AllGiven plan.layout wide (outside story) (zip story.taken story.gave)
 
-  -- a port has it
-  pub record IsTaken (story : Story) (ask : Request) (there : Turn) : Type 0 where
+  -- this port has it
+  pub record IsTaken (story : Story) (port : ℕ) (ask : Request) (there : Turn) : Type 0 where
     pub same : sent_out plan wide story.sent ≡ requests_of story.taken
-    pub port : ℕ
     pub is : there ≡ Asked port (record ask { source = wide })
-    pub given : AllGiven wide (outside story) (zip story.taken story.gave)
+    pub given : AllGiven plan.layout wide (outside story) (zip story.taken story.gave)
 
-  -- a port has given this answer
-  pub record IsBack (story : Story) (ask : Request) (answer : Answer) (there : Turn) : Type 0 where
+  -- this port has given this answer
+  pub record IsBack (story : Story) (port : ℕ) (ask : Request) (answer : Answer) (there : Turn) : Type 0 where
     pub same : sent_out plan wide story.sent ≡ requests_of story.taken
     pub free : pending AtPorts there ≡ []
     pub front : List (AskSeen × ReplySeen)
     pub last : AskSeen × ReplySeen
     pub split : zip story.taken story.gave ≡ front ++ last ∷ []
-    pub given : AllGiven wide (outside story) front
+    pub given : AllGiven plan.layout wide (outside story) front
+    pub link_is : last.0.link ≡ Port port
     pub ask_is : last.0.ask ≡ record ask { source = wide }
     pub reply_is : answer.reply ≡ last.1.reply last.0.ask.address
 
-  abbrev pub IsOut : Story → Bool → Request → Crossing → Turn → Type 0
-  IsOut story false ask crossing there = IsAtRest story there
-  IsOut story true ask Waiting there = IsSentOut story ask there
-  IsOut story true ask Crossed there = IsTaken story ask there
-  IsOut story true ask (Given answer) there = IsBack story ask answer there
+  abbrev pub IsOut : Story → Bool → ℕ → Request → Crossing → Turn → Type 0
+  IsOut story false port ask crossing there = IsAtRest story there
+  IsOut story true port ask Waiting there = IsSentOut story ask there
+  IsOut story true port ask Crossed there = IsTaken story port ask there
+  IsOut story true port ask (Given answer) there = IsBack story port ask answer there
 
-  -- the request of this master goes to a port whose link is judged with the masters'
+  -- the port that the request of this master goes to
+  abbrev pub goes_to : ℕ → Request → ℕ
+  goes_to number ask = route_of plan number ask.address ask.size
+
+  -- its link is judged with the masters'
   abbrev pub is_out : ℕ → Request → Bool
-  is_out number ask = may_cross plan.layout (route_of plan number ask.address ask.size)
+  is_out number ask = may_cross plan.layout (goes_to number ask)
 
   -- by what is in flight at masters' links, how far it has come, and what is in flight at ports'
   abbrev pub Stands : Story → Turn → Crossing → Turn → Type 0
   Stands story Idle crossing there = IsAtRest story there
   Stands story (Asking n) crossing there = IsAtRest story there
-  Stands story (Asked n ask) crossing there = IsOut story (is_out n ask) ask crossing there
+  Stands story (Asked n ask) crossing there = IsOut story (is_out n ask) (goes_to n ask) ask crossing there
 
   -- ---- at masters' links
 
@@ -128,7 +135,7 @@ module _ (plan : Plan) (wide : ℕ) where
   master_asks story n ask false there rest counted = record {
     same = ap (λ l. sent_out plan wide l) (append-nil story.sent) ∙ rest.same;
     free = rest.free;
-    given = subst (λ l. AllGiven wide l (zip story.taken story.gave)) (sym (outside_asked story [] counted)) rest.given;
+    given = subst (λ l. AllGiven plan.layout wide l (zip story.taken story.gave)) (sym (outside_asked story [] counted)) rest.given;
   }
   master_asks story n ask true there rest counted = go (is_out n ask) refl
     where
@@ -136,13 +143,13 @@ module _ (plan : Plan) (wide : ℕ) where
           (record story {
             sent = story.sent ++ record { link = Master n; ask = ask } ∷ [];
             collected = story.collected ++ [];
-          }) out ask Waiting there
+          }) out (goes_to n ask) ask Waiting there
       go true is = record {
         same = sent_more story.sent (record { link = Master n; ask = ask })
             ∙ ap (λ b. sent_out plan wide story.sent ++ (if b then record ask { source = wide } ∷ [] else [])) is
             ∙ ap (λ l. l ++ record ask { source = wide } ∷ []) rest.same;
         free = rest.free;
-        given = subst (λ l. AllGiven wide l (zip story.taken story.gave))
+        given = subst (λ l. AllGiven plan.layout wide l (zip story.taken story.gave))
             (sym (outside_asked story (record { link = Master n; ask = ask } ∷ []) counted)) rest.given;
       }
       go false is = record {
@@ -150,13 +157,14 @@ module _ (plan : Plan) (wide : ℕ) where
             ∙ ap (λ b. sent_out plan wide story.sent ++ (if b then record ask { source = wide } ∷ [] else [])) is
             ∙ append-nil (sent_out plan wide story.sent) ∙ rest.same;
         free = rest.free;
-        given = subst (λ l. AllGiven wide l (zip story.taken story.gave))
+        given = subst (λ l. AllGiven plan.layout wide l (zip story.taken story.gave))
             (sym (outside_asked story (record { link = Master n; ask = ask } ∷ []) counted)) rest.given;
       }
 
   -- the reply that a master gets to a request that went out
-  pub record IsGot (ask : Request) (reply : ReplySeen) (crossing : Crossing) : Type 0 where
-    pub must : IsSomeAnd (given_in crossing) (λ answer. IsSameReply answer.reply (reply.reply ask.address))
+  pub record IsGot (n : ℕ) (ask : Request) (reply : ReplySeen) (crossing : Crossing) : Type 0 where
+    pub must : IsSomeAnd (given_in crossing)
+        (λ answer. IsSameReply (wider_bus plan.layout (Master n) (goes_to n ask)) answer.reply (reply.reply ask.address))
     pub own : (reply.reply ask.address).source ≡ ask.source
 
   -- exchanges with one reply more
@@ -182,7 +190,7 @@ module _ (plan : Plan) (wide : ℕ) where
       (crossing : Crossing) (there : Turn) → story.sent ≡ done ++ record { link = Master n; ask = ask } ∷ []
       → length story.collected ≡ length done
       → Stands story (Asked n ask) crossing there → (ends : Bool)
-      → (ends ≡ true → is_out n ask ≡ true → IsGot ask reply crossing)
+      → (ends ≡ true → is_out n ask ≡ true → IsGot n ask reply crossing)
       → Stands (record story {
         sent = story.sent ++ [];
         collected = story.collected ++ (if ends then reply ∷ [] else []);
@@ -193,8 +201,8 @@ module _ (plan : Plan) (wide : ℕ) where
   master_gets story n ask done reply crossing there is counted stands true got =
       go (is_out n ask) refl crossing stands (got refl)
     where
-      go : (out : Bool) → is_out n ask ≡ out → (crossing : Crossing) → IsOut story out ask crossing there
-          → (is_out n ask ≡ true → IsGot ask reply crossing)
+      go : (out : Bool) → is_out n ask ≡ out → (crossing : Crossing) → IsOut story out (goes_to n ask) ask crossing there
+          → (is_out n ask ≡ true → IsGot n ask reply crossing)
           → IsAtRest (record story {
             sent = story.sent ++ [];
             collected = story.collected ++ reply ∷ [];
@@ -202,7 +210,7 @@ module _ (plan : Plan) (wide : ℕ) where
       go false out crossing stands got = record {
         same = ap (λ l. sent_out plan wide l) (append-nil story.sent) ∙ stands.same;
         free = stands.free;
-        given = subst (λ l. AllGiven wide l (zip story.taken story.gave))
+        given = subst (λ l. AllGiven plan.layout wide l (zip story.taken story.gave))
             (sym (outside_answered story done (record { link = Master n; ask = ask })
             (reply) is counted
             ∙ ap (λ b. outside story ++ (if b then (record { link = Master n; ask = ask }, reply) ∷ [] else [])) out ∙ append-nil (outside story))) stands.given;
@@ -212,9 +220,12 @@ module _ (plan : Plan) (wide : ℕ) where
       go true out (Given answer) stands got =
           let last : AskSeen = record { link = Master n; ask = ask } in
           let this = got out in
-          let one : IsGiven wide (last, reply) stands.last = record {
+          let wider : ℕ = wider_bus plan.layout (Master n) (goes_to n ask) in
+          let one : IsGiven plan.layout wide (last, reply) stands.last = record {
             ask = stands.ask_is;
-            reply = subst (λ (r : Pattern). IsSameReply r (reply.reply ask.address)) stands.reply_is this.must;
+            reply = subst (λ (l : Link). IsSameReply (max (bus_of plan.layout (Master n)) (bus_of plan.layout l))
+                (stands.last.1.reply stands.last.0.ask.address) (reply.reply ask.address)) (sym stands.link_is)
+                (subst (λ (r : Pattern). IsSameReply wider r (reply.reply ask.address)) stands.reply_is this.must);
             source = this.own;
           } in
           let seen : outside story ++ (last, reply)
@@ -224,9 +235,9 @@ module _ (plan : Plan) (wide : ℕ) where
           record {
             same = ap (λ l. sent_out plan wide l) (append-nil story.sent) ∙ stands.same;
             free = stands.free;
-            given = subst (λ l. AllGiven wide l (zip story.taken story.gave)) seen
-                (subst (λ l. AllGiven wide (outside story ++ (last, reply) ∷ []) l) (sym stands.split)
-                (given_more wide (outside story) stands.front (last, reply) stands.last stands.given one));
+            given = subst (λ l. AllGiven plan.layout wide l (zip story.taken story.gave)) seen
+                (subst (λ l. AllGiven plan.layout wide (outside story ++ (last, reply) ∷ []) l) (sym stands.split)
+                (given_more plan.layout wide (outside story) stands.front (last, reply) stands.last stands.given one));
           }
 
   -- ---- at ports' links
@@ -254,10 +265,11 @@ module _ (plan : Plan) (wide : ℕ) where
       record { same = stands.same; free = free; given = stands.given }
   stands_free story (Asked n ask) crossing there later none free stands = go (is_out n ask) crossing stands
     where
-      go : (out : Bool) (crossing : Crossing) → IsOut story out ask crossing there → IsOut story out ask crossing later
+      go : (out : Bool) (crossing : Crossing) → IsOut story out (goes_to n ask) ask crossing there
+          → IsOut story out (goes_to n ask) ask crossing later
       go false crossing stands = record { same = stands.same; free = free; given = stands.given }
       go true Waiting stands = record { same = stands.same; free = free; given = stands.given }
-      go true Crossed stands = absurd (not_pending there stands.port (record ask { source = wide }) stands.is none)
+      go true Crossed stands = absurd (not_pending there (goes_to n ask) (record ask { source = wide }) stands.is none)
       go true (Given answer) stands =
           record {
             same = stands.same;
@@ -266,24 +278,26 @@ module _ (plan : Plan) (wide : ℕ) where
             last = stands.last;
             split = stands.split;
             given = stands.given;
+            link_is = stands.link_is;
             ask_is = stands.ask_is;
             reply_is = stands.reply_is;
           }
 
-  -- the request that a port takes is the one that is out
-  pub record IsTheSent (turn : Turn) (crossing : Crossing) (ask : Request) : Type 0 where
+  -- the request that a port takes is the one that is out, and goes to it
+  pub record IsTheSent (turn : Turn) (crossing : Crossing) (p : ℕ) (ask : Request) : Type 0 where
     pub number : ℕ
     pub sent : Request
     pub in_flight : turn ≡ Asked number sent
     pub same : record sent { source = ask.source } ≡ ask
     pub waits : crossing ≡ Waiting
+    pub goes : goes_to number sent ≡ p
     pub out : is_out number sent ≡ true
     pub own : ask.source ≡ wide
 
   pub port_asks : (story : Story) (link : Link) (p : ℕ) (ask : Request) (turn : Turn) (crossing : Crossing)
       (there : Turn) → pending AtPorts there ≡ [] → length story.taken ≡ length story.gave
       → Stands story turn crossing there
-      → (ends : Bool) → (ends ≡ true → IsTheSent turn crossing ask)
+      → (ends : Bool) → (ends ≡ true → IsTheSent turn crossing p ask)
       → Stands (record story {
         taken = story.taken ++ (if ends then record { link = link; ask = ask } ∷ [] else []);
         gave = story.gave ++ [];
@@ -301,36 +315,36 @@ module _ (plan : Plan) (wide : ℕ) where
       let ask_is : record this.sent { source = wide } ≡ ask =
       ap (λ k. record this.sent { source = k }) (sym this.own) ∙ this.same in
       let out : IsSentOut story this.sent there =
-      subst (λ b. IsOut story b this.sent Waiting there) this.out
-      (subst (λ c. IsOut story (is_out this.number this.sent) this.sent c there) this.waits
+      subst (λ b. IsOut story b (goes_to this.number this.sent) this.sent Waiting there) this.out
+      (subst (λ c. IsOut story (is_out this.number this.sent) (goes_to this.number this.sent) this.sent c there) this.waits
       (subst (λ t. Stands story t crossing there) this.in_flight stands)) in
-      let taken : IsTaken after this.sent (Asked p ask) = record {
+      let taken : IsTaken after (goes_to this.number this.sent) this.sent (Asked p ask) = record {
         same = out.same ∙ ap (λ r. requests_of story.taken ++ r ∷ []) ask_is
             ∙ sym (map-append (λ (one : AskSeen). one.ask) story.taken (record { link = link; ask = ask } ∷ []));
-        port = p;
-        is = ap (λ r. Asked p r) (sym ask_is);
-        given = subst (λ l. AllGiven wide (outside story) l)
+        is = ap (λ r. Asked p r) (sym ask_is)
+            ∙ ap (λ q. Asked q (record this.sent { source = wide })) (sym this.goes);
+        given = subst (λ l. AllGiven plan.layout wide (outside story) l)
             (gave_same story (record { link = link; ask = ask } ∷ []) counted) out.given;
       } in
       subst (λ t. Stands after t Crossed (Asked p ask)) (sym this.in_flight)
-      (subst (λ b. IsOut after b this.sent Crossed (Asked p ask)) (sym this.out) taken)
+      (subst (λ b. IsOut after b (goes_to this.number this.sent) this.sent Crossed (Asked p ask)) (sym this.out) taken)
 
   -- the reply that a port gives
   pub record IsItsGift (ask : Request) (reply : ReplySeen) (got : Pattern) (due : Option Answer) : Type 0 where
-    pub must : IsSomeAnd due (λ answer. FitsPattern answer.reply got)
+    pub must : IsSomeAnd due (λ answer. FitsCaptured answer.reply got)
     pub is : got ≡ reply.reply ask.address
 
-  back : (story : Story) (link : Link) (p : ℕ) (ask : Request) (done : List AskSeen) (reply : ReplySeen)
-      (got : Pattern) (sent : Request) (there : Turn) (due : Option Answer) → there ≡ Asked p ask
-      → story.taken ≡ done ++ record { link = link; ask = ask } ∷ [] → length story.gave ≡ length done
-      → IsTaken story sent there → IsItsGift ask reply got due
+  back : (story : Story) (p : ℕ) (ask : Request) (done : List AskSeen) (reply : ReplySeen)
+      (got : Pattern) (port : ℕ) (sent : Request) (there : Turn) (due : Option Answer) → there ≡ Asked p ask
+      → story.taken ≡ done ++ record { link = Port p; ask = ask } ∷ [] → length story.gave ≡ length done
+      → IsTaken story port sent there → IsItsGift ask reply got due
       → IsOut (record story {
         taken = story.taken ++ [];
         gave = story.gave ++ reply ∷ [];
-      }) true sent (given_by due got Crossed) Idle
-  back story link p ask done reply got sent there None is taken_is counted taken gift = absurd gift.must
-  back story link p ask done reply got sent there (Some answer) is taken_is counted taken gift =
-      let last : AskSeen = record { link = link; ask = ask } in
+      }) true port sent (given_by due got Crossed) Idle
+  back story p ask done reply got port sent there None is taken_is counted taken gift = absurd gift.must
+  back story p ask done reply got port sent there (Some answer) is taken_is counted taken gift =
+      let last : AskSeen = record { link = Port p; ask = ask } in
       let ask_is : ask ≡ record sent { source = wide } = same_ask (sym is ∙ taken.is) in
       record {
         same = taken.same ∙ ap (λ l. requests_of l) (sym (append-nil story.taken));
@@ -342,6 +356,7 @@ module _ (plan : Plan) (wide : ℕ) where
             ∙ ap (λ l. l ++ (last, reply) ∷ []) (sym (zip_past done (last ∷ []) story.gave (sym counted))
             ∙ ap (λ l. zip l story.gave) (sym taken_is));
         given = taken.given;
+        link_is = ap (λ q. Port q) (same_port (sym is ∙ taken.is));
         ask_is = ask_is;
         reply_is = gift.is;
       }
@@ -351,12 +366,20 @@ module _ (plan : Plan) (wide : ℕ) where
       request_in (Asking n) = ask
       request_in (Asked n r) = r
 
-      same_ask : Asked p ask ≡ Asked taken.port (record sent { source = wide }) → ask ≡ record sent { source = wide }
+      same_ask : Asked p ask ≡ Asked port (record sent { source = wide }) → ask ≡ record sent { source = wide }
       same_ask e = ap request_in e
 
-  pub port_gives : (story : Story) (link : Link) (p : ℕ) (ask : Request) (done : List AskSeen) (reply : ReplySeen)
+      port_in : Turn → ℕ
+      port_in Idle = p
+      port_in (Asking n) = p
+      port_in (Asked n r) = n
+
+      same_port : Asked p ask ≡ Asked port (record sent { source = wide }) → p ≡ port
+      same_port e = ap port_in e
+
+  pub port_gives : (story : Story) (p : ℕ) (ask : Request) (done : List AskSeen) (reply : ReplySeen)
       (got : Pattern) (turn : Turn) (crossing : Crossing) (there : Turn) (due : Option Answer) → there ≡ Asked p ask
-      → story.taken ≡ done ++ record { link = link; ask = ask } ∷ []
+      → story.taken ≡ done ++ record { link = Port p; ask = ask } ∷ []
       → length story.gave ≡ length done → Stands story turn crossing there → (ends : Bool)
       → (ends ≡ true → IsItsGift ask reply got due)
       → Stands (record story {
@@ -364,21 +387,22 @@ module _ (plan : Plan) (wide : ℕ) where
         gave = story.gave ++ (if ends then reply ∷ [] else []);
       }) turn
       (if ends then given_by due got crossing else crossing) (if ends then Idle else there)
-  port_gives story link p ask done reply got turn crossing there due is taken_is counted stands false gift =
+  port_gives story p ask done reply got turn crossing there due is taken_is counted stands false gift =
       subst (λ s. Stands s turn crossing there) (taken_same story) stands
-  port_gives story link p ask done reply got Idle crossing there due is taken_is counted stands true gift =
+  port_gives story p ask done reply got Idle crossing there due is taken_is counted stands true gift =
       absurd (not_pending there p ask is stands.free)
-  port_gives story link p ask done reply got (Asking n) crossing there due is taken_is counted stands true gift =
+  port_gives story p ask done reply got (Asking n) crossing there due is taken_is counted stands true gift =
       absurd (not_pending there p ask is stands.free)
-  port_gives story link p ask done reply got (Asked n sent) crossing there due is taken_is counted stands true gift =
+  port_gives story p ask done reply got (Asked n sent) crossing there due is taken_is counted stands true gift =
       go (is_out n sent) crossing stands
     where
-      go : (out : Bool) (crossing : Crossing) → IsOut story out sent crossing there
+      go : (out : Bool) (crossing : Crossing) → IsOut story out (goes_to n sent) sent crossing there
           → IsOut (record story {
             taken = story.taken ++ [];
             gave = story.gave ++ reply ∷ [];
-          }) out sent (given_by due got crossing) Idle
+          }) out (goes_to n sent) sent (given_by due got crossing) Idle
       go false crossing stands = absurd (not_pending there p ask is stands.free)
       go true Waiting stands = absurd (not_pending there p ask is stands.free)
       go true (Given answer) stands = absurd (not_pending there p ask is stands.free)
-      go true Crossed stands = back story link p ask done reply got sent there due is taken_is counted stands (gift refl)
+      go true Crossed stands =
+          back story p ask done reply got (goes_to n sent) sent there due is taken_is counted stands (gift refl)

@@ -3,7 +3,7 @@ use Rattle.std.proofs.Common.{◌≡◌, ◌∙◌, ℕ, ◌%◌, ◌^◌, Bool,
 use Rattle.std.specs.Prelude.{◌==◌, ◌&&◌, IsSomeAnd}
 use Rattle.std.proofs.lemmas.List.Elements.{filter-append}
 use Rattle.tl_types.specs.Request.{Request}
-use Rattle.check_cells.specs.Pattern.{Pattern, FitsPattern}
+use Rattle.check_cells.specs.Pattern.{Pattern, FitsCaptured}
 use Rattle.check_beats.specs.Spelling.{ReplyBeat}
 use Rattle.check_beats.specs.State.{Under, ReplyBegun, ends_reply, reply_of}
 use Rattle.check_beats.specs.declared.beat.AskHead.{AskHead}
@@ -22,7 +22,7 @@ use Rattle.check_watch.specs.declared.beat.Link.TheVariants.{Master, Port}
 use Rattle.check_watch.specs.Allowed.{IsMust, IsAllowedAsk, IsAllowedReply}
 use Rattle.check_watch.specs.Lawful.{IsLawfulGroup, IsAllowed}
 use Rattle.check_watch.specs.Past.{State, scene_found, scene_of, state, state_after}
-use Rattle.check_watch.specs.Plan.{Plan, Layout, Sighting, LinkSide, side_of, link_number, wide_of, same_side, crosses_at_port, is_of, bus_of, HasLink, IsGroupLink}
+use Rattle.check_watch.specs.Plan.{Plan, Layout, Sighting, LinkSide, side_of, link_number, wide_of, same_side, crosses_at_port, is_of, bus_of, wider_bus, HasLink, IsGroupLink}
 use Rattle.check_watch.specs.Scene.{ask_by, ask_if, takes_effect, begins_reply, is_given, captured, flight_after}
 use Rattle.check_watch.proofs.InFlight.{ask_at, reply_at, of_is}
 use Rattle.check_watch_laws.specs.Crossed.{AskSeen, ReplySeen, AreWatched, reply_beat, replying_at, begun_replies_at, ask_ended, reply_ended, asks, replies}
@@ -250,7 +250,7 @@ owed_off plan port wide n link ask (Some answer) off is =
 last_entry : (plan : Plan) (port wide : ℕ) (link : Link) (ask : Request) (reply : ℕ → Pattern) (beats : List ReplyBeat)
     (seen : List (AskSeen × ReplySeen)) (front : List (Request × Pattern)) (due : Option Answer)
     → (port_for plan link ask == port) ≡ true → IsSourced (Asked (link_number link) ask) due
-    → IsSomeAnd due (λ answer. FitsPattern answer.reply (reply ask.address)) → AreMatched wide seen front
+    → IsSomeAnd due (λ answer. FitsCaptured answer.reply (reply ask.address)) → AreMatched wide seen front
     → AreMatched wide (seen ++ (
       record { link = link; ask = ask },
       record { link = link; reply = reply; beats = beats },
@@ -267,7 +267,7 @@ last_entry plan port wide link ask reply beats seen front (Some answer) goes sou
     ap (λ k. record answer.reply { source = k }) (sym sourced) in
     let is : IsEntry wide last entry = record {
       ask = refl;
-      fits = subst (λ (r : Pattern). FitsPattern r (reply ask.address)) (sym same) must;
+      fits = subst (λ (r : Pattern). FitsCaptured r (reply ask.address)) (sym same) must;
     } in
     let owed_is : entry ∷ [] ≡ owed plan port wide (side_of link) (Asked (link_number link) ask) (Some answer) =
     ap (λ (b : Bool). if b then entry ∷ [] else [])
@@ -497,9 +497,9 @@ module _ (plan : Plan) (s : State) (past : List Sighting) (linked : LinksAre pla
           let effective : takes_effect plan.layout link goes_to ≡ true =
           takes plan.layout link goes_to has watched (port_own plan link here.turn (D beat))
           ∙ ap (λ p. same_side (side_of link) (side_for plan.layout p)) there ∙ seen_here in
-          let must : IsSomeAnd late_due (λ answer. FitsPattern answer.reply (got answers.0.address)) =
-          subst (λ (r : Pattern). IsMust false (s.crossings mine) late_due r) captured_is
-          (subst (λ given. IsMust given (s.crossings mine) late_due
+          let must : IsSomeAnd late_due (λ answer. FitsCaptured answer.reply (got answers.0.address)) =
+          subst (λ (r : Pattern). IsMust false (wider_bus plan.layout link goes_to) (s.crossings mine) late_due r) captured_is
+          (subst (λ given. IsMust given (wider_bus plan.layout link goes_to) (s.crossings mine) late_due
           (captured (s.links (side_of link) (link_number link)) here.turn beat known lanes))
           (not_given plan.layout link goes_to effective) (allowed.ends (ends_is ∙ ends))) in
           subst (λ b. AreMatched mine (at_port plan port asked_now answered_now

@@ -13,7 +13,7 @@ use Rattle.check_contests.specs.Moments.SlaveMoment.{Accepts as SlaveAccepts, Ta
 use Rattle.check_contests.specs.Moments.Course.{Idle, Waiting, Served}
 use Rattle.check_contests.proofs.AcceptedSlave.{accepting_keeps}
 use Rattle.check_contests.proofs.Answering.{answering_keeps}
-use Rattle.check_contests.proofs.Expected.{fits_through}
+use Rattle.check_contests.proofs.Expected.{captured_through}
 use Rattle.check_contests.proofs.Runs.{answer_is_due, reset_is_below}
 use Rattle.check_contests.proofs.Serving.{serving_keeps}
 use Rattle.check_memory.specs.declared.slave.Slave.{Slave}
@@ -89,7 +89,7 @@ entries_due wide (x ∷ seen) (d ∷ dues) [] all are = absurd all
 entries_due wide (x ∷ seen) (d ∷ dues) (g ∷ given) all are = (
   record {
     ask = all.0.ask ∙ are.0.ask;
-    fits = fits_through (record d.1 { source = x.0.ask.source }) (record g.1 { source = x.0.ask.source })
+    fits = captured_through (record d.1 { source = x.0.ask.source }) (record g.1 { source = x.0.ask.source })
         (x.1.reply x.0.ask.address) (with_source d.1 g.1 x.0.ask.source all.0.fits) are.0.fits;
   },
   entries_due wide seen dues given all.1 are.1,

@@ -1,4 +1,5 @@
--- Each lane of a lawful beat that carries a byte, and has to be known, was known.
+-- Each lane of a lawful beat that carries a byte, and has to be known, was known; and a lawful beat of a reply is marked corrupt
+-- only if that is allowed.
 use Rattle.std.proofs.Common.{◌≡◌, ◌∙◌, ℕ, Bool, true, false, if◌then◌else◌, List, [], ◌∷◌, refl, ap, sym, subst, eqb-true}
 use Rattle.std.specs.Prelude.{◌==◌}
 use Rattle.tl_types.specs.Request.{Request}
@@ -63,22 +64,25 @@ all_compliant plan (x ∷ past) lawful = (all_compliant plan past lawful.0, go x
     go : (beat : Beat) → IsAllowed plan (scene_of plan (state plan past) x.link beat)
         (record x { beat = beat }) → IsCompliant plan past (record x { beat = beat }) beat
     go (A beat) allowed = (allowed.aligned, allowed.known_lanes)
-    go (D beat) allowed = λ ask next.
-        let s = state plan past in
-        let wide = wide_of plan x.link beat.source in
-        let turn = (s.flights (side_of x.link) wide).turn in
-        let here = scene_of plan s x.link (D beat) in
-        let found = asked_at (link_number x.link) turn
-        (IsAnswer here.under.bus (may_be_unknown here.slave) beat x.known) allowed.answers in
-        let also = next_is plan past x.link wide turn found.0 (in_step plan past lawful.0 (side_of x.link) wide) found.1
-        in
-        let same : found.0 ≡ ask = ap (λ l. ask_in ask l) (sym also ∙ next) in
-        let unknown : may_be_unknown here.slave ≡ may_be_unknown (reset_of plan (port_for plan x.link found.0)) =
-        slave_found plan s x.link (D beat) ∙ unknown_stays plan past here.port
-        ∙ ap (λ p. may_be_unknown (reset_of plan p)) (sym (reply_goes plan x.link turn (link_number x.link) beat found.0
-        found.1)) in
-        let bus : here.under.bus ≡ bus_of plan.layout x.link = ap (λ (u : Under). u.bus) (links_are plan past x.link) in
-        subst (λ r. HasKnownLanes (bus_of plan.layout x.link)
-        (may_be_unknown (reset_of plan (port_for plan x.link r))) r beat x.known) same
-        (subst (λ b. HasKnownLanes (bus_of plan.layout x.link) b found.0 beat x.known) unknown
-        (subst (λ n. HasKnownLanes n (may_be_unknown here.slave) found.0 beat x.known) bus found.2.lanes))
+    go (D beat) allowed = (
+      allowed.marked,
+      λ ask next.
+          let s = state plan past in
+          let wide = wide_of plan x.link beat.source in
+          let turn = (s.flights (side_of x.link) wide).turn in
+          let here = scene_of plan s x.link (D beat) in
+          let found = asked_at (link_number x.link) turn
+          (IsAnswer here.under.bus (may_be_unknown here.slave) beat x.known) allowed.answers in
+          let also = next_is plan past x.link wide turn found.0 (in_step plan past lawful.0 (side_of x.link) wide) found.1
+          in
+          let same : found.0 ≡ ask = ap (λ l. ask_in ask l) (sym also ∙ next) in
+          let unknown : may_be_unknown here.slave ≡ may_be_unknown (reset_of plan (port_for plan x.link found.0)) =
+          slave_found plan s x.link (D beat) ∙ unknown_stays plan past here.port
+          ∙ ap (λ p. may_be_unknown (reset_of plan p)) (sym (reply_goes plan x.link turn (link_number x.link) beat found.0
+          found.1)) in
+          let bus : here.under.bus ≡ bus_of plan.layout x.link = ap (λ (u : Under). u.bus) (links_are plan past x.link) in
+          subst (λ r. HasKnownLanes (bus_of plan.layout x.link)
+          (may_be_unknown (reset_of plan (port_for plan x.link r))) r beat x.known) same
+          (subst (λ b. HasKnownLanes (bus_of plan.layout x.link) b found.0 beat x.known) unknown
+          (subst (λ n. HasKnownLanes n (may_be_unknown here.slave) found.0 beat x.known) bus found.2.lanes)),
+    )

@@ -1,12 +1,12 @@
 -- What lawful beats say of a crossbar both of whose sides are watched: what its ports are asked is what its masters
 -- asked, and what its masters are answered is what its ports answered. It is this project's own.
-use Rattle.std.specs.Prelude.{◌≡◌, ℕ, ◌≤◌, Bool, List, [], ◌∷◌, ◌++◌, length, map, filter}
+use Rattle.std.specs.Prelude.{◌≡◌, ℕ, ◌≤◌, max, Bool, List, [], ◌∷◌, ◌++◌, length, map, filter}
 use Rattle.std.specs.List.{AllByRecursion}
 use Rattle.tl_types.specs.Request.{Request}
 use Rattle.tl_map.specs.Owner.{IsWideSource}
 use Rattle.check_flight.specs.Crossing.{IsSameReply}
 use Rattle.check_watch.specs.declared.beat.Link.TheVariants.{Master}
-use Rattle.check_watch.specs.Plan.{Plan, Layout, Sighting, may_cross}
+use Rattle.check_watch.specs.Plan.{Plan, Layout, Sighting, may_cross, bus_of}
 use Rattle.check_watch.specs.Plan.LinkSide.{AtMasters, AtPorts}
 use Rattle.check_watch_laws.specs.Crossed.{AskSeen, ReplySeen, asks, exchanges}
 use Rattle.check_watch_laws.specs.Memories.{port_for, widened}
@@ -32,18 +32,19 @@ answered_from_outside plan seen = filter (λ (one : AskSeen × ReplySeen). goes_
 abbrev pub requests_of : List AskSeen → List Request
 requests_of seen = map (λ (one : AskSeen). one.ask) seen
 
--- what a master saw is what a port saw: the request, and the reply as it was captured, each the same but for the source;
--- and the master saw its own source in both
-pub record IsGiven (wide : ℕ) (at_master at_port : AskSeen × ReplySeen) : Type 0 where
+-- what a master saw is what a port saw: the request, and the reply as it was captured, in cuts of the wider of the two buses, each
+-- the same but for the source; and the master saw its own source in both
+pub record IsGiven (layout : Layout) (wide : ℕ) (at_master at_port : AskSeen × ReplySeen) : Type 0 where
   pub ask : at_port.0.ask ≡ widened wide at_master.0
-  pub reply : IsSameReply (at_port.1.reply at_port.0.ask.address) (at_master.1.reply at_master.0.ask.address)
+  pub reply : IsSameReply (max (bus_of layout at_master.0.link) (bus_of layout at_port.0.link))
+      (at_port.1.reply at_port.0.ask.address) (at_master.1.reply at_master.0.ask.address)
   pub source : (at_master.1.reply at_master.0.ask.address).source ≡ at_master.0.ask.source
 
 -- one by one; one reply more may have been given, and not come to its master yet
-abbrev pub AreGiven : ℕ → List (AskSeen × ReplySeen) → List (AskSeen × ReplySeen) → Type 0
-AreGiven wide [] given = length given ≤ 1
-AreGiven wide (seen ∷ more) [] = ⊥
-AreGiven wide (seen ∷ more) (one ∷ given) = IsGiven wide seen one × AreGiven wide more given
+abbrev pub AreGiven : Layout → ℕ → List (AskSeen × ReplySeen) → List (AskSeen × ReplySeen) → Type 0
+AreGiven layout wide [] given = length given ≤ 1
+AreGiven layout wide (seen ∷ more) [] = ⊥
+AreGiven layout wide (seen ∷ more) (one ∷ given) = IsGiven layout wide seen one × AreGiven layout wide more given
 
 -- the messages of a wide source cross
 pub record MessagesCross (plan : Plan) (past : List Sighting) (wide : ℕ) : Type 0 where
@@ -55,5 +56,5 @@ pub record MessagesCross (plan : Plan) (past : List Sighting) (wide : ℕ) : Typ
       ++ waiting
   pub one_waits : length waiting ≤ 1
   -- a reply to a request that went out is the one that the port gave to it
-  pub given : AreGiven wide (answered_from_outside plan (exchanges plan AtMasters wide past))
+  pub given : AreGiven plan.layout wide (answered_from_outside plan (exchanges plan AtMasters wide past))
       (exchanges plan AtPorts wide past)

@@ -3,9 +3,9 @@
 -- What a memory does is the chapter "TL-UL and TL-UH operations" of the TileLink specification (`Slave.antt` of
 -- `check_memory`); unknown bytes, devices, in which order requests take effect, and where this is seen is this project's
 -- own.
-use Rattle.std.specs.Prelude.{◌≡◌, ℕ, ◌≤◌, Bool, true, false, ◌&&◌, ◌==◌, if◌then◌else◌, nat_lt, List, [], ◌∷◌, ◌++◌, length, map, filter, take, Some, slice_get}
+use Rattle.std.specs.Prelude.{◌≡◌, ℕ, ◌≤◌, Bool, true, false, ◌&&◌, ◌==◌, if◌then◌else◌, List, [], ◌∷◌, ◌++◌, length, map, filter, take, Some, slice_get}
 use Rattle.tl_types.specs.Request.{Request}
-use Rattle.check_cells.specs.Pattern.{Pattern, FitsPattern}
+use Rattle.check_cells.specs.Pattern.{Pattern, FitsCaptured}
 use Rattle.check_memory.specs.Slave.{expected_of}
 use Rattle.check_flight.specs.declared.order.Order.{Order}
 use Rattle.check_flight.specs.declared.order.Order.TheVariants.{Accept, Reply, Any}
@@ -106,7 +106,7 @@ IsSlaveHistory reset history =
 -- which is the master's own if they were seen at a master's link
 pub record IsEntry (wide : ℕ) (seen : AskSeen × ReplySeen) (entry : Request × Pattern) : Type 0 where
   pub ask : entry.0 ≡ widened wide seen.0
-  pub fits : FitsPattern (record entry.1 { source = seen.0.ask.source }) (seen.1.reply seen.0.ask.address)
+  pub fits : FitsCaptured (record entry.1 { source = seen.0.ask.source }) (seen.1.reply seen.0.ask.address)
 
 -- entries of a history are those of captured requests and replies, one by one; one request more may be done, and not
 -- answered yet

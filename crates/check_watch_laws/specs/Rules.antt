@@ -3,7 +3,7 @@ use Rattle.std.specs.Prelude.{◌≡◌, ◌≢◌, ℕ, List, [], ◌∷◌, �
 use Rattle.tl_types.specs.Request.{Request}
 use Rattle.check_cells.specs.Pattern.{Pattern}
 use Rattle.check_beats.specs.Form.{IsKnown}
-use Rattle.check_beats.specs.Rules.{IsAlignedBy}
+use Rattle.check_beats.specs.Rules.{IsAlignedBy, IsMarkedBy}
 use Rattle.check_flight.specs.declared.order.Order.TheVariants.{Any}
 use Rattle.check_flight.specs.PortSlave.{may_be_unknown}
 use Rattle.check_watch.specs.declared.beat.Beat.{Beat}
@@ -35,17 +35,19 @@ AlwaysKeepsRules plan past = (later earlier : List Sighting) → later ++ earlie
 
 -- ---- what is asked of each beat alone
 
--- the address of a request is a multiple of its size, if that is asked; and each lane of a beat that carries a byte was
+-- the address of a request is a multiple of its size, if that is asked; a beat of a reply is marked corrupt only if that is
+-- allowed; and each lane of a beat that carries a byte was
 -- known: of a request, and of a reply if its port's slave may leave none unknown. Which lanes of a reply carry one is told by
 -- the request that it answers
 abbrev pub IsCompliant : Plan → List Sighting → Sighting → Beat → Type 0
 IsCompliant plan past x (A beat) = IsAlignedBy plan.layout.rules beat × IsKnown beat x.known
 IsCompliant plan past x (D beat) =
-    (ask : Request)
+    IsMarkedBy plan.layout.rules beat
+    × ((ask : Request)
     → next_answered plan (side_of x.link) (wide_of plan x.link beat.source) past
     ≡ record { link = x.link; ask = ask } ∷ []
     → HasKnownLanes (bus_of plan.layout x.link) (may_be_unknown (reset_of plan (port_for plan x.link ask))) ask beat
-    x.known
+    x.known)
 
 -- each of these beats is compliant by itself, after those before it.
 abbrev pub AreCompliant : Plan → List Sighting → Type 0

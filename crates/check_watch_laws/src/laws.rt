@@ -65,8 +65,9 @@ pub fn messages_cross()
 {}
 
 /// What `lawful` means: at each moment the beats so far are whole messages that come in turn, the replies fit what the
-/// slaves may reply, and messages cross; each request has an address that is a multiple of its size, if that is asked; and each
-/// lane that carries a byte, and has to be known, was known.
+/// slaves may reply, and messages cross; each request has an address that is a multiple of its size, if that is asked; data of a
+/// reply that is not denied are marked corrupt only if that is allowed; and each lane that carries a byte, and has to be known,
+/// was known.
 pub fn lawful_beats_keep_the_rules()
     ensures rules { (plan : Plan) (past : List Sighting) → IsPlan plan → AreWatched plan.layout past → IsLawfulGroup plan past
         → AlwaysKeepsRules plan past }

@@ -322,52 +322,54 @@ resets-same : (members : Members) (told : Bool) (rules : SystemRules) → resets
     → rules_in members ≡ Ok rules → told ≡ rules.resets
 unfolding rules_in flag_at
 resets-same members told rules is ruled =
-    go (flag_at part.Unaligned members) (by_address_in members) (get_member (system_key.key_name part.Resets) members)
-    (number_if_any part.Period 1 last_integer members) is ruled
+    go (flag_at part.Unaligned members) (flag_at part.Corrupt members) (by_address_in members)
+    (get_member (system_key.key_name part.Resets) members) (number_if_any part.Period 1 last_integer members) is ruled
   where
-    by : (flag : Option Bool) (n : Result (Option ℕ) SystemFault) (unaligned by_address : Bool)
+    by : (flag : Option Bool) (n : Result (Option ℕ) SystemFault) (unaligned corrupt by_address : Bool)
         → ◌>>=◌ (if_any (λ (b : Option Bool). ok_or b (key_fault.WrongType key.Resets)) (Some flag))
         (λ resets. Ok (unwrap_or resets false)) ≡ Ok told
         → (if_any (λ (b : Option Bool). ok_or b (fault.WrongType part.Resets)) (Some flag)
         >>= (λ f. Ok (unwrap_or f false))
         >>= (λ resets. n >>= (λ period. Ok (record {
-          links = record { unaligned = unaligned; by_address = by_address; period = unwrap_or period 1 };
+          links = record { unaligned = unaligned; corrupt = corrupt; by_address = by_address; period = unwrap_or period 1 };
           resets = resets;
         })))) ≡ Ok rules
         → told ≡ rules.resets
-    by None n unaligned by_address x y = absurd (cc)
-    by (Some flag) (Err e) unaligned by_address x y = absurd (cc)
-    by (Some flag) (Ok period) unaligned by_address x y =
+    by None n unaligned corrupt by_address x y = absurd (cc)
+    by (Some flag) (Err e) unaligned corrupt by_address x y = absurd (cc)
+    by (Some flag) (Ok period) unaligned corrupt by_address x y =
         let one : flag ≡ told = cc in
         let made : SystemRules = record {
-          links = record { unaligned = unaligned; by_address = by_address; period = unwrap_or period 1 };
+          links = record { unaligned = unaligned; corrupt = corrupt; by_address = by_address; period = unwrap_or period 1 };
           resets = flag;
         } in
         let same : made ≡ rules = cc in
         sym one ∙ ap (λ (r : SystemRules). r.resets) same
 
-    go : (u a : Result Bool SystemFault) (o : Option Data) (n : Result (Option ℕ) SystemFault)
+    go : (u c a : Result Bool SystemFault) (o : Option Data) (n : Result (Option ℕ) SystemFault)
         → ◌>>=◌ (if_any (λ value. ok_or (as_bool value) (key_fault.WrongType key.Resets)) o)
         (λ resets. Ok (unwrap_or resets false)) ≡ Ok told
-        → (u >>= (λ unaligned. a >>= (λ by_address.
+        → (u >>= (λ unaligned. c >>= (λ corrupt. a >>= (λ by_address.
         if_any (flag_of part.Resets) o >>= (λ flag. Ok (unwrap_or flag false))
         >>= (λ resets. n >>= (λ period. Ok (record {
-          links = record { unaligned = unaligned; by_address = by_address; period = unwrap_or period 1 };
+          links = record { unaligned = unaligned; corrupt = corrupt; by_address = by_address; period = unwrap_or period 1 };
           resets = resets;
-        })))))) ≡ Ok rules
+        }))))))) ≡ Ok rules
         → told ≡ rules.resets
-    go (Err e) a o n x y = absurd (cc)
-    go (Ok unaligned) (Err e) o n x y = absurd (cc)
-    go (Ok unaligned) (Ok by_address) None (Err e) x y = absurd (cc)
-    go (Ok unaligned) (Ok by_address) None (Ok period) x y =
+    go (Err e) c a o n x y = absurd (cc)
+    go (Ok unaligned) (Err e) a o n x y = absurd (cc)
+    go (Ok unaligned) (Ok corrupt) (Err e) o n x y = absurd (cc)
+    go (Ok unaligned) (Ok corrupt) (Ok by_address) None (Err e) x y = absurd (cc)
+    go (Ok unaligned) (Ok corrupt) (Ok by_address) None (Ok period) x y =
         let one : false ≡ told = cc in
         let made : SystemRules = record {
-          links = record { unaligned = unaligned; by_address = by_address; period = unwrap_or period 1 };
+          links = record { unaligned = unaligned; corrupt = corrupt; by_address = by_address; period = unwrap_or period 1 };
           resets = false;
         } in
         let same : made ≡ rules = cc in
         sym one ∙ ap (λ (r : SystemRules). r.resets) same
-    go (Ok unaligned) (Ok by_address) (Some value) n x y = by (as_bool value) n unaligned by_address x y
+    go (Ok unaligned) (Ok corrupt) (Ok by_address) (Some value) n x y =
+        by (as_bool value) n unaligned corrupt by_address x y
 
 -- as many names as links, of which there are few; and resets are told if the system has some
 pub record SameCounts (names : SignalNames) (system : Description) : Type 0 where

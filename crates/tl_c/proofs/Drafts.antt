@@ -1,5 +1,5 @@
 -- The images of a draft, and the slaves that are made with them.
-use Rattle.std.proofs.Common.{◌≡◌, ◌∙◌, ℕ, zero, suc, ◌+◌, ◌≤◌, false, List, [], ◌∷◌, ◌++◌, length, replicate, slice_get, slice_set, Option, Some, None, Result, Ok, Err, Vec, nat_lt, refl, sym, ap, subst, arith}
+use Rattle.std.proofs.Common.{◌≡◌, ◌∙◌, ℕ, zero, suc, ◌+◌, ◌≤◌, Bool, false, List, [], ◌∷◌, ◌++◌, length, replicate, slice_get, slice_set, Option, Some, None, Result, Ok, Err, Vec, nat_lt, refl, sym, ap, subst, arith}
 use Rattle.std.specs.declared.alloc.Global.{Global}
 use Rattle.std.proofs.lemmas.Bool.Decides.{nat_tests}
 use Rattle.std.proofs.lemmas.List.{length-replicate, length-set, map-set, replicate-append-replicate}
@@ -88,30 +88,30 @@ bind_err (Ok x) f fault is = absurd (cc)
 bind_err (Err e) f fault is = cc
 
 -- no image is too long, so each port has its slave
-pub slaves_fit : (side : SlaveSide) (orders : SideOrders) (images : List (List ℕ)) (number : ℕ) (ports : List Port)
+pub slaves_fit : (corrupt : Bool) (side : SlaveSide) (orders : SideOrders) (images : List (List ℕ)) (number : ℕ) (ports : List Port)
     → ((k : ℕ) (said : Port) → slice_get ports k ≡ Some said → length (image_at images (number + k)) ≤ first_length said.ranges)
-    → (fault : SystemFault) → slaves_from side orders images number ports ≡ Err fault → ⊥
-slaves_fit side orders images number [] fit fault is = cc
-slaves_fit side orders images number (said ∷ ports) fit fault is =
+    → (fault : SystemFault) → slaves_from corrupt side orders images number ports ≡ Err fault → ⊥
+slaves_fit corrupt side orders images number [] fit fault is = cc
+slaves_fit corrupt side orders images number (said ∷ ports) fit fault is =
     let least : length (image_at images (number + 0)) ≤ first_length said.ranges = fit 0 said refl in
     let zeroth : number + 0 ≡ number = omega arith in
     let fits : nat_lt (first_length said.ranges) (length (image_at images number)) ≡ false =
     (let few : length (image_at images number) ≤ first_length said.ranges =
     subst (λ k. length (image_at images k) ≤ first_length said.ranges) zeroth least in grind (arith, nat_tests)) in
-    let rest : ((slaves_from side orders images (number + 1) ports) >>= (λ slaves. Ok (_ ∷ slaves))) ≡ Err fault = rw fits at is in
-    slaves_fit side orders images (number + 1) ports
+    let rest : ((slaves_from corrupt side orders images (number + 1) ports) >>= (λ slaves. Ok (_ ∷ slaves))) ≡ Err fault = rw fits at is in
+    slaves_fit corrupt side orders images (number + 1) ports
     (λ k at there. let next : number + suc k ≡ number + 1 + k = omega arith in
     subst (λ n. length (image_at images n) ≤ first_length at.ranges) next (fit (suc k) at there)) fault
-    (bind_err (slaves_from side orders images (number + 1) ports) (λ slaves. _ ∷ slaves) fault rest)
+    (bind_err (slaves_from corrupt side orders images (number + 1) ports) (λ slaves. _ ∷ slaves) fault rest)
 
-pub slaves_are : (side : SlaveSide) (orders : SideOrders) (images : List (List ℕ)) (ports : List Port)
+pub slaves_are : (corrupt : Bool) (side : SlaveSide) (orders : SideOrders) (images : List (List ℕ)) (ports : List Port)
     → ((k : ℕ) (said : Port) → slice_get ports k ≡ Some said → length (image_at images k) ≤ first_length said.ranges)
-    → (fault : SystemFault) → slaves_at_reset side orders images ports ≡ Err fault → ⊥
-slaves_are side orders images ports fit fault is =
-    slaves_fit side orders images 0 ports
+    → (fault : SystemFault) → slaves_at_reset corrupt side orders images ports ≡ Err fault → ⊥
+slaves_are corrupt side orders images ports fit fault is =
+    slaves_fit corrupt side orders images 0 ports
     (λ k said there. let same : k ≡ 0 + k = omega arith in
     subst (λ n. length (image_at images n) ≤ first_length said.ranges) same (fit k said there)) fault
-    (bind_err (slaves_from side orders images 0 ports) (λ slaves. slaves ++ error_slave orders.masters ∷ []) fault is)
+    (bind_err (slaves_from corrupt side orders images 0 ports) (λ slaves. slaves ++ error_slave corrupt orders.masters ∷ []) fault is)
 
 -- ---- what a handle holds
 

@@ -52,6 +52,10 @@ def check_unaligned(table, place):
     check_flag(table, "unaligned", place)
 
 
+def check_corrupt(table, place):
+    check_flag(table, "corrupt", place)
+
+
 def check_period(table, place):
     if "period" in table:
         number(table, "period", place, 1, GREATEST)
@@ -340,7 +344,7 @@ def unknown_keys(table, places):
 def document_faults(table, places, folder):
     """The faults of a document of a file in this folder, in the order in which tlcheck looks for them."""
     found, ports, masters = list(unknown_keys(table, places)), [], []
-    for check in (check_bus, check_unaligned, check_decode, check_resets, check_period):
+    for check in (check_bus, check_unaligned, check_corrupt, check_decode, check_resets, check_period):
         try:
             check(table, places)
         except Fault as fault:

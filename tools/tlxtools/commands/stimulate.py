@@ -282,7 +282,7 @@ def check_limits(system):
 
 def script_of(system, mix, words):
     """The text of a script of the number of operations that the words ask for."""
-    system = {"slots": system.get("slots", 16), **{key: system[key] for key in ("bus", "unaligned", "decode", "resets", "period") if key in system},
+    system = {"slots": system.get("slots", 16), **{key: system[key] for key in ("bus", "unaligned", "corrupt", "decode", "resets", "period") if key in system},
               "port": [dict(port) for port in system.get("port", [])], "master": [dict(master) for master in system["master"]]}
     stimulus = Stimulus(system, mix, words.seed, words.max_size, words.address_bits)
     bins = read_report(words.aim) if words.aim else []

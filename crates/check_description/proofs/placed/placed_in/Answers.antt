@@ -1,5 +1,5 @@
 -- The masters are distinct, so they are those of the list.
-use Rattle.std.proofs.Common.{◌∙◌, ap, length, map, subst, sym, true, ◌≡◌, ℕ}
+use Rattle.std.proofs.Common.{◌∙◌, length, map, subst, sym, true, ◌≡◌, ℕ}
 use Rattle.check_description.specs.Listed.{list_view}
 use Rattle.check_description.specs.Master.{master_view}
 use Rattle.check_description.specs.Placed.{names_of_masters, master_numbers}

@@ -4,7 +4,7 @@ use Rattle.tl_types.specs.Operation.{reply_op_of, reply_byte_count}
 use Rattle.tl_types.specs.Request.{Request}
 use Rattle.check_memory.specs.declared.slave.Slave.{Slave}
 use Rattle.check_memory.specs.declared.slave.Slave.TheVariants.{Memory, Device}
-use Rattle.check_memory.specs.Pattern.{Pattern, FitsPattern, FitsDevice, device_pattern}
+use Rattle.check_memory.specs.Pattern.{Pattern, FitsCaptured, FitsDevice, device_pattern}
 use Rattle.check_memory.specs.Slave.{expected_of, MayReply}
 use Rattle.check_memory.proofs.laws.fits_if_it_may_reply.Goals as goal
 
@@ -14,7 +14,7 @@ none_known zero place = refl
 none_known (suc n) zero = refl
 none_known (suc n) (suc place) = none_known n place
 
-device_there : (ask : Request) (captured : Pattern) → FitsPattern (device_pattern ask) captured → FitsDevice ask captured
+device_there : (ask : Request) (captured : Pattern) → FitsCaptured (device_pattern ask) captured → FitsDevice ask captured
 device_there ask captured fits = record {
   op_is = fits.op_is;
   size_is = fits.size_is;
@@ -22,7 +22,7 @@ device_there ask captured fits = record {
   counted = fits.bytes_fit.counted ∙ length-replicate (reply_byte_count (reply_op_of ask.op) ask.size) None;
 }
 
-device_back : (ask : Request) (captured : Pattern) → FitsDevice ask captured → FitsPattern (device_pattern ask) captured
+device_back : (ask : Request) (captured : Pattern) → FitsDevice ask captured → FitsCaptured (device_pattern ask) captured
 device_back ask captured fits = record {
   op_is = fits.op_is;
   size_is = fits.size_is;
@@ -30,7 +30,7 @@ device_back ask captured fits = record {
   denied_is = λ flag is. cc;
   bytes_fit = record {
     counted = fits.counted ∙ sym (length-replicate (reply_byte_count (reply_op_of ask.op) ask.size) None);
-    kept = λ place byte is. absurd
+    kept = λ place byte clean is. absurd
         (lost byte (sym (none_known (reply_byte_count (reply_op_of ask.op) ask.size) place) ∙ is));
   };
 }
@@ -39,7 +39,7 @@ device_back ask captured fits = record {
     lost byte is = cc
 
 fits_if : (slave : Slave) (ask : Request) (captured : Pattern)
-    → FitsPattern (expected_of slave ask) captured ↔ MayReply slave ask captured
+    → FitsCaptured (expected_of slave ask) captured ↔ MayReply slave ask captured
 fits_if (Memory memory) ask captured = (λ fits. fits, λ fits. fits)
 fits_if Device ask captured = (device_there ask captured, device_back ask captured)
 

@@ -1,4 +1,4 @@
-use Rattle.std.proofs.Common.{◌≡◌, ◌∙◌, ℕ, ◌^◌, true, List, replicate, Option, Some, refl, ap, rules}
+use Rattle.std.proofs.Common.{◌≡◌, ◌∙◌, ℕ, ◌^◌, true, List, [], replicate, Option, Some, refl, ap, rules}
 use Rattle.tl_types.specs.declared.operation.ReplyOp.{ReplyOp}
 use Rattle.tl_types.specs.declared.operation.ReplyOp.TheVariants.{AccessAck, AccessAckData, HintAck}
 use Rattle.tl_types.specs.Operation.{reply_op_of, reply_byte_count}
@@ -22,8 +22,8 @@ returns c =
       size = ask.size;
       source = ask.source;
       denied = Some true;
-      bytes =
-          cells;
+      bytes = cells;
+      spoiled = [];
     } in
     let op : c.reply_op.result ≡ reply_op_of ask.op = search rules in
     let count : c.byte_count-count.result ≡ reply_byte_count (reply_op_of ask.op) ask.size =

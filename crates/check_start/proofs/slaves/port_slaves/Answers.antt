@@ -11,10 +11,10 @@ loop-number-preserved c =
     let images = map (λ image. image.items) c.args.images.now in
     let slave = c.in_ok-port_slave.field-0 in
     let pushed : c.push.new.self.items ≡ c.loop-number.slaves.items ++ slave ∷ [] = search rules in
-    let its : slave_at_reset c.loop-number.number (port_view c.index-ports-number.result)
+    let its : slave_at_reset c.args.corrupt c.loop-number.number (port_view c.index-ports-number.result)
     (image_at images c.loop-number.number) (order_of c.args.side c.args.orders (port_view c.index-ports-number.result))
     ≡ Ok slave =
     c.in_ok-port_slave.ensures in
-    rw pushed (one_more c.args.side c.args.orders images c.loop-number.slaves.items c.args.ports.now c.loop-number.number
+    rw pushed (one_more c.args.corrupt c.args.side c.args.orders images c.loop-number.slaves.items c.args.ports.now c.loop-number.number
     c.index-ports-number.result slave c.loop-number-test.true (rw (← c.index-ports-number.is) its)
     ∙ c.loop-number.invariant)

@@ -8,5 +8,5 @@ use Rattle.check_start.proofs.slaves.port_slaves.Given as goal
 abbrev pub invariant-loop-number : goal.invariant-loop-number
 invariant-loop-number l =
     with_front l.slaves.items
-    (slaves_from l.side l.orders (map (λ image. image.items) l.images) l.number (map port_view (drop l.number l.ports)))
-    ≡ slaves_from l.side l.orders (map (λ image. image.items) l.images) 0 (map port_view l.ports)
+    (slaves_from l.corrupt l.side l.orders (map (λ image. image.items) l.images) l.number (map port_view (drop l.number l.ports)))
+    ≡ slaves_from l.corrupt l.side l.orders (map (λ image. image.items) l.images) 0 (map port_view l.ports)

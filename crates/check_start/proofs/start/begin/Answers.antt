@@ -16,18 +16,18 @@ use Rattle.check_start.proofs.start.begin.Goals as goal
 pub of-requires : goal.of-requires
 of-requires c =
     let images = map (λ image. image.items) c.args.images.now in
-    let made : shared_slaves c.args.terms images c.args.system.ports ≡ Ok c.in_ok-slaves.slaves.shared.items =
+    let made : shared_slaves c.args.system.rules.corrupt c.args.terms images c.args.system.ports ≡ Ok c.in_ok-slaves.slaves.shared.items =
     search rules in
     subst (ImagesFit images) (sym (ap (map port_view) c.deref-7.ensures.value ∙ c.into_parts-parts.ensures.ports))
-    (images_fit (shared_side c.args.terms.links) c.args.terms.orders images c.args.system.ports
+    (images_fit c.args.system.rules.corrupt (shared_side c.args.terms.links) c.args.terms.orders images c.args.system.ports
     c.in_ok-slaves.slaves.shared.items made)
 
 pub new-requires-clause-slaves : goal.new-requires-clause-slaves
 new-requires-clause-slaves c =
     let images = map (λ image. image.items) c.args.images.now in
-    let made : shared_slaves c.args.terms images c.args.system.ports ≡ Ok c.in_ok-slaves.slaves.shared.items =
+    let made : shared_slaves c.args.system.rules.corrupt c.args.terms images c.args.system.ports ≡ Ok c.in_ok-slaves.slaves.shared.items =
     search rules in
-    slaves_counted (shared_side c.args.terms.links) c.args.terms.orders images c.args.system.ports
+    slaves_counted c.args.system.rules.corrupt (shared_side c.args.terms.links) c.args.terms.orders images c.args.system.ports
     c.in_ok-slaves.slaves.shared.items made
     ∙ ap (λ n. n + 1) (sym (length-map c.args.system.ports (λ (port : Port). port.ranges))
     ∙ ap length (sym c.into_parts-parts.ensures.addresses))
@@ -36,11 +36,11 @@ pub new-requires-clause-own : goal.new-requires-clause-own
 new-requires-clause-own c each =
     let images = map (λ image. image.items) c.args.images.now in
     let made : IsTrue (are_apart (layout_of c.args.terms c.args.system))
-    → own_slaves c.args.terms images c.args.system.ports ≡ Ok c.in_ok-slaves.slaves.own.items = search rules in
+    → own_slaves c.args.system.rules.corrupt c.args.terms images c.args.system.ports ≡ Ok c.in_ok-slaves.slaves.own.items = search rules in
     let set : c.in_ok-apart.apart.items ≡ apart_of c.args.system.ports =
     c.in_ok-apart.ensures ∙ ap apart_of (ap (map port_view) c.deref.ensures.value ∙ c.into_parts-parts.ensures.ports) in
     let here = subst (λ (l : List Bool). IsTrue (is_some_alone c.args.terms.links l)) set each in
-    slaves_counted Ports c.args.terms.orders images c.args.system.ports c.in_ok-slaves.slaves.own.items (made here)
+    slaves_counted c.args.system.rules.corrupt Ports c.args.terms.orders images c.args.system.ports c.in_ok-slaves.slaves.own.items (made here)
     ∙ ap (λ n. n + 1) (sym (length-map c.args.system.ports (λ (port : Port). port.ranges))
     ∙ ap length (sym c.into_parts-parts.ensures.addresses))
 
@@ -50,10 +50,10 @@ returns-clause-keeps c =
     let set : c.in_ok-apart.apart.items ≡ apart_of c.args.system.ports =
     c.in_ok-apart.ensures ∙ ap apart_of (ap (map port_view) c.deref.ensures.value ∙ c.into_parts-parts.ensures.ports) in
     let laid : c.in_ok-watch.watch.layout ≡ layout_of c.args.terms c.args.system = search rules in
-    let made : shared_slaves c.args.terms images c.args.system.ports ≡ Ok c.in_ok-slaves.slaves.shared.items =
+    let made : shared_slaves c.args.system.rules.corrupt c.args.terms images c.args.system.ports ≡ Ok c.in_ok-slaves.slaves.shared.items =
     search rules in
     let made_own : IsTrue (are_apart (layout_of c.args.terms c.args.system))
-    → own_slaves c.args.terms images c.args.system.ports ≡ Ok c.in_ok-slaves.slaves.own.items = search rules in
+    → own_slaves c.args.system.rules.corrupt c.args.terms images c.args.system.ports ≡ Ok c.in_ok-slaves.slaves.own.items = search rules in
     let one = c.in_ok-watch.ensures.plan in
     record {
       some = plan_of c.args.terms c.args.system images one.0 one.3.suits.lawful (sym one.3.suits.layout ∙ laid)
@@ -70,10 +70,10 @@ pub returns-clause-loads : goal.returns-clause-loads
 returns-clause-loads c =
     let images = map (λ image. image.items) c.args.images.now in
     let laid : c.in_ok-watch.watch.layout ≡ layout_of c.args.terms c.args.system = search rules in
-    let made : shared_slaves c.args.terms images c.args.system.ports ≡ Ok c.in_ok-slaves.slaves.shared.items =
+    let made : shared_slaves c.args.system.rules.corrupt c.args.terms images c.args.system.ports ≡ Ok c.in_ok-slaves.slaves.shared.items =
     search rules in
     let made_own : IsTrue (are_apart (layout_of c.args.terms c.args.system))
-    → own_slaves c.args.terms images c.args.system.ports ≡ Ok c.in_ok-slaves.slaves.own.items = search rules in
+    → own_slaves c.args.system.rules.corrupt c.args.terms images c.args.system.ports ≡ Ok c.in_ok-slaves.slaves.own.items = search rules in
     let loaded : c.in_ok-loads.loads ≡ loads_at_reset images c.args.system.ports = search rules in
     let one = c.in_ok-watch.ensures.plan in
     record {

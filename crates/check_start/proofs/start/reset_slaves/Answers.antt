@@ -14,7 +14,7 @@ returns-in_err-own-clause-fault c =
     let images = map (λ image. image.items) c.args.images.now in
     let ports = map port_view c.args.ports.now in
     let fault = c.in_err-own.field-0.0 in
-    error_is (λ (fault : SystemFault). fault ≢ Memory → shared_slaves c.args.terms images ports ≡ Err fault) fault
+    error_is (λ (fault : SystemFault). fault ≢ Memory → shared_slaves c.args.corrupt c.args.terms images ports ≡ Err fault) fault
     c.from_residual-in_err-own.result c.from_residual-in_err-own.ensures.1
-    (λ real. same_fault Ports (shared_side c.args.terms.links) c.args.terms.orders images ports fault
+    (λ real. same_fault c.args.corrupt Ports (shared_side c.args.terms.links) c.args.terms.orders images ports fault
     (c.in_err-own.ensures.fault real))

@@ -1,5 +1,6 @@
 use Rattle.tl_types.specs.Fault.{IsFirstOf}
 use Rattle.check_beats.specs.Form.{FitsReply}
+use Rattle.check_beats.specs.Rules.{IsMarkedBy}
 use Rattle.check_beats.specs.State.{first_reply}
 use Rattle.check_flight.specs.PortSlave.{may_be_unknown}
 use Rattle.check_watch.specs.Allowed.{OfAsked, IsAnswer}
@@ -24,6 +25,7 @@ returns-in-Some-answer_reason-clause-reason c plan suits =
     let port_here = c.port_in_flight.ensures.port plan beat suits in
     let fits : FitsReply (first_reply (under_in view link).replying) beat =
     rw (← c.link-under.ensures) c.in_default.ensures.fits in
+    let marked : IsMarkedBy view.layout.rules beat = rw (← c.rules.ensures) c.in_default.ensures.marked in
     let reason = c.in-Some-answer_reason.reason in
     let first : IsFirstOf (HasAnswerReason (link_number link) (flight_in view link wide).turn (under_in view link).bus
     (may_be_unknown (slave_at view.slaves port)) beat known) reason_rank reason =
@@ -34,7 +36,7 @@ returns-in-Some-answer_reason-clause-reason c plan suits =
       ← c.slave.ensures,
       ← c.may_be_unknown-unknown.ensures,
     ) c.in-Some-answer_reason.ensures.reason in
-    answer_first plan view link beat known lanes wide port suits at port_here fits reason first
+    answer_first plan view link beat known lanes wide port suits at port_here fits marked reason first
 
 pub returns-in-Some-end_reason-clause-reason : goal.returns-in-Some-end_reason-clause-reason
 returns-in-Some-end_reason-clause-reason c plan suits =
@@ -50,6 +52,7 @@ returns-in-Some-end_reason-clause-reason c plan suits =
     let port_here = c.port_in_flight.ensures.port plan beat suits in
     let fits : FitsReply (first_reply (under_in view link).replying) beat =
     rw (← c.link-under.ensures) c.in_default.ensures.fits in
+    let marked : IsMarkedBy view.layout.rules beat = rw (← c.rules.ensures) c.in_default.ensures.marked in
     let answers : OfAsked (link_number link) (flight_in view link wide).turn
     (IsAnswer (under_in view link).bus (may_be_unknown (slave_at view.slaves port)) beat known) =
     rw (
@@ -59,7 +62,7 @@ returns-in-Some-end_reason-clause-reason c plan suits =
       ← c.slave.ensures,
       ← c.may_be_unknown-unknown.ensures,
     ) c.in_default-answer_reason.ensures.none in
-    end_first plan view link beat known lanes wide port suits at port_here fits c.in-Some-end_reason.reason answers c.in-Some-end_reason.ensures.ends c.in-Some-end_reason.ensures.reason
+    end_first plan view link beat known lanes wide port suits at port_here fits marked c.in-Some-end_reason.reason answers c.in-Some-end_reason.ensures.ends c.in-Some-end_reason.ensures.reason
 
 pub returns-clause-allowed : goal.returns-clause-allowed
 returns-clause-allowed c plan suits =
@@ -75,6 +78,7 @@ returns-clause-allowed c plan suits =
     let port_here = c.port_in_flight.ensures.port plan beat suits in
     let fits : FitsReply (first_reply (under_in view link).replying) beat =
     rw (← c.link-under.ensures) c.in_default.ensures.fits in
+    let marked : IsMarkedBy view.layout.rules beat = rw (← c.rules.ensures) c.in_default.ensures.marked in
     let answers : OfAsked (link_number link) (flight_in view link wide).turn
     (IsAnswer (under_in view link).bus (may_be_unknown (slave_at view.slaves port)) beat known) =
     rw (
@@ -84,4 +88,4 @@ returns-clause-allowed c plan suits =
       ← c.slave.ensures,
       ← c.may_be_unknown-unknown.ensures,
     ) c.in_default-answer_reason.ensures.none in
-    reply_allowed plan view link beat known lanes wide port suits at port_here fits answers c.in_default-end_reason.ensures.none
+    reply_allowed plan view link beat known lanes wide port suits at port_here fits marked answers c.in_default-end_reason.ensures.none

@@ -32,7 +32,7 @@ returns-in_err-begun-clause-fault c =
     (subst (λ l. slice_get l k ≡ Some said) ports there))) in
     error_is (λ (fault : SystemFault). fault ≢ Memory → IsFirstFaultOf draft.parts fault) fault
     c.from_residual-in_err-begun.result c.from_residual-in_err-begun.ensures.1
-    (λ real. absurd (slaves_are (shared_side c.args.terms.links) c.args.terms.orders given system.ports fits fault (c.in_err-begun.ensures.fault real)))
+    (λ real. absurd (slaves_are system.rules.corrupt (shared_side c.args.terms.links) c.args.terms.orders given system.ports fits fault (c.in_err-begun.ensures.fault real)))
 
 pub returns-in_err-text-clause-fault : goal.returns-in_err-text-clause-fault
 returns-in_err-text-clause-fault c =

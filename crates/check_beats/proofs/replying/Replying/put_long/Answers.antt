@@ -1,7 +1,7 @@
-use Rattle.std.proofs.Common.{◌∙◌, ap, refl}
+use Rattle.std.proofs.Common.{◌∙◌, ap, refl, arith}
 use Rattle.check_cells.specs.Pattern.{Pattern}
 use Rattle.check_beats.specs.Bus.{bus_log}
-use Rattle.check_beats.proofs.Returning.{returns as goes_on, reply_bytes_after}
+use Rattle.check_beats.proofs.Returning.{returns as goes_on, reply_bytes_after, reply_marks_after}
 use Rattle.check_beats.proofs.replying.Replying.put_long.Goals as goal
 
 pub push_seen-requires-clause-room : goal.push_seen-requires-clause-room
@@ -10,7 +10,16 @@ push_seen-requires-clause-room c =
     let fits = rw (← c.self.view_is) at c.requires.fits in
     let wide = rw (← c.self.view_is) at c.requires.lanes in
     let some = rw (← c.self.view_is) at c.requires.goes_on in
-    rw c.refill_from.ensures (goes_on (bus_log i.bus) i.first i.beats i.bytes c.args.beat.now c.args.known c.args.lanes.now c.self.invariant fits wide some).room
+    rw c.refill_from.ensures (goes_on (bus_log i.bus) i.first i.beats i.bytes i.marks c.args.beat.now c.args.known c.args.lanes.now c.self.invariant fits wide some).room
+
+pub push-requires : goal.push-requires
+push-requires c =
+    let i = c.self.inside in
+    let fits = rw (← c.self.view_is) at c.requires.fits in
+    let wide = rw (← c.self.view_is) at c.requires.lanes in
+    let some = rw (← c.self.view_is) at c.requires.goes_on in
+    let is = goes_on (bus_log i.bus) i.first i.beats i.bytes i.marks c.args.beat.now c.args.known c.args.lanes.now c.self.invariant fits wide some in
+    rw c.refill_from-2.ensures (omega (arith, is.marked, is.room))
 
 pub returns : goal.returns
 returns c = λ address.
@@ -18,6 +27,18 @@ returns c = λ address.
     let fits = rw (← c.self.view_is) at c.requires.fits in
     let wide = rw (← c.self.view_is) at c.requires.lanes in
     let some = rw (← c.self.view_is) at c.requires.goes_on in
-    let is = goes_on (bus_log i.bus) i.first i.beats i.bytes c.args.beat.now c.args.known c.args.lanes.now c.self.invariant fits wide some in
-    ap (λ (p : Pattern). record p { bytes = c.push_seen.new.cells }) (c.reply.view_is ∙ c.set_fields.ensures)
-    ∙ rw (c.push_seen.ensures, c.refill_from.ensures, c.lawful_reply_op-op.ensures.value, ← c.self.view_is, reply_bytes_after i.first i.beats i.bytes some, is.part address) refl
+    let is = goes_on (bus_log i.bus) i.first i.beats i.bytes i.marks c.args.beat.now c.args.known c.args.lanes.now c.self.invariant fits wide some in
+    ap (λ (p : Pattern). record p { bytes = c.push_seen.new.cells; spoiled = c.push.new.self }) (c.reply.view_is ∙ c.set_fields.ensures)
+    ∙ rw (
+      c.push_seen.ensures,
+      c.push.ensures,
+      c.is_spoiled.ensures,
+      c.refill_from.ensures,
+      c.refill_from-2.ensures,
+      c.lawful_reply_op-op.ensures.value,
+      ← c.self.view_is,
+      reply_bytes_after i.first i.beats i.bytes i.marks some,
+      reply_marks_after i.first i.beats i.bytes i.marks some,
+      is.part address,
+      is.marks,
+    ) refl

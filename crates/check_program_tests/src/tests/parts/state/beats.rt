@@ -10,6 +10,7 @@ use std::process::Abort;
 /// Links that keep to the standard.
 const STRICT: LinkRules = LinkRules {
     unaligned: false,
+    corrupt: false,
     by_address: false,
     period: 1,
 };
@@ -93,7 +94,7 @@ fn a_known_bit_past_the_bus_is_that_of_no_lane(rt: HostRuntime) {
         link.ask_fault(STRICT, &put, 0b10) == Some(FormFault::UnknownData),
     );
     let first = reply_of(3);
-    assert!(&rt; link.reply_fault(&first).is_none());
+    assert!(&rt; link.reply_fault(STRICT, &first).is_none());
     holds(&rt, "no known reply", !link.is_known_reply(&first, 0, 0b10));
 }
 
@@ -102,7 +103,7 @@ fn a_byte_is_that_of_a_lane_of_the_bus(rt: HostRuntime) {
     let link = UnderWay::new(Bus::One);
     let beat = reply_of(0);
     let mut reply = Pattern::blank();
-    assert!(&rt; link.reply_fault(&beat).is_none());
+    assert!(&rt; link.reply_fault(STRICT, &beat).is_none());
     assert!(&rt; link.ends_reply(&beat));
     assert!(&rt; link.bus().bytes() <= LANES.len());
     link.reply_into(&beat, 0x1002, 0b10, &LANES, &mut reply);

@@ -11,7 +11,7 @@ use Rattle.check_sides.proofs.Telling.{tells_wrong, asks_tell, tells_other}
 use Rattle.check_sides.proofs.port.PortLink.fault.Goals as goal
 
 pub returns-in-A : goal.returns-in-A
-returns-in-A c plan past keeps =
+returns-in-A c plan past same keeps =
     let port = c.args.port in
     let known = c.args.known in
     let lanes = c.args.lanes.now in
@@ -23,7 +23,7 @@ returns-in-A c plan past keeps =
     (asks_tell plan port past c.args.self.now known lanes keeps NotGiven c.in-A.field-0))
 
 pub returns-in-D : goal.returns-in-D
-returns-in-D c plan past keeps =
+returns-in-D c plan past same keeps =
     let port = c.args.port in
     let known = c.args.known in
     let lanes = c.args.lanes.now in
@@ -34,9 +34,9 @@ returns-in-D c plan past keeps =
     subst (λ (b : Beat). P b c.args.reason) (sym c.in-D.is)
     (subst (λ (r : Reason). P (D c.in-D.beat) r) (sym c.in-WrongReply.is)
     (tells_wrong plan port past c.args.self.now known lanes keeps fault c.in-D.beat
-    (c.wrong_reply.ensures plan.layout (beyond_of plan port past c.args.self.now known lanes keeps c.in-D.beat.source))))
+    (c.wrong_reply.ensures plan.layout (beyond_of plan port past c.args.self.now known lanes keeps c.in-D.beat.source) same)))
 
 pub returns-in_default : goal.returns-in_default
-returns-in_default c plan past keeps =
+returns-in_default c plan past same keeps =
     tells_other plan c.args.port past c.args.self.now c.args.known c.args.lanes.now keeps c.fault_of.result
     c.args.beat.now c.args.reason c.in_default.not-WrongReply (c.fault_of.ensures c.in_default.not-WrongReply)

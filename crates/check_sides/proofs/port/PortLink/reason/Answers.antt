@@ -57,7 +57,7 @@ returns-in-D-clause-reason c plan past own keeps =
     (λ (reason : Reason). carried plan port past view known lanes keeps (D beat)
     (λ (s : Scene). IsFirstReplyReason plan.layout (Port port) s beat known lanes reason))
     (c.reply_reason.ensures.reason plan.layout
-    (beyond_of plan port past view known lanes keeps beat.source) c.args.rules c.args.map.now own))
+    (beyond_of plan port past view known lanes keeps beat.source) c.args.map.now own))
 
 pub returns-in-D-clause-allowed : goal.returns-in-D-clause-allowed
 returns-in-D-clause-allowed c plan past own keeps =
@@ -73,4 +73,4 @@ returns-in-D-clause-allowed c plan past own keeps =
       carried plan port past view known lanes keeps (D beat)
           (λ (s : Scene). IsAllowedReply plan.layout (Port port) s beat known lanes) allowed,
     )) (c.reply_reason.ensures.allowed plan.layout
-    (beyond_of plan port past view known lanes keeps beat.source) c.args.rules c.args.map.now own))
+    (beyond_of plan port past view known lanes keeps beat.source) c.args.map.now own))

@@ -7,10 +7,10 @@ use Rattle.check_sides.specs.View.{port_scene}
 use Rattle.check_sides.proofs.port.PortLink.wrong_reply.Goals as goal
 
 pub returns-in-Some : goal.returns-in-Some
-returns-in-Some c layout beyond first =
+returns-in-Some c layout beyond same first =
     let view = c.args.self.now in
     let beat = c.args.beat.now in
-    let has : HasReplyFormFault (first_reply view.under.replying) beat c.in-Some._fault =
-    rw (← c.self.view_is) c.in-Some.ensures.fault.applies in
+    let has : HasReplyFormFault layout.rules (first_reply view.under.replying) beat c.in-Some._fault =
+    rw (same, ← c.self.view_is) c.in-Some.ensures.fault.applies in
     no_form_before layout (Port c.args.port) (port_scene layout c.args.port beyond view (D beat)) beat c.args.known
     c.args.lanes.now c.in-Some._fault first has
