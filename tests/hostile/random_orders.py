@@ -84,6 +84,8 @@ def is_found(verdict, rows, count):
 def with_memory(rng):
     """A random system whose last port is the memory, and the images of the others."""
     system, images = system_of(rng)
+    # corrupt data would hide what a reply shows
+    system.pop("corrupt", None)
     # a system has at most 255 ports, and the memory is one of them, to which each master has a path
     memory = min(254, len(system["port"]))
     for number, master in enumerate(system["master"]):
