@@ -15,6 +15,11 @@ use Rattle.check_beats.specs.Laws.{asking, begun, CanEnd, AskCanEnd, replying, b
 use Rattle.check_beats.proofs.Spelled as asks
 use Rattle.check_beats.proofs.ReplySpelled as replies
 
+-- what can end after one beat more can end
+can_end_before : (bus : ℕ) (beats : List AskBeat) (x : AskBeat) → CanEnd bus (beats ++ x ∷ []) → CanEnd bus beats
+can_end_before bus beats x can =
+    (can.0, x ∷ can.1, subst (λ (l : List AskBeat). IsSpelled bus (can.0, l)) (append_assoc beats (x ∷ []) can.1) can.2)
+
 completed : (w more : ℕ) (b : AskBegun) (beats : List AskBeat) → asks.Gathered w (Some b) beats
     → ask_beats (2 ^ w) b.first ≡ b.beats + suc more → CanEnd (2 ^ w) beats
 completed w zero b beats g left =
@@ -36,8 +41,7 @@ completed w (suc more) b beats g left =
     let goes_on : ends_ask (2 ^ w) (Some b) b.first ≡ false =
     ne_eqb (b.beats + 1) (ask_beats (2 ^ w) b.first) (λ e. omega (arith, left, e)) in
     let next = asks.next_gathered w b beats x g fits (length-replicate (2 ^ w) 0) goes_on in
-    let rest = completed w more _ (beats ++ x ∷ []) next (omega (arith, left)) in
-    (rest.0, x ∷ rest.1, subst (λ (l : List AskBeat). IsSpelled (2 ^ w) (rest.0, l)) (append_assoc beats (x ∷ []) rest.1) rest.2)
+    can_end_before (2 ^ w) beats x (completed w more _ (beats ++ x ∷ []) next (omega (arith, left)))
 
 some_begun : (w : ℕ) (o : Option AskBegun) (beats : List AskBeat) → asks.Gathered w o beats → o ≢ None → CanEnd (2 ^ w) beats
 some_begun w None beats g some = absurd (some refl)
@@ -51,6 +55,12 @@ ask_can_end bus past fitting some =
     (asks.gathered_past (bus_log bus) past fitting) some
 
 -- ---- replies
+
+-- what can end after one beat more can end.
+reply_can_end_before : (bus : ℕ) (beats : List ReplyBeat) (x : ReplyBeat) → ReplyCanEndSo bus (beats ++ x ∷ [])
+    → ReplyCanEndSo bus beats
+reply_can_end_before bus beats x can =
+    (can.0, x ∷ can.1, subst (λ (l : List ReplyBeat). IsReplySpelled bus (can.0, l)) (append_assoc beats (x ∷ []) can.1) can.2)
 
 reply_completed : (w more : ℕ) (b : ReplyBegun) (beats : List ReplyBeat) → replies.GatheredReply w (Some b) beats
     → reply_beats (2 ^ w) b.first ≡ b.beats + suc more → ReplyCanEndSo (2 ^ w) beats
@@ -78,8 +88,7 @@ reply_completed w (suc more) b beats g left =
     let goes_on : ends_reply (2 ^ w) (Some b) b.first ≡ false =
     ne_eqb (b.beats + 1) (reply_beats (2 ^ w) b.first) (λ e. omega (arith, left, e)) in
     let next = replies.next_gathered w b beats x g fits (length-replicate (2 ^ w) 0) goes_on in
-    let rest = reply_completed w more _ (beats ++ x ∷ []) next (omega (arith, left)) in
-    (rest.0, x ∷ rest.1, subst (λ (l : List ReplyBeat). IsReplySpelled (2 ^ w) (rest.0, l)) (append_assoc beats (x ∷ []) rest.1) rest.2)
+    reply_can_end_before (2 ^ w) beats x (reply_completed w more _ (beats ++ x ∷ []) next (omega (arith, left)))
 
 some_reply : (w : ℕ) (o : Option ReplyBegun) (beats : List ReplyBeat) → replies.GatheredReply w o beats → o ≢ None
     → ReplyCanEndSo (2 ^ w) beats

@@ -1,11 +1,11 @@
 -- The bytes that a beat of a request carries.
-use Rattle.std.proofs.Common.{◌≡◌, ◌∙◌, ℕ, ◌+◌, ◌-◌, ◌/◌, ◌^◌, ◌%◌, ◌<◌, ◌≤◌, min, true, if◌then◌else◌, List, length, take, drop, get_or, Option, Some, None, ap, sym, refl, arith, eq-eqb, length-take, length-drop, get_or-take, get_or-drop, take_all}
+use Rattle.std.proofs.Common.{◌≡◌, ◌∙◌, ℕ, ◌+◌, ◌-◌, ◌/◌, ◌^◌, ◌%◌, ◌<◌, ◌≤◌, min, Bool, true, false, if◌then◌else◌, List, length, replicate, take, drop, get_or, Option, Some, None, ap, sym, refl, arith, eq-eqb, length-take, length-drop, get_or-take, get_or-drop, take_all}
 use Rattle.std.specs.Prelude.{map, slice_index, All, IsSome, nat_lt, ◌==◌}
 use Rattle.std.specs.Int.{bit_at}
 use Rattle.std.proofs.lemmas.Nat.Bits.{bit_at_mask_inside, bit_at_ones}
 use Rattle.std.proofs.lemmas.List.FromFn.{length-map-range_with_len, get_or-map-range_with_len, fill_by_all}
 use Rattle.std.proofs.lemmas.List.Elements.{All-from_get_or}
-use Rattle.std.proofs.lemmas.List.{get_or-map, length-map}
+use Rattle.std.proofs.lemmas.List.{get_or-map, length-map, length-replicate}
 use Rattle.tl_types.specs.Operation.{carries_bytes, byte_count, may_leave_unset}
 use Rattle.tl_types.specs.Request.{IsLawfulRequest}
 use Rattle.tl_types.specs.Wire.{IsCodeOf, opcode_of, param_of}
@@ -16,7 +16,7 @@ use Rattle.tl_types.specs.declared.operation.AskOp.{AskOp}
 use Rattle.tl_types.specs.declared.operation.AskOp.TheVariants.{PutFull, PutPartial, Arithmetic, Logical, Get, Intent}
 use Rattle.check_beats.specs.Bus.{low, beat_count_on_bus, active_mask_on_bus}
 use Rattle.check_beats.specs.Form.{IsFormed}
-use Rattle.check_beats.specs.Message.{op_of, byte_at, given_at, ask_part, ask_beats}
+use Rattle.check_beats.specs.Message.{op_of, byte_at, given_at, shown_lanes, ask_part, ask_part_count, ask_beats}
 use Rattle.check_beats.specs.declared.beat.AskHead.{AskHead}
 use Rattle.check_beats.proofs.Window.{window_fits, small_count, some_count, ones_of}
 
@@ -97,6 +97,30 @@ all_some mask lanes first count set =
     let below : k < count = omega (arith, within, length-given_at mask lanes first count) in
     is_some _ _ (given_at-get mask lanes first count k below ∙ byte_at-set mask lanes (first + k) (set k below)))
 
+-- ---- lanes as they are looked at
+
+-- what holds of the lanes of a beat, and of zeros, holds of its lanes as they are looked at
+pub shown_has : (P : List ℕ → Type 0) (bus : ℕ) (beat : AskHead) (lanes : List ℕ) → P lanes → P (replicate bus 0)
+    → P (shown_lanes bus beat lanes)
+shown_has P bus beat lanes given zeros = go beat.corrupt
+  where
+    go : (corrupt : Bool) → P (if corrupt then replicate bus 0 else lanes)
+    go true = zeros
+    go false = given
+
+-- they are as many as the bus has
+pub length-shown_lanes : (bus : ℕ) (beat : AskHead) (lanes : List ℕ) → length lanes ≡ bus → length (shown_lanes bus beat lanes) ≡ bus
+length-shown_lanes bus beat lanes wide =
+    shown_has (λ (l : List ℕ). length l ≡ bus) bus beat lanes wide (length-replicate bus 0)
+
+-- those of a beat that is not marked corrupt are its lanes
+pub shown_clean : (bus : ℕ) (beat : AskHead) (lanes : List ℕ) → beat.corrupt ≡ false → shown_lanes bus beat lanes ≡ lanes
+shown_clean bus beat lanes clean = ap (λ (c : Bool). if c then replicate bus 0 else lanes) clean
+
+-- those of one that is are zeros
+pub shown_corrupt : (bus : ℕ) (beat : AskHead) (lanes : List ℕ) → beat.corrupt ≡ true → shown_lanes bus beat lanes ≡ replicate bus 0
+shown_corrupt bus beat lanes corrupt = ap (λ (c : Bool). if c then replicate bus 0 else lanes) corrupt
+
 -- ---- what one beat spells
 
 -- a mask of all active lanes sets each lane that carries a byte
@@ -111,8 +135,22 @@ part_set w beat set k within =
 pub part_some : (w : ℕ) (beat : AskHead) (lanes : List ℕ) → beat.mask ≡ active_mask_on_bus (2 ^ w) beat.address beat.size
     → All (λ b. IsSome b) (ask_part (2 ^ w) beat lanes)
 part_some w beat lanes set =
-    all_some beat.mask lanes (low beat.address beat.size % 2 ^ w)
-    (min (2 ^ w) (byte_count (op_of beat.opcode beat.param) beat.size)) (part_set w beat set)
+    all_some beat.mask (shown_lanes (2 ^ w) beat lanes) (low beat.address beat.size % 2 ^ w) (ask_part_count (2 ^ w) beat)
+    (part_set w beat set)
+
+-- the bytes that a beat carries, of one that is not marked corrupt
+pub clean_part : (bus : ℕ) (beat : AskHead) (lanes : List ℕ) → beat.corrupt ≡ false
+    → given_at beat.mask lanes (low beat.address beat.size % bus) (ask_part_count bus beat) ≡ ask_part bus beat lanes
+clean_part bus beat lanes clean =
+    ap (λ (l : List ℕ). given_at beat.mask l (low beat.address beat.size % bus) (ask_part_count bus beat))
+    (sym (shown_clean bus beat lanes clean))
+
+-- each byte that a beat carries has a mark
+pub marks_of_part : (bus : ℕ) (beat : AskHead) (lanes : List ℕ)
+    → length (replicate (ask_part_count bus beat) beat.corrupt) ≡ length (ask_part bus beat lanes)
+marks_of_part bus beat lanes =
+    length-replicate (ask_part_count bus beat) beat.corrupt
+    ∙ sym (length-given_at beat.mask (shown_lanes bus beat lanes) (low beat.address beat.size % bus) (ask_part_count bus beat))
 
 -- one beat that is lawful alone, and is all of its request, carries the bytes of a lawful one
 pub one_is_lawful : (w : ℕ) (beat : AskHead) (lanes : List ℕ) → IsFormed (2 ^ w) beat → ask_beats (2 ^ w) beat ≡ 1
@@ -127,20 +165,21 @@ one_is_lawful w beat lanes formed alone =
     record {
       in_limit = formed.in_limit;
       counted =
-          length-given_at beat.mask lanes (low beat.address beat.size % 2 ^ w) (min (2 ^ w) (byte_count op beat.size))
+          length-given_at beat.mask (shown_lanes (2 ^ w) beat lanes) (low beat.address beat.size % 2 ^ w) (ask_part_count (2 ^ w) beat)
           ∙ omega (arith, fits);
       whole = λ no. part_some w beat lanes (formed.mask.whole (ap may_leave_unset (sym named) ∙ no));
     }
 
--- one beat whose mask is that of all active lanes carries what stands there
-pub one_is_given : (w : ℕ) (beat : AskHead) (lanes : List ℕ) → length lanes ≡ 2 ^ w → beat.mask ≡ active_mask_on_bus (2 ^ w) beat.address beat.size
+-- one beat that is not marked corrupt, and whose mask is that of all active lanes, carries what stands there
+pub one_is_given : (w : ℕ) (beat : AskHead) (lanes : List ℕ) → length lanes ≡ 2 ^ w → beat.corrupt ≡ false → beat.mask ≡ active_mask_on_bus (2 ^ w) beat.address beat.size
     → map (λ byte. Some byte)
     (take (min (2 ^ w) (byte_count (op_of beat.opcode beat.param) beat.size))
     (drop (low beat.address beat.size % 2 ^ w) lanes)) ≡ ask_part (2 ^ w) beat lanes
-one_is_given w beat lanes wide set =
+one_is_given w beat lanes wide clean set =
     let few = some_count beat.size (carries_bytes (op_of beat.opcode beat.param)) in
-    all_given beat.mask lanes (low beat.address beat.size % 2 ^ w) (min (2 ^ w) (byte_count (op_of beat.opcode beat.param) beat.size))
+    all_given beat.mask lanes (low beat.address beat.size % 2 ^ w) (ask_part_count (2 ^ w) beat)
     (omega (arith, wide, few, window_fits w beat.address beat.size)) (part_set w beat set)
+    ∙ clean_part (2 ^ w) beat lanes clean
 
 -- a word whose bits are all set
 pub whole_word : (mask : ℕ) (lanes : List ℕ) → mask ≡ 255 → length lanes ≡ 8

@@ -4,6 +4,7 @@ pub mod Going
 pub mod Seen
 pub mod Spoiled
 pub mod Returning
+pub mod Standing
 pub mod Spelled
 pub mod ReplySpelled
 pub mod Ending

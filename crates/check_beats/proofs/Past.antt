@@ -1,17 +1,17 @@
 -- Lanes and bits past the bus.
-use Rattle.std.proofs.Common.{◌≡◌, ◌∙◌, ℕ, ◌+◌, ◌^◌, ◌%◌, ◌<◌, ◌≤◌, min, Bool, if◌then◌else◌, List, take, Option, Some, None, ap, sym, refl, arith, get_or-take, true, false, slice_index}
+use Rattle.std.proofs.Common.{◌≡◌, ◌∙◌, ℕ, ◌+◌, ◌^◌, ◌%◌, ◌<◌, ◌≤◌, min, Bool, if◌then◌else◌, List, take, replicate, Option, Some, None, ap, sym, refl, arith, get_or-take, true, false, slice_index}
 use Rattle.std.specs.Prelude.{◌==◌}
 use Rattle.std.specs.Int.{bit_at}
 use Rattle.std.proofs.lemmas.List.{ext_get_or}
 use Rattle.std.proofs.lemmas.Nat.{and_le_r}
 use Rattle.std.specs.Prelude.{◌↔◌}
-use Rattle.tl_types.specs.Operation.{carries_bytes, byte_count, may_leave_unset, reply_carries_bytes, reply_byte_count}
+use Rattle.tl_types.specs.Operation.{carries_bytes, may_leave_unset, reply_carries_bytes, reply_byte_count}
 use Rattle.tl_types.specs.declared.operation.AskOp.{AskOp}
 use Rattle.check_beats.specs.Bus.{bus_bytes, bus_log, low, active_mask_on_bus}
 use Rattle.check_beats.specs.Form.{IsLawfulMaskOnBus, IsKnown, IsKnownReply}
 use Rattle.check_beats.specs.Laws.{AsksAreOnBus, RepliesAreOnBus, KnownLanesAreKnownBytes}
 use Rattle.check_beats.specs.declared.bus.Bus.{Bus}
-use Rattle.check_beats.specs.Message.{op_of, reply_op_of_number, byte_at, given_at, seen_by, seen_cells, ask_part, reply_part}
+use Rattle.check_beats.specs.Message.{op_of, reply_op_of_number, byte_at, given_at, seen_by, seen_cells, ask_part, ask_part_count, reply_part}
 use Rattle.check_beats.specs.State.{AskBegun, ask_of, ask_after, ReplyBegun, reply_of, reply_after}
 use Rattle.check_beats.specs.declared.beat.AskHead.{AskHead}
 use Rattle.check_beats.specs.declared.beat.ReplyHead.{ReplyHead}
@@ -40,10 +40,21 @@ seen_at-take beat known lanes n first count inside =
     ap (λ bytes. seen_by beat.denied beat.corrupt bytes) (given_at-take known lanes n first count inside)
 
 pub ask_part-take : (w : ℕ) (beat : AskHead) (lanes : List ℕ) → ask_part (2 ^ w) beat (take (2 ^ w) lanes) ≡ ask_part (2 ^ w) beat lanes
-ask_part-take w beat lanes =
-    given_at-take beat.mask lanes (2 ^ w) (low beat.address beat.size % 2 ^ w)
-    (min (2 ^ w) (byte_count (op_of beat.opcode beat.param) beat.size))
-    (omega (arith, window_fits w beat.address beat.size, some_count beat.size (carries_bytes (op_of beat.opcode beat.param))))
+ask_part-take w beat lanes = go beat.corrupt
+  where
+    first : ℕ
+    first = low beat.address beat.size % 2 ^ w
+
+    count : ℕ
+    count = ask_part_count (2 ^ w) beat
+
+    go : (corrupt : Bool)
+        → given_at beat.mask (if corrupt then replicate (2 ^ w) 0 else take (2 ^ w) lanes) first count
+        ≡ given_at beat.mask (if corrupt then replicate (2 ^ w) 0 else lanes) first count
+    go true = refl
+    go false =
+        given_at-take beat.mask lanes (2 ^ w) first count
+        (omega (arith, window_fits w beat.address beat.size, some_count beat.size (carries_bytes (op_of beat.opcode beat.param))))
 
 pub reply_part-take : (w address : ℕ) (beat : ReplyHead) (known : ℕ) (lanes : List ℕ)
     → reply_part (2 ^ w) address beat known (take (2 ^ w) lanes) ≡ reply_part (2 ^ w) address beat known lanes
@@ -139,8 +150,8 @@ small_mask w op size address mask lawful = go (may_leave_unset op) refl
 known_alike : (width : ℕ) (beat : AskHead) (known : ℕ) → beat.mask < 2 ^ width
     → IsKnown beat (known % 2 ^ width) ↔ IsKnown beat known
 known_alike width beat known small = (
-  (λ is carries. sym (and-mod beat.mask known width small) ∙ is carries),
-  (λ is carries. and-mod beat.mask known width small ∙ is carries),
+  (λ is carries clean. sym (and-mod beat.mask known width small) ∙ is carries clean),
+  (λ is carries clean. and-mod beat.mask known width small ∙ is carries clean),
 )
 
 pub asks_are_on_bus : AsksAreOnBus

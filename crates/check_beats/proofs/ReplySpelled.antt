@@ -1,9 +1,8 @@
 -- What all beats of a reply spell is the reply that is gathered from them.
-use Rattle.std.proofs.Common.{◌≡◌, ◌∙◌, ℕ, ◌+◌, ◌*◌, ◌/◌, ◌^◌, ◌%◌, ◌<◌, ◌≤◌, ◌⊎◌, inl, inr, min, Bool, true, false, if◌then◌else◌, List, [], ◌∷◌, ◌++◌, length, get_or, replicate, Option, Some, None, slice_get, ap, sym, subst, refl, arith, eqb-true, length-append}
+use Rattle.std.proofs.Common.{◌≡◌, ◌∙◌, ℕ, ◌+◌, ◌*◌, ◌/◌, ◌^◌, ◌%◌, ◌<◌, ◌⊎◌, inl, inr, min, Bool, true, false, if◌then◌else◌, List, [], ◌∷◌, ◌++◌, length, replicate, Option, Some, None, slice_get, ap, sym, subst, refl, arith, eqb-true, length-append}
 use Rattle.std.specs.List.{AllByRecursion}
-use Rattle.std.proofs.lemmas.Nat.{pow_pos, mod_below, mul-le, div-add-mod'}
-use Rattle.std.proofs.lemmas.Option.{slice_get_within, slice_get-get_or, get_or_from_slice_get}
-use Rattle.std.proofs.lemmas.List.{get_or_append_left, get_or-append-add, get_or-replicate, length-replicate}
+use Rattle.std.proofs.lemmas.Option.{slice_get_within, get_or_from_slice_get}
+use Rattle.std.proofs.lemmas.List.{get_or-replicate, length-replicate}
 use Rattle.tl_types.proofs.Lists.{slice_get-push}
 use Rattle.tl_types.specs.Operation.{reply_carries_bytes, reply_byte_count}
 use Rattle.tl_types.specs.Wire.{reply_opcode_of}
@@ -16,14 +15,10 @@ use Rattle.check_beats.specs.Spelling.{ReplyBeat, StandsAt, HasReplyFieldsOf, Is
 use Rattle.check_beats.specs.Laws.{replying, AreFittingReplies, begun_reply, ended_replies, IsReplySpelled, ReplyIsSpelled}
 use Rattle.check_beats.specs.declared.beat.ReplyHead.{ReplyHead}
 use Rattle.check_beats.proofs.Window.{lane_wide, lane_in_window, some_count}
+use Rattle.check_beats.proofs.Standing.{Stand, none_stand, more_stand}
 use Rattle.check_beats.proofs.Spelled.{byte_stands}
 use Rattle.check_beats.proofs.Seen.{reply_op_named, reply_carries_named, length-seen_at, byte_by, seen_in, seen_at-get}
 use Rattle.check_beats.proofs.Returning.{Returns, returns, reply_kept_on, reply_on_is, ended_reply_is_lawful, one_reply_is_lawful, reply_kept_first, reply_first_is}
-
--- each item of a list is what this says of its beat and its lane, where all lanes carry one
-abbrev pub Stand : {A : Type 0} → (ReplyBeat → ℕ → A) → ℕ → List A → List ReplyBeat → Type 0
-Stand {A} said w items beats = (j : ℕ) (item : A) (x : ReplyBeat) → slice_get items j ≡ Some item
-    → slice_get beats (j / 2 ^ w) ≡ Some x → item ≡ said x (j % 2 ^ w)
 
 -- what is seen at a lane of a beat, and whether its bytes are spoiled
 abbrev pub seen_there : ReplyBeat → ℕ → Option ℕ
@@ -31,41 +26,6 @@ seen_there x lane = seen_in x.head x.known x.lanes lane
 
 abbrev pub spoiled_there : ReplyBeat → ℕ → Bool
 spoiled_there x lane = is_spoiled x.head
-
-none_stand : {A : Type 0} (said : ReplyBeat → ℕ → A) (w : ℕ) → Stand said w [] []
-none_stand said w j item x at found = absurd (cc)
-
-more_stand : {A : Type 0} (said : ReplyBeat → ℕ → A) (w : ℕ) (d : A) (items part : List A) (beats : List ReplyBeat) (x : ReplyBeat)
-    → length items ≡ length beats * 2 ^ w → ((i : ℕ) → i < 2 ^ w → get_or part i d ≡ said x i) → Stand said w items beats
-    → Stand said w (items ++ part) (beats ++ x ∷ [])
-more_stand {A} said w d items part beats x counted each stand j item y at found = go (slice_get-push beats x y (j / 2 ^ w) found)
-  where
-    split : j / 2 ^ w * 2 ^ w + j % 2 ^ w ≡ j
-    split = div-add-mod' j (2 ^ w)
-
-    lane : j % 2 ^ w < 2 ^ w
-    lane = mod_below j (2 ^ w) (pow_pos w)
-
-    whole : get_or (items ++ part) j d ≡ item
-    whole = get_or_from_slice_get (items ++ part) j item d at
-
-    go : (slice_get beats (j / 2 ^ w) ≡ Some y) ⊎ ((j / 2 ^ w ≡ length beats) × (x ≡ y)) → item ≡ said y (j % 2 ^ w)
-    go (inl before) =
-        let k = j / 2 ^ w in
-        let inside : k < length beats = slice_get_within beats k y before in
-        let row : (k + 1) * 2 ^ w ≤ length beats * 2 ^ w =
-        mul-le (k + 1) (2 ^ w) (length beats) (2 ^ w) (omega (arith, inside)) (omega arith) in
-        let more : (k + 1) * 2 ^ w ≡ k * 2 ^ w + 2 ^ w = search arith in
-        let early : j < length items = omega (arith, counted, row, more, split, lane) in
-        let same : get_or items j d ≡ item = sym (get_or_append_left items part d j early) ∙ whole in
-        stand j item y (slice_get-get_or items j d early ∙ ap (λ (g : A). Some g) same) before
-    go (inr last) =
-        let i = j % 2 ^ w in
-        let at_row : j / 2 ^ w * 2 ^ w ≡ length beats * 2 ^ w = ap (λ n. n * 2 ^ w) last.0 in
-        let place : j ≡ length items + i = omega (arith, counted, at_row, split) in
-        let here : get_or (items ++ part) j d ≡ get_or part i d =
-        ap (λ n. get_or (items ++ part) n d) place ∙ get_or-append-add items part i d in
-        sym whole ∙ here ∙ each i lane ∙ ap (λ (z : ReplyBeat). said z i) last.1
 
 -- the bytes of a beat more, and their marks
 more_seen : (w : ℕ) (bytes : List (Option ℕ)) (beats : List ReplyBeat) (x : ReplyBeat) → length bytes ≡ length beats * 2 ^ w

@@ -1,28 +1,28 @@
 -- What all beats of a request spell is the request that is gathered from them.
-use Rattle.std.proofs.Common.{◌≡◌, ◌∙◌, ℕ, ◌+◌, ◌*◌, ◌/◌, ◌^◌, ◌%◌, ◌<◌, ◌≤◌, ◌⊎◌, inl, inr, min, Bool, true, false, if◌then◌else◌, List, [], ◌∷◌, ◌++◌, length, get_or, Option, Some, None, slice_get, ap, sym, subst, refl, arith, eqb-true, append_assoc, append-nil, length-append}
+use Rattle.std.proofs.Common.{◌≡◌, ◌∙◌, ℕ, ◌+◌, ◌*◌, ◌/◌, ◌^◌, ◌%◌, ◌<◌, ◌⊎◌, inl, inr, min, Bool, true, false, if◌then◌else◌, List, [], ◌∷◌, ◌++◌, length, Option, Some, None, slice_get, ap, sym, subst, refl, arith, eqb-true, append_assoc, append-nil, length-append}
 use Rattle.std.specs.Prelude.{slice_index, ◌==◌}
 use Rattle.std.specs.Int.{bit_at}
 use Rattle.std.specs.List.{flat_map, AllByRecursion}
 use Rattle.std.proofs.lemmas.Bool.{eqb-false}
-use Rattle.std.proofs.lemmas.Nat.{pow_pos, mod_below, mul-le, div-add-mod'}
 use Rattle.std.proofs.lemmas.Nat.Bits.{bit_at-lt}
-use Rattle.std.proofs.lemmas.Option.{slice_get_within, slice_get-get_or, get_or_from_slice_get}
-use Rattle.std.proofs.lemmas.List.{get_or_append_left, get_or-append-add}
+use Rattle.std.proofs.lemmas.Option.{slice_get_within, get_or_from_slice_get}
+use Rattle.std.proofs.lemmas.List.{get_or-replicate, length-replicate}
 use Rattle.tl_types.proofs.Lists.{slice_get-push}
-use Rattle.tl_types.specs.Operation.{carries_bytes, byte_count}
-use Rattle.tl_types.specs.Request.{Request, IsLawfulRequest}
+use Rattle.tl_types.specs.Operation.{carries_bytes}
+use Rattle.check_cells.specs.Sent.{Sent}
 use Rattle.tl_types.specs.Wire.{opcode_of, param_of}
 use Rattle.check_beats.specs.Bus.{low, lane_on_bus, beat_count_on_bus, bus_log}
-use Rattle.check_beats.specs.Form.{IsFormed, FitsAsk, SameFields, IsLawfulMaskOnBus}
-use Rattle.check_beats.specs.Message.{op_of, byte_at, given_at, ask_part, ask_beats}
-use Rattle.check_beats.specs.State.{AskBegun, ask_begun, first_ask, asked_beats, asked_bytes, ends_ask, ask_of, ask_after}
+use Rattle.check_beats.specs.Form.{IsFormed, FitsAsk, SameFields, IsLawfulMaskOnBus, IsRightAskMark}
+use Rattle.check_beats.specs.Message.{op_of, byte_at, shown_lanes, ask_part, ask_part_count, spoiled_ask_part, ask_beats}
+use Rattle.check_beats.specs.State.{AskBegun, ask_begun, first_ask, asked_beats, asked_bytes, asked_spoiled, ends_ask, ask_of, ask_after}
 use Rattle.check_beats.specs.Begun.{IsAskKept}
-use Rattle.check_beats.specs.Spelling.{AskBeat, StandsAt, HasFieldsOf, IsBeatOf, SpellsAskOnBus}
+use Rattle.check_beats.specs.Spelling.{AskBeat, StandsAt, HasFieldsOf, IsBeatOf, SpellsAskOnBus, IsLawfulSent}
 use Rattle.check_beats.specs.Laws.{asking, AreFitting, begun, ended_asks, channel, IsSpelled, ChannelIsCutUp, AskIsSpelled}
 use Rattle.check_beats.specs.declared.beat.AskHead.{AskHead}
 use Rattle.check_beats.proofs.Window.{lane_wide, lane_in_window, some_count}
-use Rattle.check_beats.proofs.Given.{op_named, carries_named, length-given_at, given_at-get, one_is_lawful}
-use Rattle.check_beats.proofs.Going.{Goes, goes, kept_on, on_is, ended_is_lawful, kept_first, first_is}
+use Rattle.check_beats.proofs.Given.{op_named, carries_named, length-given_at, given_at-get, marks_of_part, one_is_lawful}
+use Rattle.check_beats.proofs.Standing.{Stand, none_stand, more_stand}
+use Rattle.check_beats.proofs.Going.{Goes, goes, all_shown, length-all_shown, all_marks, more_marked, kept_on, on_is, ended_is_lawful, kept_first, first_is}
 
 -- what is read at a lane stands there
 pub byte_stands : (mask : ℕ) (lanes : List ℕ) (lane : ℕ) → StandsAt mask lanes lane (byte_at mask lanes lane)
@@ -32,51 +32,30 @@ byte_stands mask lanes lane = go (bit_at mask lane == 1) refl
     go true is = (eqb-true (bit_at mask lane) 1 is, refl)
     go false is = omega (arith, bit_at-lt mask lane, eqb-false (bit_at mask lane) 1 is)
 
--- each byte is what stands in its beat, where all lanes carry one
-abbrev pub Stand : ℕ → List (Option ℕ) → List AskBeat → Type 0
-Stand w bytes beats = (j : ℕ) (given : Option ℕ) (x : AskBeat) → slice_get bytes j ≡ Some given
-    → slice_get beats (j / 2 ^ w) ≡ Some x → given ≡ byte_at x.head.mask x.lanes (j % 2 ^ w)
+-- what stands at a lane of a beat, as it is looked at, and whether its bytes are spoiled
+abbrev pub stands_there : ℕ → AskBeat → ℕ → Option ℕ
+stands_there bus x lane = byte_at x.head.mask (shown_lanes bus x.head x.lanes) lane
 
-none_stand : (w : ℕ) → Stand w [] []
-none_stand w j given x at found = absurd (cc)
+abbrev pub marked_there : AskBeat → ℕ → Bool
+marked_there x lane = x.head.corrupt
 
-more_stand : (w : ℕ) (bytes : List (Option ℕ)) (beats : List AskBeat) (x : AskBeat)
-    → length bytes ≡ length beats * 2 ^ w → length x.lanes ≡ 2 ^ w → Stand w bytes beats
-    → Stand w (bytes ++ given_at x.head.mask x.lanes 0 (length x.lanes)) (beats ++ x ∷ [])
-more_stand w bytes beats x counted wide stand j given y at found = go (slice_get-push beats x y (j / 2 ^ w) found)
-  where
-    split : j / 2 ^ w * 2 ^ w + j % 2 ^ w ≡ j
-    split = div-add-mod' j (2 ^ w)
+-- the bytes of a beat more, and their marks
+more_bytes : (w : ℕ) (bytes : List (Option ℕ)) (beats : List AskBeat) (x : AskBeat) → length bytes ≡ length beats * 2 ^ w
+    → length x.lanes ≡ 2 ^ w → Stand (stands_there (2 ^ w)) w bytes beats
+    → Stand (stands_there (2 ^ w)) w (bytes ++ all_shown x.head x.lanes) (beats ++ x ∷ [])
+more_bytes w bytes beats x counted wide stand =
+    more_stand (stands_there (2 ^ w)) w None bytes (all_shown x.head x.lanes) beats x counted
+    (λ i lane.
+    let none : 0 + i ≡ i = omega arith in
+    given_at-get x.head.mask (shown_lanes (length x.lanes) x.head x.lanes) 0 (length x.lanes) i (omega (arith, lane, wide))
+    ∙ ap (λ n. stands_there (length x.lanes) x n) none ∙ ap (λ n. stands_there n x i) wide) stand
 
-    lane : j % 2 ^ w < 2 ^ w
-    lane = mod_below j (2 ^ w) (pow_pos w)
-
-    whole : get_or (bytes ++ given_at x.head.mask x.lanes 0 (length x.lanes)) j None ≡ given
-    whole = get_or_from_slice_get (bytes ++ given_at x.head.mask x.lanes 0 (length x.lanes)) j given None at
-
-    go : (slice_get beats (j / 2 ^ w) ≡ Some y) ⊎ ((j / 2 ^ w ≡ length beats) × (x ≡ y)) → given ≡ byte_at y.head.mask y.lanes (j % 2 ^ w)
-    go (inl before) =
-        let k = j / 2 ^ w in
-        let inside : k < length beats = slice_get_within beats k y before in
-        let row : (k + 1) * 2 ^ w ≤ length beats * 2 ^ w =
-        mul-le (k + 1) (2 ^ w) (length beats) (2 ^ w) (omega (arith, inside)) (omega arith) in
-        let more : (k + 1) * 2 ^ w ≡ k * 2 ^ w + 2 ^ w = search arith in
-        let early : j < length bytes = omega (arith, counted, row, more, split, lane) in
-        let same : get_or bytes j None ≡ given =
-        sym (get_or_append_left bytes (given_at x.head.mask x.lanes 0 (length x.lanes)) None j early) ∙ whole in
-        stand j given y (slice_get-get_or bytes j None early ∙ ap (λ (g : Option ℕ). Some g) same) before
-    go (inr last) =
-        let i = j % 2 ^ w in
-        let at_row : j / 2 ^ w * 2 ^ w ≡ length beats * 2 ^ w = ap (λ n. n * 2 ^ w) last.0 in
-        let place : j ≡ length bytes + i = omega (arith, counted, at_row, split) in
-        let here : get_or (bytes ++ given_at x.head.mask x.lanes 0 (length x.lanes)) j None
-        ≡ get_or (given_at x.head.mask x.lanes 0 (length x.lanes)) i None =
-        ap (λ n. get_or (bytes ++ given_at x.head.mask x.lanes 0 (length x.lanes)) n None) place
-        ∙ get_or-append-add bytes (given_at x.head.mask x.lanes 0 (length x.lanes)) i None in
-        let is : get_or (given_at x.head.mask x.lanes 0 (length x.lanes)) i None ≡ byte_at x.head.mask x.lanes (0 + i) =
-        given_at-get x.head.mask x.lanes 0 (length x.lanes) i (omega (arith, lane, wide)) in
-        let none : 0 + i ≡ i = omega arith in
-        sym whole ∙ here ∙ is ∙ ap (λ n. byte_at x.head.mask x.lanes n) none ∙ ap (λ (z : AskBeat). byte_at z.head.mask z.lanes i) last.1
+more_marks : (w : ℕ) (spoiled : List Bool) (beats : List AskBeat) (x : AskBeat) → length spoiled ≡ length beats * 2 ^ w
+    → length x.lanes ≡ 2 ^ w → Stand marked_there w spoiled beats
+    → Stand marked_there w (spoiled ++ all_marks x.head x.lanes) (beats ++ x ∷ [])
+more_marks w spoiled beats x counted wide stand =
+    more_stand marked_there w false spoiled (all_marks x.head x.lanes) beats x counted
+    (λ i lane. get_or-replicate (length x.lanes) i x.head.corrupt false (omega (arith, lane, wide))) stand
 
 -- ---- what is kept is what the beats say
 
@@ -87,7 +66,9 @@ pub record Gathered (w : ℕ) (begun : Option AskBegun) (beats : List AskBeat) :
   pub filled : length (asked_bytes begun) ≡ length beats * 2 ^ w
   pub each : (k : ℕ) (x : AskBeat) → slice_get beats k ≡ Some x
       → IsFormed (2 ^ w) x.head × ((h : AskHead) → first_ask begun ≡ Some h → SameFields h x.head)
-  pub stand : Stand w (asked_bytes begun) beats
+  pub marked : length (asked_spoiled begun) ≡ length beats * 2 ^ w
+  pub stand : Stand (stands_there (2 ^ w)) w (asked_bytes begun) beats
+  pub marks : Stand marked_there w (asked_spoiled begun) beats
 
 pub itself : (a : AskHead) → SameFields a a
 itself a = record { opcode = refl; param = refl; size = refl; source = refl; address = refl }
@@ -108,18 +89,29 @@ nothing_gathered w = record {
   counted = refl;
   filled = omega arith;
   each = λ k x at. absurd (cc);
-  stand = none_stand w;
+  marked = omega arith;
+  stand = none_stand (stands_there (2 ^ w)) w;
+  marks = none_stand marked_there w;
 }
 
 first_gathered : (w : ℕ) (x : AskBeat) → FitsAsk (2 ^ w) None x.head → length x.lanes ≡ 2 ^ w → ends_ask (2 ^ w) None x.head ≡ false
-    → Gathered w (Some (record { first = x.head; beats = 1; bytes = given_at x.head.mask x.lanes 0 (length x.lanes) })) ([] ++ x ∷ [])
+    → Gathered w
+    (Some (record {
+      first = x.head;
+      beats = 1;
+      bytes = all_shown x.head x.lanes;
+      spoiled = all_marks x.head x.lanes;
+    }))
+    ([] ++ x ∷ [])
 first_gathered w x fits wide goes_on = record {
   kept = kept_first w x.head x.lanes fits wide goes_on;
   empty = λ e. absurd (cc);
   counted = refl;
-  filled = length-given_at x.head.mask x.lanes 0 (length x.lanes) ∙ wide ∙ omega arith;
+  filled = length-all_shown x.head x.lanes ∙ wide ∙ omega arith;
   each = λ k y at. only k y (slice_get-push [] x y k at);
-  stand = more_stand w [] [] x (omega arith) wide (none_stand w);
+  marked = length-replicate (length x.lanes) x.head.corrupt ∙ wide ∙ omega arith;
+  stand = more_bytes w [] [] x (omega arith) wide (none_stand (stands_there (2 ^ w)) w);
+  marks = more_marks w [] [] x (omega arith) wide (none_stand marked_there w);
 }
   where
     only : (k : ℕ) (y : AskBeat) → (slice_get [] k ≡ Some y) ⊎ ((k ≡ 0) × (x ≡ y))
@@ -139,22 +131,26 @@ pub next_gathered : (w : ℕ) (b : AskBegun) (beats : List AskBeat) (x : AskBeat
     (Some (record {
       first = b.first;
       beats = b.beats + 1;
-      bytes =
-          b.bytes ++ given_at x.head.mask x.lanes 0 (length x.lanes);
+      bytes = b.bytes ++ all_shown x.head x.lanes;
+      spoiled = b.spoiled ++ all_marks x.head x.lanes;
     })) (beats ++ x ∷ [])
 next_gathered w b beats x g fits wide goes_on =
-    let some : ask_begun (Some b.first) b.beats b.bytes ≡ None → ⊥ = (λ e. absurd (cc)) in
-    let is = goes w (Some b.first) b.beats b.bytes x.head x.lanes g.kept fits wide some in
+    let some : ask_begun (Some b.first) b.beats b.bytes b.spoiled ≡ None → ⊥ = (λ e. absurd (cc)) in
+    let is = goes w (Some b.first) b.beats b.bytes b.spoiled x.head x.lanes g.kept fits wide some in
     let counted : length (beats ++ x ∷ []) ≡ b.beats + 1 = omega (arith, length-append beats (x ∷ []), g.counted) in
     record {
-      kept = kept_on w (Some b.first) b.beats b.bytes x.head x.lanes g.kept fits some is goes_on;
+      kept = kept_on w (Some b.first) b.beats b.bytes b.spoiled x.head x.lanes g.kept fits some is goes_on;
       empty = λ e. absurd (cc);
       counted = counted;
-      filled = length-append b.bytes (given_at x.head.mask x.lanes 0 (length x.lanes))
-          ∙ ap (λ n. length b.bytes + n) (length-given_at x.head.mask x.lanes 0 (length x.lanes))
+      filled = length-append b.bytes (all_shown x.head x.lanes)
+          ∙ ap (λ n. length b.bytes + n) (length-all_shown x.head x.lanes)
           ∙ is.total ∙ ap (λ n. n * 2 ^ w) (sym counted);
       each = λ k y at. any k y (slice_get-push beats x y k at);
-      stand = more_stand w b.bytes beats x g.filled wide g.stand;
+      marked = length-append b.spoiled (all_marks x.head x.lanes)
+          ∙ ap (λ n. length b.spoiled + n) (length-replicate (length x.lanes) x.head.corrupt)
+          ∙ ap (λ n. n + length x.lanes) is.marked ∙ is.total ∙ ap (λ n. n * 2 ^ w) (sym counted);
+      stand = more_bytes w b.bytes beats x g.filled wide g.stand;
+      marks = more_marks w b.spoiled beats x g.marked wide g.marks;
     }
   where
     any : (k : ℕ) (y : AskBeat) → (slice_get beats k ≡ Some y) ⊎ ((k ≡ length beats) × (x ≡ y))
@@ -172,10 +168,10 @@ gathered_after w None beats x g fits wide goes_on =
     let Q : Option AskBegun → Type 0 = λ o. Gathered w o ([] ++ x ∷ []) in
     subst P (sym (g.empty refl)) (subst Q (first_is w x.head x.lanes fits wide goes_on) (first_gathered w x fits wide goes_on))
 gathered_after w (Some b) beats x g fits wide goes_on =
-    let some : ask_begun (Some b.first) b.beats b.bytes ≡ None → ⊥ = (λ e. absurd (cc)) in
-    let is = goes w (Some b.first) b.beats b.bytes x.head x.lanes g.kept fits wide some in
+    let some : ask_begun (Some b.first) b.beats b.bytes b.spoiled ≡ None → ⊥ = (λ e. absurd (cc)) in
+    let is = goes w (Some b.first) b.beats b.bytes b.spoiled x.head x.lanes g.kept fits wide some in
     let Q : Option AskBegun → Type 0 = λ o. Gathered w o (beats ++ x ∷ []) in
-    subst Q (on_is w (Some b.first) b.beats b.bytes x.head x.lanes some is goes_on) (next_gathered w b beats x g fits wide goes_on)
+    subst Q (on_is w (Some b.first) b.beats b.bytes b.spoiled x.head x.lanes some is goes_on) (next_gathered w b beats x g fits wide goes_on)
 
 -- ---- the last beat
 
@@ -195,6 +191,11 @@ mask_of : (bus : ℕ) (x y : AskHead) → IsFormed bus y → SameFields x y → 
 mask_of bus x y formed same =
     let named : op_of x.opcode x.param ≡ formed.op = rw (← same.opcode, ← same.param) (op_named formed.op y.opcode y.param formed.code) in
     rw (named, ← same.size, ← same.address) formed.mask
+
+flag_of : (bus : ℕ) (x y : AskHead) → IsFormed bus y → SameFields x y → IsRightAskMark (op_of x.opcode x.param) y.corrupt
+flag_of bus x y formed same =
+    let named : op_of x.opcode x.param ≡ formed.op = rw (← same.opcode, ← same.param) (op_named formed.op y.opcode y.param formed.code) in
+    rw named formed.flag
 
 stands_so : (mask : ℕ) (lanes : List ℕ) (lane place : ℕ) (given : Option ℕ) → given ≡ byte_at mask lanes place
     → lane ≡ place → StandsAt mask lanes lane given
@@ -220,27 +221,31 @@ one_spells w x fits alone = record {
     only b y (inr last) =
         let op = op_of x.head.opcode x.head.param in
         let first = low x.head.address x.head.size % 2 ^ w in
-        let count = min (2 ^ w) (byte_count op x.head.size) in
+        let count = ask_part_count (2 ^ w) x.head in
+        let shown = shown_lanes (2 ^ w) x.head x.lanes in
         let here : IsBeatOf (2 ^ w) (ask_of (2 ^ w) None x.head x.lanes) b x = record {
           fields = fields_of (2 ^ w) x.head x.head (ask_part (2 ^ w) x.head x.lanes) fits.formed (itself x.head);
           mask = mask_of (2 ^ w) x.head x.head fits.formed (itself x.head);
-          clean = fits.formed.clean;
+          flag = flag_of (2 ^ w) x.head x.head fits.formed (itself x.head);
+          marks = λ j mark at row.
+              let within : j < count = omega (arith, slice_get_within (spoiled_ask_part (2 ^ w) x.head) j mark at, length-replicate count x.head.corrupt) in
+              sym (get_or_from_slice_get (spoiled_ask_part (2 ^ w) x.head) j mark false at) ∙ get_or-replicate count j x.head.corrupt false within;
           bytes = λ j given at row.
               let within : j < count =
-              rw (← length-given_at x.head.mask x.lanes first count)
+              rw (← length-given_at x.head.mask shown first count)
               (slice_get_within (ask_part (2 ^ w) x.head x.lanes) j given at) in
               let below : j < min (2 ^ w) (2 ^ x.head.size) = omega (arith, within, some_count x.head.size (carries_bytes op)) in
-              let is : given ≡ byte_at x.head.mask x.lanes (first + j) =
+              let is : given ≡ byte_at x.head.mask shown (first + j) =
               sym (get_or_from_slice_get (ask_part (2 ^ w) x.head x.lanes) j given None at)
-              ∙ given_at-get x.head.mask x.lanes first count j within in
-              stands_so x.head.mask x.lanes (lane_on_bus (2 ^ w) x.head.address x.head.size j) (first + j) given is
+              ∙ given_at-get x.head.mask shown first count j within in
+              stands_so x.head.mask shown (lane_on_bus (2 ^ w) x.head.address x.head.size j) (first + j) given is
               (lane_in_window w x.head.address x.head.size j below);
         } in
         subst (λ (z : AskBeat). IsBeatOf (2 ^ w) (ask_of (2 ^ w) None x.head x.lanes) b z) last.1 here
 
 long_spells : (w : ℕ) (b : AskBegun) (beats : List AskBeat) (x : AskBeat) → Gathered w (Some b) beats
     → FitsAsk (2 ^ w) (Some b.first) x.head → length x.lanes ≡ 2 ^ w
-    → Goes w b.beats b.bytes x.head x.lanes → b.beats + 1 ≡ ask_beats (2 ^ w) x.head
+    → Goes w b.beats b.bytes b.spoiled x.head x.lanes → b.beats + 1 ≡ ask_beats (2 ^ w) x.head
     → SpellsAskOnBus (2 ^ w) (ask_of (2 ^ w) (Some b) x.head x.lanes) (beats ++ x ∷ [])
 long_spells w b beats x g fits wide is ends = record {
   count = omega (arith, length-append beats (x ∷ []), g.counted, ends) ∙ carries_of (2 ^ w) x.head fits.formed;
@@ -248,12 +253,16 @@ long_spells w b beats x g fits wide is ends = record {
       let there = any k y (slice_get-push beats x y k found) in record {
         fields = fields_of (2 ^ w) x.head y.head (b.bytes ++ ask_part (2 ^ w) x.head x.lanes) fits.formed there.1;
         mask = mask_of (2 ^ w) x.head y.head there.0 there.1;
-        clean = there.0.clean;
-        bytes = λ j given at row.
-            let at_lanes : slice_get (b.bytes ++ given_at x.head.mask x.lanes 0 (length x.lanes)) j ≡ Some given = rw is.part at in
+        flag = flag_of (2 ^ w) x.head y.head there.0 there.1;
+        marks = λ j mark at row.
+            let at_lanes : slice_get (b.spoiled ++ all_marks x.head x.lanes) j ≡ Some mark = rw is.marks at in
             let in_row : slice_get (beats ++ x ∷ []) (j / 2 ^ w) ≡ Some y = rw row found in
-            stands_so y.head.mask y.lanes (lane_on_bus (2 ^ w) x.head.address x.head.size j) (j % 2 ^ w) given
-            (more_stand w b.bytes beats x g.filled wide g.stand j given y at_lanes in_row)
+            more_marks w b.spoiled beats x g.marked wide g.marks j mark y at_lanes in_row;
+        bytes = λ j given at row.
+            let at_lanes : slice_get (b.bytes ++ all_shown x.head x.lanes) j ≡ Some given = rw is.part at in
+            let in_row : slice_get (beats ++ x ∷ []) (j / 2 ^ w) ≡ Some y = rw row found in
+            stands_so y.head.mask (shown_lanes (2 ^ w) y.head y.lanes) (lane_on_bus (2 ^ w) x.head.address x.head.size j) (j % 2 ^ w) given
+            (more_bytes w b.bytes beats x g.filled wide g.stand j given y at_lanes in_row)
             (lane_wide w x.head.address x.head.size j is.long_is.wide);
       };
 }
@@ -270,13 +279,19 @@ pub spelled_end : (w : ℕ) (begun : Option AskBegun) (beats : List AskBeat) (x 
 spelled_end w None beats x g fits wide ends =
     let alone : ask_beats (2 ^ w) x.head ≡ 1 = sym (eqb-true 1 (ask_beats (2 ^ w) x.head) ends) in
     let P : List AskBeat → Type 0 = λ bs. IsSpelled (2 ^ w) (ask_of (2 ^ w) None x.head x.lanes, bs ++ x ∷ []) in
-    subst P (sym (g.empty refl)) (one_is_lawful w x.head x.lanes fits.formed alone, one_spells w x fits alone)
+    let lawful : IsLawfulSent (ask_of (2 ^ w) None x.head x.lanes) = record {
+      lawful = one_is_lawful w x.head x.lanes fits.formed alone;
+      marked = marks_of_part (2 ^ w) x.head x.lanes;
+    } in
+    subst P (sym (g.empty refl)) (lawful, one_spells w x fits alone)
 spelled_end w (Some b) beats x g fits wide ends =
-    let some : ask_begun (Some b.first) b.beats b.bytes ≡ None → ⊥ = (λ e. absurd (cc)) in
-    let is = goes w (Some b.first) b.beats b.bytes x.head x.lanes g.kept fits wide some in
+    let some : ask_begun (Some b.first) b.beats b.bytes b.spoiled ≡ None → ⊥ = (λ e. absurd (cc)) in
+    let is = goes w (Some b.first) b.beats b.bytes b.spoiled x.head x.lanes g.kept fits wide some in
     let last : b.beats + 1 ≡ ask_beats (2 ^ w) x.head = eqb-true (b.beats + 1) (ask_beats (2 ^ w) x.head) ends in
-    let lawful : IsLawfulRequest (op_of x.head.opcode x.head.param) x.head.size (b.bytes ++ ask_part (2 ^ w) x.head x.lanes) =
-    rw (← is.part) (ended_is_lawful w b.beats b.bytes x.head x.lanes fits.formed is last) in
+    let lawful : IsLawfulSent (ask_of (2 ^ w) (Some b) x.head x.lanes) = record {
+      lawful = rw (← is.part) (ended_is_lawful w b.beats b.bytes b.spoiled x.head x.lanes fits.formed is last);
+      marked = rw (← is.part, ← is.marks) (more_marked w b.beats b.bytes b.spoiled x.head x.lanes is);
+    } in
     (lawful, long_spells w b beats x g fits wide is last)
 
 -- ---- all beats of a channel
@@ -320,17 +335,17 @@ flat_more f [] x = append-nil (f x)
 flat_more f (y ∷ ys) x = ap (λ r. f y ++ r) (flat_more f ys x) ∙ sym (append_assoc (f y) (flat_map f ys) (f x))
 
 cut_more : (bus : ℕ) (past : List AskBeat) (x : AskBeat) (ends : Bool)
-    → channel past ≡ flat_map (λ (entry : Request × List AskBeat). entry.1) (ended_asks bus past) ++ begun bus past
+    → channel past ≡ flat_map (λ (entry : Sent × List AskBeat). entry.1) (ended_asks bus past) ++ begun bus past
     → channel past ++ x ∷ []
-    ≡ flat_map (λ (entry : Request × List AskBeat). entry.1)
+    ≡ flat_map (λ (entry : Sent × List AskBeat). entry.1)
     (if ends then ended_asks bus past ++ (ask_of bus (asking bus past) x.head x.lanes, begun bus past ++ x ∷ []) ∷ [] else ended_asks bus past)
     ++ (if ends then [] else begun bus past ++ x ∷ [])
 cut_more bus past x true before =
-    let f : Request × List AskBeat → List AskBeat = λ (entry : Request × List AskBeat). entry.1 in
+    let f : Sent × List AskBeat → List AskBeat = λ (entry : Sent × List AskBeat). entry.1 in
     ap (λ (c : List AskBeat). c ++ x ∷ []) before ∙ append_assoc (flat_map f (ended_asks bus past)) (begun bus past) (x ∷ [])
     ∙ sym (flat_more f (ended_asks bus past) (ask_of bus (asking bus past) x.head x.lanes, begun bus past ++ x ∷ [])) ∙ sym (append-nil _)
 cut_more bus past x false before =
-    let f : Request × List AskBeat → List AskBeat = λ (entry : Request × List AskBeat). entry.1 in
+    let f : Sent × List AskBeat → List AskBeat = λ (entry : Sent × List AskBeat). entry.1 in
     ap (λ (c : List AskBeat). c ++ x ∷ []) before ∙ append_assoc (flat_map f (ended_asks bus past)) (begun bus past) (x ∷ [])
 
 pub cut_up : ChannelIsCutUp

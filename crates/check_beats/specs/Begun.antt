@@ -5,14 +5,15 @@ use Rattle.check_beats.specs.Message.{ask_beats, reply_beats, op_of}
 use Rattle.tl_types.specs.Operation.{may_leave_unset}
 use Rattle.check_beats.specs.State.{AskBegun, ReplyBegun}
 
--- the first beat is lawful alone, there are beats to come, each that has crossed has filled the bus, and bytes are left
--- unset only if they may be
+-- the first beat is lawful alone, there are beats to come, each that has crossed has filled the bus, bytes are left
+-- unset only if they may be, and each byte has a mark
 pub record IsAskBegun (bus : ℕ) (begun : AskBegun) : Type 0 where
   pub formed : IsFormed bus begun.first
   pub some : 0 < begun.beats
   pub unfinished : begun.beats < ask_beats bus begun.first
   pub counted : length begun.bytes ≡ begun.beats * bus
   pub whole : may_leave_unset (op_of begun.first.opcode begun.first.param) ≡ false → All (λ b. IsSome b) begun.bytes
+  pub marked : length begun.spoiled ≡ length begun.bytes
 
 -- if a request is under way, what is kept of it is so.
 pub record IsAskKept (bus : ℕ) (begun : Option AskBegun) : Type 0 where

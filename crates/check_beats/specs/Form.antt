@@ -1,9 +1,9 @@
 -- When a beat is one of a lawful message, after the first beat of the message that is under way on its channel: the
 -- chapter "Beats and bursts" of the TileLink specification. That lanes may be unknown, and which fault is named where
 -- several apply, is this project's own.
-use Rattle.std.specs.Prelude.{◌≡◌, ◌≢◌, ℕ, ◌<◌, ◌≤◌, ◌⊎◌, Bool, true, false, Option, Some, bit_and, IsTrue}
+use Rattle.std.specs.Prelude.{◌≡◌, ◌≢◌, ℕ, ◌<◌, ◌≤◌, ◌⊎◌, Bool, true, false, Option, Some, bit_and}
 use Rattle.tl_types.specs.Fault.{IsFirstOf}
-use Rattle.tl_types.specs.Operation.{may_leave_unset, reply_carries_bytes}
+use Rattle.tl_types.specs.Operation.{carries_bytes, may_leave_unset, reply_carries_bytes}
 use Rattle.tl_types.specs.Wire.{IsCodeOf, reply_opcode_of}
 use Rattle.tl_types.specs.declared.operation.AskOp.{AskOp}
 use Rattle.tl_types.specs.declared.operation.ReplyOp.{ReplyOp}
@@ -14,7 +14,7 @@ use Rattle.check_beats.specs.declared.beat.ReplyHead.{ReplyHead}
 use Rattle.check_beats.specs.declared.fault.FormFault.{FormFault}
 use Rattle.check_beats.specs.declared.fault.FormFault.TheVariants.{Changed, Opcode, Param, Size, Unaligned, Mask, CorruptFlag, UnknownData}
 use Rattle.check_beats.specs.declared.rules.LinkRules.{LinkRules}
-use Rattle.check_beats.specs.Rules.{IsAlignedBy, IsMarkedBy}
+use Rattle.check_beats.specs.Rules.{IsAlignedBy, IsAskMarkedBy, IsMarkedBy}
 
 -- the beat has the fields of the first beat of the message that is under way, if one is
 abbrev pub Continues : {B : Type 0} → (B → B → Type 0) → Option B → B → Type 0
@@ -35,26 +35,32 @@ pub record SameFields (first beat : AskHead) : Type 0 where
   pub source : beat.source ≡ first.source
   pub address : beat.address ≡ first.address
 
+-- a beat of a request that carries no bytes is not marked corrupt
+abbrev pub IsRightAskMark : AskOp → Bool → Type 0
+IsRightAskMark op corrupt = carries_bytes op ≡ false → corrupt ≡ false
+
 -- a beat of a request is lawful alone: its opcode and parameter name an operation, its size is within the limit, its
--- mask is that of a request of this operation, size and address, and it is not marked corrupt
+-- mask is that of a request of this operation, size and address, and it is marked corrupt only if it carries bytes
 pub record IsFormed (bus : ℕ) (beat : AskHead) : Type 0 where
   pub op : AskOp
   pub code : IsCodeOf op beat.opcode beat.param
   pub in_limit : beat.size ≤ MAX_SIZE
   pub mask : IsLawfulMaskOnBus bus op beat.size beat.address beat.mask
-  pub clean : beat.corrupt ≡ false
+  pub flag : IsRightAskMark op beat.corrupt
 
 -- the beat is lawful alone, and is one of the request that is under way, if one is
 pub record FitsAsk (bus : ℕ) (begun : Option AskHead) (beat : AskHead) : Type 0 where
   pub formed : IsFormed bus beat
   pub same : Continues SameFields begun beat
 
--- each lane that carries a byte is known, by the bits of `known`: opcodes 0 to 3 carry bytes, on the lanes of the mask
+-- each lane that carries a byte is known, by the bits of `known`: opcodes 0 to 3 carry bytes, on the lanes of the mask. Of a
+-- beat that is marked corrupt no lane is looked at
 abbrev pub IsKnown : AskHead → ℕ → Type 0
-IsKnown beat known = beat.opcode < 4 → bit_and beat.mask known ≡ beat.mask
+IsKnown beat known = beat.opcode < 4 → beat.corrupt ≡ false → bit_and beat.mask known ≡ beat.mask
 
 -- the beat has this fault as one of a request. Each fault is the failure of a line of `IsFormed` or `Continues`, but for
--- `Unaligned`, which the rules of the links say, and `UnknownData`, the failure of `IsKnown`.
+-- `Unaligned`, which the rules of the links say, and `UnknownData`, the failure of `IsKnown`. `CorruptFlag` is also the failure
+-- of `IsAskMarkedBy`.
 abbrev pub HasAskFormFault : ℕ → LinkRules → Option AskHead → AskHead → ℕ → FormFault → Type 0
 HasAskFormFault bus rules begun beat known Changed = Continues SameFields begun beat → ⊥
 HasAskFormFault bus rules begun beat known Opcode = (op : AskOp) → IsCodeOf op beat.opcode beat.param → ⊥
@@ -63,8 +69,11 @@ HasAskFormFault bus rules begun beat known Size = MAX_SIZE < beat.size
 HasAskFormFault bus rules begun beat known Unaligned = IsAlignedBy rules beat → ⊥
 HasAskFormFault bus rules begun beat known Mask =
     (op : AskOp) × IsCodeOf op beat.opcode beat.param × (IsLawfulMaskOnBus bus op beat.size beat.address beat.mask → ⊥)
-HasAskFormFault bus rules begun beat known CorruptFlag = IsTrue beat.corrupt
-HasAskFormFault bus rules begun beat known UnknownData = (beat.opcode < 4) × (bit_and beat.mask known ≢ beat.mask)
+HasAskFormFault bus rules begun beat known CorruptFlag =
+    ((op : AskOp) × IsCodeOf op beat.opcode beat.param × (IsRightAskMark op beat.corrupt → ⊥))
+    ⊎ (IsAskMarkedBy rules beat → ⊥)
+HasAskFormFault bus rules begun beat known UnknownData =
+    (beat.opcode < 4) × (beat.corrupt ≡ false) × (bit_and beat.mask known ≢ beat.mask)
 
 -- ---- replies
 

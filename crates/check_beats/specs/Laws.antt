@@ -3,13 +3,13 @@
 -- is known of a reply, is this project's own.
 use Rattle.std.specs.Prelude.{◌≡◌, ◌≢◌, ◌↔◌, ℕ, ◌<◌, ◌%◌, ◌^◌, true, false, if◌then◌else◌, List, [], ◌∷◌, ◌++◌, length, take, Option, None}
 use Rattle.std.specs.List.{flat_map, AllByRecursion}
-use Rattle.tl_types.specs.Request.{Request, IsLawfulRequest}
 use Rattle.check_cells.specs.Known.{all_known}
 use Rattle.check_cells.specs.Pattern.{Pattern}
+use Rattle.check_cells.specs.Sent.{Sent}
 use Rattle.check_beats.specs.Bus.{bus_bytes}
 use Rattle.check_beats.specs.Form.{IsFormed, IsKnown, IsKnownReply, FitsAsk, FitsReply}
 use Rattle.check_beats.specs.Message.{reply_part, is_spoiled}
-use Rattle.check_beats.specs.Spelling.{AskBeat, SpellsAskOnBus, ReplyBeat, SpellsReplyOnBus, IsLawfulPattern}
+use Rattle.check_beats.specs.Spelling.{AskBeat, SpellsAskOnBus, IsLawfulSent, ReplyBeat, SpellsReplyOnBus, IsLawfulPattern}
 use Rattle.check_beats.specs.State.{AskBegun, first_ask, ends_ask, ask_of, ask_after, ReplyBegun, first_reply, ends_reply, reply_of, reply_after}
 use Rattle.check_beats.specs.declared.beat.AskHead.{AskHead}
 use Rattle.check_beats.specs.declared.beat.ReplyHead.{ReplyHead}
@@ -34,7 +34,7 @@ begun bus [] = []
 begun bus (beat ∷ past) = if ends_ask bus (asking bus past) beat.head then [] else begun bus past ++ beat ∷ []
 
 -- the requests that have ended, each with its beats, the earliest first
-abbrev pub ended_asks : ℕ → List AskBeat → List (Request × List AskBeat)
+abbrev pub ended_asks : ℕ → List AskBeat → List (Sent × List AskBeat)
 ended_asks bus [] = []
 ended_asks bus (beat ∷ past) =
     if ends_ask bus (asking bus past) beat.head
@@ -47,14 +47,14 @@ channel [] = []
 channel (beat ∷ past) = channel past ++ beat ∷ []
 
 -- the beats spell the request, which is lawful
-abbrev pub IsSpelled : ℕ → Request × List AskBeat → Type 0
-IsSpelled bus entry = IsLawfulRequest entry.0.op entry.0.size entry.0.bytes × SpellsAskOnBus bus entry.0 entry.1
+abbrev pub IsSpelled : ℕ → Sent × List AskBeat → Type 0
+IsSpelled bus entry = IsLawfulSent entry.0 × SpellsAskOnBus bus entry.0 entry.1
 
 -- the beats of channel A are those of requests, one after the other, and those of the request that is under way
 abbrev pub ChannelIsCutUp : Type 0
 ChannelIsCutUp =
     (bus : ℕ) (past : List AskBeat)
-    → channel past ≡ flat_map (λ (entry : Request × List AskBeat). entry.1) (ended_asks bus past) ++ begun bus past
+    → channel past ≡ flat_map (λ (entry : Sent × List AskBeat). entry.1) (ended_asks bus past) ++ begun bus past
 
 -- each request that has ended is spelled by its beats
 abbrev pub AskIsSpelled : Type 0
@@ -64,7 +64,7 @@ AskIsSpelled =
 
 -- there are beats that complete these to those of a lawful request
 abbrev pub CanEnd : ℕ → List AskBeat → Type 0
-CanEnd bus beats = (ask : Request) × (rest : List AskBeat) × IsSpelled bus (ask, beats ++ rest)
+CanEnd bus beats = (sent : Sent) × (rest : List AskBeat) × IsSpelled bus (sent, beats ++ rest)
 
 -- the request that is under way can end
 abbrev pub AskCanEnd : Type 0

@@ -57,11 +57,22 @@ byte_at mask lanes lane = if bit_at mask lane == 1 then Some (slice_index lanes 
 abbrev pub given_at : ℕ → List ℕ → ℕ → ℕ → List (Option ℕ)
 given_at mask lanes first count = map (λ k. byte_at mask lanes (first + k)) (range_with_len 0 count)
 
+-- the lanes of a beat of a request as they are looked at: if the beat is marked corrupt, all are zero
+abbrev pub shown_lanes : ℕ → AskHead → List ℕ → List ℕ
+shown_lanes bus beat lanes = if beat.corrupt then replicate bus 0 else lanes
+
+-- how many bytes of a request a beat carries
+abbrev pub ask_part_count : ℕ → AskHead → ℕ
+ask_part_count bus beat = min bus (byte_count (op_of beat.opcode beat.param) beat.size)
+
 -- the bytes of a request that a beat carries: those at its active lanes
 abbrev pub ask_part : ℕ → AskHead → List ℕ → List (Option ℕ)
 ask_part bus beat lanes =
-    given_at beat.mask lanes (low beat.address beat.size % bus)
-    (min bus (byte_count (op_of beat.opcode beat.param) beat.size))
+    given_at beat.mask (shown_lanes bus beat lanes) (low beat.address beat.size % bus) (ask_part_count bus beat)
+
+-- for each of them whether it is spoiled
+abbrev pub spoiled_ask_part : ℕ → AskHead → List Bool
+spoiled_ask_part bus beat = replicate (ask_part_count bus beat) beat.corrupt
 
 -- the bytes that a beat of a reply carries promise nothing: it is marked corrupt. Each beat of a denied reply is, and its bytes
 -- are not looked at anyway

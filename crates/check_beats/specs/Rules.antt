@@ -1,4 +1,4 @@
--- What a system says of all its links: whether requests may be unaligned, whether data of replies may be corrupt, what its
+-- What a system says of all its links: whether requests may be unaligned, whether data may be corrupt, what its
 -- decoders look at, and how long a clock is. That a request begins at a multiple of its size is of the chapter "Addressing" of
 -- the TileLink specification; the rest is this project's own.
 use Rattle.std.specs.Prelude.{◌≡◌, ℕ, ◌/◌, ◌%◌, ◌^◌, false, max, if◌then◌else◌}
@@ -9,6 +9,10 @@ use Rattle.check_beats.specs.declared.rules.LinkRules.{LinkRules}
 -- the address of a request is a multiple of its size, unless the system allows others
 abbrev pub IsAlignedBy : LinkRules → AskHead → Type 0
 IsAlignedBy rules beat = rules.unaligned ≡ false → beat.address % 2 ^ beat.size ≡ 0
+
+-- a beat of a request is not marked corrupt, unless the system says that data may be
+abbrev pub IsAskMarkedBy : LinkRules → AskHead → Type 0
+IsAskMarkedBy rules beat = rules.corrupt ≡ false → beat.corrupt ≡ false
 
 -- a beat of a reply that is not denied is not marked corrupt, unless the system says that data may be
 abbrev pub IsMarkedBy : LinkRules → ReplyHead → Type 0

@@ -3,12 +3,13 @@ use Rattle.std.specs.Prelude.{◌≡◌, ℕ, ◌/◌, ◌≤◌, Bool, false, t
 use Rattle.std.specs.Int.{bit_at}
 use Rattle.tl_types.specs.Operation.{carries_bytes, reply_carries_bytes, reply_byte_count}
 use Rattle.tl_types.specs.Wire.{opcode_of, param_of, reply_opcode_of}
-use Rattle.tl_types.specs.Request.{Request}
+use Rattle.tl_types.specs.Request.{Request, IsLawfulRequest}
 use Rattle.tl_types.specs.declared.limits.TheConstants.{MAX_SIZE}
 use Rattle.check_cells.specs.Pattern.{Pattern}
+use Rattle.check_cells.specs.Sent.{Sent}
 use Rattle.check_beats.specs.Bus.{lane_on_bus, beat_count_on_bus}
-use Rattle.check_beats.specs.Form.{IsLawfulMaskOnBus, IsRightMark}
-use Rattle.check_beats.specs.Message.{is_spoiled}
+use Rattle.check_beats.specs.Form.{IsLawfulMaskOnBus, IsRightAskMark, IsRightMark}
+use Rattle.check_beats.specs.Message.{is_spoiled, shown_lanes}
 use Rattle.check_beats.specs.declared.beat.AskHead.{AskHead}
 use Rattle.check_beats.specs.declared.beat.ReplyHead.{ReplyHead}
 
@@ -30,18 +31,25 @@ pub record HasFieldsOf (ask : Request) (beat : AskHead) : Type 0 where
   pub source : beat.source ≡ ask.source
   pub address : beat.address ≡ ask.address
 
--- a beat is number b of a request
-pub record IsBeatOf (bus : ℕ) (ask : Request) (b : ℕ) (beat : AskBeat) : Type 0 where
-  pub fields : HasFieldsOf ask beat.head
-  pub mask : IsLawfulMaskOnBus bus ask.op ask.size ask.address beat.head.mask
-  pub clean : beat.head.corrupt ≡ false
-  pub bytes : (j : ℕ) (given : Option ℕ) → slice_get ask.bytes j ≡ Some given → j / bus ≡ b
-      → StandsAt beat.head.mask beat.lanes (lane_on_bus bus ask.address ask.size j) given
+-- a beat is number b of a request as it crossed: a byte that is given is what stands at its lane, or zero if the beat is marked
+-- corrupt, and where none is given the mask leaves the lane out
+pub record IsBeatOf (bus : ℕ) (sent : Sent) (b : ℕ) (beat : AskBeat) : Type 0 where
+  pub fields : HasFieldsOf sent.ask beat.head
+  pub mask : IsLawfulMaskOnBus bus sent.ask.op sent.ask.size sent.ask.address beat.head.mask
+  pub flag : IsRightAskMark sent.ask.op beat.head.corrupt
+  pub marks : (j : ℕ) (mark : Bool) → slice_get sent.spoiled j ≡ Some mark → j / bus ≡ b → mark ≡ beat.head.corrupt
+  pub bytes : (j : ℕ) (given : Option ℕ) → slice_get sent.ask.bytes j ≡ Some given → j / bus ≡ b
+      → StandsAt beat.head.mask (shown_lanes bus beat.head beat.lanes) (lane_on_bus bus sent.ask.address sent.ask.size j) given
 
 -- the beats spell the request
-pub record SpellsAskOnBus (bus : ℕ) (ask : Request) (beats : List AskBeat) : Type 0 where
-  pub count : length beats ≡ beat_count_on_bus bus (carries_bytes ask.op) ask.size
-  pub each : (b : ℕ) (beat : AskBeat) → slice_get beats b ≡ Some beat → IsBeatOf bus ask b beat
+pub record SpellsAskOnBus (bus : ℕ) (sent : Sent) (beats : List AskBeat) : Type 0 where
+  pub count : length beats ≡ beat_count_on_bus bus (carries_bytes sent.ask.op) sent.ask.size
+  pub each : (b : ℕ) (beat : AskBeat) → slice_get beats b ≡ Some beat → IsBeatOf bus sent b beat
+
+-- the rule of requests, of one as it crossed: each of its bytes has a mark
+pub record IsLawfulSent (sent : Sent) : Type 0 where
+  pub lawful : IsLawfulRequest sent.ask.op sent.ask.size sent.ask.bytes
+  pub marked : length sent.spoiled ≡ length sent.ask.bytes
 
 -- ---- replies
 

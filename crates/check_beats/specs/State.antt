@@ -4,28 +4,31 @@
 use Rattle.std.specs.Prelude.{ℕ, ◌+◌, Bool, if◌then◌else◌, ◌==◌, List, [], ◌++◌, replicate, Option, Some, None, unwrap_or}
 use Rattle.tl_types.specs.Request.{Request}
 use Rattle.check_cells.specs.Pattern.{Pattern}
-use Rattle.check_beats.specs.Message.{ask_beats, reply_beats, op_of, reply_op_of_number, ask_part, reply_part, spoiled_part, seen_cells, is_spoiled}
+use Rattle.check_cells.specs.Sent.{Sent}
+use Rattle.check_beats.specs.Message.{ask_beats, reply_beats, op_of, reply_op_of_number, ask_part, spoiled_ask_part, reply_part, spoiled_part, seen_cells, is_spoiled}
 use Rattle.check_beats.specs.declared.beat.AskHead.{AskHead}
 use Rattle.check_beats.specs.declared.beat.ReplyHead.{ReplyHead}
 
 -- ---- requests
 
--- a request that has begun and not ended
+-- a request that has begun and not ended: the bytes that it has carried, and which of them are spoiled
 pub record AskBegun : Type 0 where
   pub first : AskHead
   pub beats : ℕ
   pub bytes : List (Option ℕ)
+  pub spoiled : List Bool
 
 -- channel A of a link: the bytes of its bus, and the request that is under way, if one is
 pub record AskChannel : Type 0 where
   pub bus : ℕ
   pub begun : Option AskBegun
 
--- what is kept of a request with this first beat, of which so many beats have crossed and carried these bytes; nothing if
--- there is no first beat.
-abbrev pub ask_begun : Option AskHead → ℕ → List (Option ℕ) → Option AskBegun
-ask_begun None beats bytes = None
-ask_begun (Some first) beats bytes = Some (record { first = first; beats = beats; bytes = bytes })
+-- what is kept of a request with this first beat, of which so many beats have crossed and carried these bytes, marked so;
+-- nothing if there is no first beat.
+abbrev pub ask_begun : Option AskHead → ℕ → List (Option ℕ) → List Bool → Option AskBegun
+ask_begun None beats bytes spoiled = None
+ask_begun (Some first) beats bytes spoiled =
+    Some (record { first = first; beats = beats; bytes = bytes; spoiled = spoiled })
 
 -- the first beat of the request that is under way, if one is.
 abbrev pub first_ask : Option AskBegun → Option AskHead
@@ -42,18 +45,26 @@ abbrev pub asked_bytes : Option AskBegun → List (Option ℕ)
 asked_bytes None = []
 asked_bytes (Some begun) = begun.bytes
 
+-- which of them are spoiled; empty if none is under way.
+abbrev pub asked_spoiled : Option AskBegun → List Bool
+asked_spoiled None = []
+asked_spoiled (Some begun) = begun.spoiled
+
 -- whether a beat of a request is its last, after what has crossed of it
 abbrev pub ends_ask : ℕ → Option AskBegun → AskHead → Bool
 ends_ask bus begun beat = asked_beats begun + 1 == ask_beats bus beat
 
 -- the request that a beat ends, after what has crossed of it
-abbrev pub ask_of : ℕ → Option AskBegun → AskHead → List ℕ → Request
+abbrev pub ask_of : ℕ → Option AskBegun → AskHead → List ℕ → Sent
 ask_of bus begun beat lanes = record {
-  op = op_of beat.opcode beat.param;
-  size = beat.size;
-  source = beat.source;
-  address = beat.address;
-  bytes = asked_bytes begun ++ ask_part bus beat lanes;
+  ask = record {
+    op = op_of beat.opcode beat.param;
+    size = beat.size;
+    source = beat.source;
+    address = beat.address;
+    bytes = asked_bytes begun ++ ask_part bus beat lanes;
+  };
+  spoiled = asked_spoiled begun ++ spoiled_ask_part bus beat;
 }
 
 -- what has crossed of a request after one beat more: nothing is under way where that is its last
@@ -64,9 +75,10 @@ ask_after bus begun beat lanes =
       first = unwrap_or (first_ask begun) beat;
       beats = asked_beats begun + 1;
       bytes = asked_bytes begun ++ ask_part bus beat lanes;
+      spoiled = asked_spoiled begun ++ spoiled_ask_part bus beat;
     })
 
--- the request that has begun and not ended, as far as it has crossed
+-- the request that has begun and not ended, as far as it has crossed, whichever of its beats were marked corrupt
 abbrev pub ask_so_far : Option AskBegun → Option Request
 ask_so_far None = None
 ask_so_far (Some begun) = Some (record {

@@ -1,17 +1,18 @@
 //! Beats of channel A.
-ghost use Rattle.std.specs.Prelude.{◌≡◌, ◌≤◌, ◌↔◌, ℕ, None, Some, false, length, IsTrue, IfSome, IfNone};
+ghost use Rattle.std.specs.Prelude.{◌≡◌, ◌≤◌, ◌↔◌, ℕ, List, None, Some, false, length, IsTrue, IfSome, IfNone};
 ghost use Rattle.tl_types.specs.Wire.{IsCodeOf};
 ghost use Rattle.check_beats.specs.Bus.{bus_bytes, active_mask_on_bus};
-ghost use Rattle.check_beats.specs.Form.{IsLawfulMaskOnBus, SameFields, Continues, IsKnown, IsFormed, FitsAsk, IsFirstAskFormFault};
-ghost use Rattle.check_beats.specs.Rules.{IsAlignedBy};
+ghost use Rattle.check_beats.specs.Form.{IsLawfulMaskOnBus, IsRightAskMark, SameFields, Continues, IsKnown, IsFormed, FitsAsk, IsFirstAskFormFault};
+ghost use Rattle.check_beats.specs.Rules.{IsAlignedBy, IsAskMarkedBy};
 ghost use Rattle.check_beats.specs.Message.{ask_beats, op_of};
 ghost use Rattle.check_beats.specs.State.{ask_of};
 
 use crate::beat::AskHead;
 use crate::bus::{Bus, active_mask_on_bus, beat_count_on_bus, first_lane};
 use crate::fault::FormFault;
-use crate::lanes::push_lanes;
-use crate::rules::{LinkRules, is_aligned_by};
+use crate::lanes::{ZEROS, push_lanes};
+use crate::rules::{LinkRules, is_aligned_by, is_ask_marked_by};
+use check_cells::Sent;
 use tl_types::{Ask, AskOp, Bytes, MAX_BYTES, MAX_SIZE, read_op};
 
 /// Whether two beats have the same shared fields.
@@ -59,7 +60,14 @@ fn continues(first: &Option<AskHead>, beat: &AskHead) -> bool
 fn is_known(beat: &AskHead, known: u64) -> bool
     ensures { IsTrue result ↔ IsKnown beat.now known }
 {
-    beat.opcode >= 4 || beat.mask & known == beat.mask
+    beat.opcode >= 4 || beat.mask & known == beat.mask || beat.corrupt
+}
+
+/// Whether a `corrupt` flag may be lawful, whatever the system says.
+fn is_lawful_ask_flag(op: AskOp, corrupt: bool) -> bool
+    ensures { IsTrue result ↔ IsRightAskMark op corrupt }
+{
+    !corrupt || op.carries_bytes()
 }
 
 /// The first fault that a beat has as one of a request, after the first beat of the request that is under way.
@@ -74,6 +82,7 @@ pub fn ask_fault(
     ensures fault { IfSome result (IsFirstAskFormFault (bus_bytes bus) rules first.now beat.now known) }
     ensures fits { IfNone result (FitsAsk (bus_bytes bus) first.now beat.now) }
     ensures aligned { IfNone result (IsAlignedBy rules beat.now) }
+    ensures marked { IfNone result (IsAskMarkedBy rules beat.now) }
     ensures known { IfNone result (IsKnown beat.now known) }
 {
     if !continues(first, beat) {
@@ -91,7 +100,7 @@ pub fn ask_fault(
     if !is_lawful_mask(bus, beat.mask, op, beat.size, beat.address) {
         return Some(FormFault::Mask);
     }
-    if beat.corrupt {
+    if !is_lawful_ask_flag(op, beat.corrupt) || !is_ask_marked_by(rules, beat) {
         return Some(FormFault::CorruptFlag);
     }
     if !is_known(beat, known) {
@@ -126,7 +135,8 @@ fn put_part(bus: Bus, op: AskOp, beat: &AskHead, lanes: &[u8], ask: &mut Ask)
     requires op { op ≡ op_of beat.now.opcode beat.now.param }
     requires alone { ask_beats (bus_bytes bus) beat.now ≡ 1 }
     requires lanes { length lanes.now ≡ bus_bytes bus }
-    ensures { ask.new ≡ ask_of (bus_bytes bus) None beat.now lanes.now }
+    requires clean { beat.now.corrupt ≡ false }
+    ensures { ask.new ≡ (ask_of (bus_bytes bus) None beat.now lanes.now).ask }
 {
     let mut bytes = Bytes::new();
     let first = first_lane(bus, beat.address, beat.size);
@@ -142,7 +152,8 @@ fn put_whole(bus: Bus, op: AskOp, beat: &AskHead, lanes: &[u8], ask: &mut Ask)
     requires alone { ask_beats (bus_bytes bus) beat.now ≡ 1 }
     requires lanes { length lanes.now ≡ bus_bytes bus }
     requires set { beat.now.mask ≡ active_mask_on_bus (bus_bytes bus) beat.now.address beat.now.size }
-    ensures { ask.new ≡ ask_of (bus_bytes bus) None beat.now lanes.now }
+    requires clean { beat.now.corrupt ≡ false }
+    ensures { ask.new ≡ (ask_of (bus_bytes bus) None beat.now lanes.now).ask }
 {
     let first = first_lane(bus, beat.address, beat.size);
     let count = bus.bytes().min(op.byte_count(beat.size));
@@ -150,19 +161,55 @@ fn put_whole(bus: Bus, op: AskOp, beat: &AskHead, lanes: &[u8], ask: &mut Ask)
     ask.refill_given(op, beat.size, beat.source, beat.address, bytes);
 }
 
-/// Puts the request of one beat in the place of another.
-pub fn put_ask(bus: Bus, beat: &AskHead, lanes: &[u8], ask: &mut Ask)
+/// Puts the request of one beat that is not marked corrupt in the place of another.
+fn put_clean(bus: Bus, op: AskOp, beat: &AskHead, lanes: &[u8], ask: &mut Ask)
     requires formed { IsFormed (bus_bytes bus) beat.now }
+    requires op { op ≡ op_of beat.now.opcode beat.now.param }
     requires alone { ask_beats (bus_bytes bus) beat.now ≡ 1 }
     requires lanes { length lanes.now ≡ bus_bytes bus }
-    ensures { ask.new ≡ ask_of (bus_bytes bus) None beat.now lanes.now }
+    requires clean { beat.now.corrupt ≡ false }
+    ensures { ask.new ≡ (ask_of (bus_bytes bus) None beat.now lanes.now).ask }
 {
-    let op = op_of(bus, beat);
     if beat.mask == active_mask_on_bus(bus, beat.address, beat.size) {
         put_whole(bus, op, beat, lanes, ask);
     } else {
         put_part(bus, op, beat, lanes, ask);
     }
+}
+
+/// The same of a beat that is marked corrupt: as if its lanes were zero.
+// apart, since few beats are
+#[inline(never)]
+fn put_corrupt(bus: Bus, op: AskOp, beat: &AskHead, ask: &mut Ask)
+    requires formed { IsFormed (bus_bytes bus) beat.now }
+    requires op { op ≡ op_of beat.now.opcode beat.now.param }
+    requires alone { ask_beats (bus_bytes bus) beat.now ≡ 1 }
+    requires corrupt { IsTrue beat.now.corrupt }
+    ensures { (lanes : List ℕ) → ask.new ≡ (ask_of (bus_bytes bus) None beat.now lanes).ask }
+{
+    let clean = AskHead {
+        corrupt: false,
+        ..*beat
+    };
+    put_clean(bus, op, &clean, &ZEROS[..bus.bytes()], ask);
+}
+
+/// Puts the request of one beat in the place of another.
+pub fn put_ask(bus: Bus, beat: &AskHead, lanes: &[u8], sent: &mut Sent)
+    requires formed { IsFormed (bus_bytes bus) beat.now }
+    requires alone { ask_beats (bus_bytes bus) beat.now ≡ 1 }
+    requires lanes { length lanes.now ≡ bus_bytes bus }
+    ensures { sent.new ≡ ask_of (bus_bytes bus) None beat.now lanes.now }
+{
+    let op = op_of(bus, beat);
+    if beat.corrupt {
+        put_corrupt(bus, op, beat, &mut sent.ask);
+    } else {
+        put_clean(bus, op, beat, lanes, &mut sent.ask);
+    }
+    sent.marks.clear();
+    sent.marks
+        .push(beat.corrupt, bus.bytes().min(op.byte_count(beat.size)));
 }
 
 /// Whether a beat has the fields and the mask of another, and is not marked corrupt.
@@ -184,6 +231,7 @@ fn lane_fault(
 ) -> Option<FormFault>
     requires fits { FitsAsk (bus_bytes bus) first.now beat.now }
     requires aligned { IsAlignedBy rules beat.now }
+    requires marked { IsAskMarkedBy rules beat.now }
     ensures fault { IfSome result (IsFirstAskFormFault (bus_bytes bus) rules first.now beat.now known) }
     ensures known { IfNone result (IsKnown beat.now known) }
 {
@@ -209,6 +257,7 @@ pub fn next_ask_fault(
     ensures fault { IfSome result (IsFirstAskFormFault (bus_bytes bus) rules first.now beat.now known) }
     ensures fits { IfNone result (FitsAsk (bus_bytes bus) first.now beat.now) }
     ensures aligned { IfNone result (IsAlignedBy rules beat.now) }
+    ensures marked { IfNone result (IsAskMarkedBy rules beat.now) }
     ensures known { IfNone result (IsKnown beat.now known) }
 {
     if is_alike(head, beat) && is_aligned_by(rules, beat) {
@@ -231,6 +280,7 @@ fn other_ask_fault(
     ensures fault { IfSome result (IsFirstAskFormFault (bus_bytes bus) rules first.now beat.now known) }
     ensures fits { IfNone result (FitsAsk (bus_bytes bus) first.now beat.now) }
     ensures aligned { IfNone result (IsAlignedBy rules beat.now) }
+    ensures marked { IfNone result (IsAskMarkedBy rules beat.now) }
     ensures known { IfNone result (IsKnown beat.now known) }
 {
     ask_fault(bus, rules, first, beat, known)

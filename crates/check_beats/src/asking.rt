@@ -2,19 +2,19 @@
 ghost use Rattle.std.specs.Prelude.{◌≡◌, ◌≤◌, ◌↔◌, None, false, length, IsTrue, IfSome, IfNone};
 ghost use Rattle.check_beats.specs.Bus.{bus_bytes};
 ghost use Rattle.check_beats.specs.Form.{FitsAsk, IsKnown, IsFirstAskFormFault};
-ghost use Rattle.check_beats.specs.Rules.{IsAlignedBy};
+ghost use Rattle.check_beats.specs.Rules.{IsAlignedBy, IsAskMarkedBy};
 ghost use Rattle.check_beats.specs.State.{first_ask, asked_beats, ends_ask, ask_of, ask_after, ask_so_far};
 
 use crate::ask::{ask_beats, ask_fault, next_ask_fault, op_of, put_ask};
 use crate::beat::AskHead;
 use crate::bus::Bus;
 use crate::fault::FormFault;
-use crate::lanes::push_beat;
+use crate::lanes::push_shown;
 use crate::rules::LinkRules;
-use check_cells::AskSoFar;
+use check_cells::{AskSoFar, Marks, Sent};
 use std::alloc::AllocError;
 use std::marker::Model;
-use tl_types::{Ask, Bytes, MAX_BYTES};
+use tl_types::{Bytes, MAX_BYTES};
 
 /// Channel A of a link: what has crossed of the request that is under way.
 ///
@@ -26,6 +26,7 @@ pub struct Asking {
     first: Option<AskHead>,
     beats: usize,
     bytes: Bytes,
+    marks: Marks,
 }
 
 impl Model for Asking {
@@ -35,9 +36,9 @@ impl Model for Asking {
 
     ghost Value = { AskChannel };
 
-    ghost view = { λ a. record { bus = bus_bytes a.bus; begun = ask_begun a.first a.beats a.bytes } };
+    ghost view = { λ a. record { bus = bus_bytes a.bus; begun = ask_begun a.first a.beats a.bytes a.marks } };
 
-    ghost invariant = { λ a. IsAskKept (bus_bytes a.bus) (ask_begun a.first a.beats a.bytes) };
+    ghost invariant = { λ a. IsAskKept (bus_bytes a.bus) (ask_begun a.first a.beats a.bytes a.marks) };
 }
 
 impl Clone for Asking {
@@ -51,6 +52,7 @@ impl Clone for Asking {
             first: self.first,
             beats: self.beats,
             bytes: self.bytes.copy(),
+            marks: self.marks.copy(),
         })
     }
 }
@@ -65,6 +67,7 @@ impl Asking {
             first: None,
             beats: 0,
             bytes: Bytes::new(),
+            marks: Marks::new(),
         }
     }
 
@@ -114,6 +117,7 @@ impl Asking {
         ensures fault { IfSome result (IsFirstAskFormFault self.now.bus rules (first_ask self.now.begun) beat.now known) }
         ensures fits { IfNone result (FitsAsk self.now.bus (first_ask self.now.begun) beat.now) }
         ensures aligned { IfNone result (IsAlignedBy rules beat.now) }
+        ensures marked { IfNone result (IsAskMarkedBy rules beat.now) }
         ensures known { IfNone result (IsKnown beat.now known) }
     {
         match &self.first {
@@ -181,7 +185,9 @@ impl Asking {
         self.first = Some(*beat);
         self.beats = 1;
         self.bytes.clear();
-        push_beat(&mut self.bytes, beat.mask, lanes);
+        self.marks.clear();
+        push_shown(&mut self.bytes, beat, lanes);
+        self.marks.push(beat.corrupt, lanes.len());
     }
 
     /// A beat crosses between the first of a request and the last.
@@ -195,36 +201,40 @@ impl Asking {
         } }
     {
         self.beats += 1;
-        push_beat(&mut self.bytes, beat.mask, lanes);
+        push_shown(&mut self.bytes, beat, lanes);
+        self.marks.push(beat.corrupt, lanes.len());
     }
 
     /// Puts the request that a beat ends in the place of another.
-    pub fn ask_into(&self, beat: &AskHead, lanes: &[u8], ask: &mut Ask)
+    pub fn ask_into(&self, beat: &AskHead, lanes: &[u8], sent: &mut Sent)
         requires fits { FitsAsk self.now.bus (first_ask self.now.begun) beat.now }
         requires ends { IsTrue (ends_ask self.now.bus self.now.begun beat.now) }
         requires lanes { length lanes.now ≡ self.now.bus }
-        ensures { ask.new ≡ ask_of self.now.bus self.now.begun beat.now lanes.now }
+        ensures { sent.new ≡ ask_of self.now.bus self.now.begun beat.now lanes.now }
     {
         // most requests are one beat: no bytes are gathered
         if self.begins() {
-            put_ask(self.bus, beat, lanes, ask);
+            put_ask(self.bus, beat, lanes, sent);
         } else {
-            self.put_long(beat, lanes, ask);
+            self.put_long(beat, lanes, sent);
         }
     }
 
     /// Puts the request that a beat ends, after those that have begun it, in the place of another.
     #[inline(never)]
-    fn put_long(&self, beat: &AskHead, lanes: &[u8], ask: &mut Ask)
+    fn put_long(&self, beat: &AskHead, lanes: &[u8], sent: &mut Sent)
         requires fits { FitsAsk self.now.bus (first_ask self.now.begun) beat.now }
         requires ends { IsTrue (ends_ask self.now.bus self.now.begun beat.now) }
         requires lanes { length lanes.now ≡ self.now.bus }
         requires goes_on { self.now.begun ≡ None → ⊥ }
-        ensures { ask.new ≡ ask_of self.now.bus self.now.begun beat.now lanes.now }
+        ensures { sent.new ≡ ask_of self.now.bus self.now.begun beat.now lanes.now }
     {
         let op = op_of(self.bus, beat);
         let mut bytes = self.bytes.copy();
-        push_beat(&mut bytes, beat.mask, lanes);
-        ask.refill_from(op, beat.size, beat.source, beat.address, &bytes);
+        push_shown(&mut bytes, beat, lanes);
+        sent.ask
+            .refill_from(op, beat.size, beat.source, beat.address, &bytes);
+        sent.marks.refill_from(&self.marks);
+        sent.marks.push(beat.corrupt, lanes.len());
     }
 }

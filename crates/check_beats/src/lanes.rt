@@ -1,9 +1,13 @@
 //! What the lanes of a beat carry.
 ghost use Rattle.std.specs.Prelude.{◌≡◌, ◌+◌, ◌%◌, ◌<◌, ◌≤◌, ◌++◌, length, map, Some};
-ghost use Rattle.check_beats.specs.Message.{byte_at, given_at};
+ghost use Rattle.check_beats.specs.Message.{byte_at, given_at, shown_lanes};
 
+use crate::beat::AskHead;
 use crate::bus::MAX_LANES;
 use tl_types::{Bytes, MAX_BYTES, WORD_BYTES};
+
+/// The bytes of a beat of which none is looked at.
+pub const ZEROS: [u8; MAX_LANES] = [0; MAX_LANES];
 
 /// What stands at a lane of a beat.
 fn byte_at(mask: u64, lanes: &[u8], lane: usize) -> Option<u8>
@@ -58,5 +62,21 @@ pub fn push_beat(bytes: &mut Bytes, mask: u64, lanes: &[u8])
         push_words(bytes, lanes);
     } else {
         push_lanes(bytes, mask, lanes, 0, lanes.len());
+    }
+}
+
+/// Appends what is looked at of all lanes of a beat: zeros at the lanes of its mask, if it is marked corrupt.
+pub fn push_shown(bytes: &mut Bytes, beat: &AskHead, lanes: &[u8])
+    requires aligned { WORD_BYTES ≤ length lanes.now → length bytes.old % WORD_BYTES ≡ 0 }
+    requires whole { WORD_BYTES ≤ length lanes.now → length lanes.now % WORD_BYTES ≡ 0 }
+    requires in_limit { length lanes.now ≤ MAX_LANES }
+    requires room { length bytes.old + length lanes.now ≤ MAX_BYTES }
+    ensures { bytes.new ≡ bytes.old
+        ++ given_at beat.now.mask (shown_lanes (length lanes.now) beat.now lanes.now) 0 (length lanes.now) }
+{
+    if beat.corrupt {
+        push_beat(bytes, beat.mask, &ZEROS[..lanes.len()]);
+    } else {
+        push_beat(bytes, beat.mask, lanes);
     }
 }

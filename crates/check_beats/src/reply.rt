@@ -10,12 +10,10 @@ ghost use Rattle.check_beats.specs.State.{reply_of};
 use crate::beat::ReplyHead;
 use crate::bus::{Bus, MAX_LANES, active_mask_on_bus, beat_count_on_bus, first_lane};
 use crate::fault::FormFault;
+use crate::lanes::ZEROS;
 use crate::rules::{LinkRules, is_marked_by};
 use check_cells::{Cells, Pattern};
 use tl_types::{MAX_BYTES, MAX_SIZE, ReplyOp, read_reply_op};
-
-/// The bytes of a beat of which none is looked at.
-const ZEROS: [u8; MAX_LANES] = [0; MAX_LANES];
 
 /// The opcode, size and source of a beat as one number. They lie side by side, so that they are read at once.
 fn shared_word(beat: &ReplyHead) -> u32

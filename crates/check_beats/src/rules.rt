@@ -1,17 +1,17 @@
 //! What a system says of all its links.
 ghost use Rattle.std.specs.Prelude.{◌≡◌, ◌≤◌, ◌↔◌, IsTrue};
 ghost use Rattle.tl_types.specs.declared.limits.TheConstants.{MAX_SIZE};
-ghost use Rattle.check_beats.specs.Rules.{IsAlignedBy, IsMarkedBy, clocks_in, decoded_size};
+ghost use Rattle.check_beats.specs.Rules.{IsAlignedBy, IsAskMarkedBy, IsMarkedBy, clocks_in, decoded_size};
 
 use crate::beat::{AskHead, ReplyHead};
 
-/// What a system says of all its links. By default requests are aligned, data of replies are not corrupt, decoders look at all
+/// What a system says of all its links. By default requests are aligned, data are not corrupt, decoders look at all
 /// bytes of a request, and a unit of time is a clock.
 #[derive(Debug, Clone, Copy, PartialEq, Eq, Default)]
 pub struct LinkRules {
     /// The address of a request may be no multiple of its size. Its slave denies it.
     pub unaligned: bool,
-    /// Beats of replies that are not denied may be marked corrupt. Their bytes promise nothing.
+    /// Beats with data may be marked corrupt. Their bytes promise nothing.
     pub corrupt: bool,
     /// Decoders look at the address of a request, and not at its other bytes.
     pub by_address: bool,
@@ -43,6 +43,13 @@ pub fn is_aligned_by(rules: LinkRules, beat: &AskHead) -> bool
     ensures { IsTrue result ↔ IsAlignedBy rules beat.now }
 {
     rules.unaligned || beat.address % (1 << beat.size) == 0
+}
+
+/// Whether a beat of a request is not marked corrupt, unless it may be.
+pub fn is_ask_marked_by(rules: LinkRules, beat: &AskHead) -> bool
+    ensures { IsTrue result ↔ IsAskMarkedBy rules beat.now }
+{
+    !beat.corrupt || rules.corrupt
 }
 
 /// Whether a beat of a reply that is not denied is not marked corrupt, unless it may be.

@@ -2,7 +2,7 @@
 ghost use Rattle.std.specs.Prelude.{◌≡◌, ◌≤◌, ◌↔◌, None, false, length, take, IsTrue, IfSome, IfNone};
 ghost use Rattle.check_beats.specs.Bus.{bus_bytes};
 ghost use Rattle.check_beats.specs.Form.{FitsAsk, FitsReply, IsKnown, IsKnownReply, IsFirstAskFormFault, IsFirstReplyFormFault};
-ghost use Rattle.check_beats.specs.Rules.{IsAlignedBy, IsMarkedBy};
+ghost use Rattle.check_beats.specs.Rules.{IsAlignedBy, IsAskMarkedBy, IsMarkedBy};
 ghost use Rattle.check_beats.specs.State.{nothing_under, first_ask, first_reply, ends_ask, ends_reply, ask_of, reply_of, ask_after, reply_after, ask_so_far, replying_source};
 
 use crate::asking::Asking;
@@ -12,10 +12,9 @@ use crate::fault::FormFault;
 use crate::reply::is_known_reply;
 use crate::replying::Replying;
 use crate::rules::LinkRules;
-use check_cells::{AskSoFar, Pattern};
+use check_cells::{AskSoFar, Pattern, Sent};
 use std::alloc::AllocError;
 use std::marker::Model;
-use tl_types::Ask;
 
 /// The request and the reply that have begun at a link and not ended.
 ///
@@ -109,6 +108,7 @@ impl UnderWay {
         ensures fault { IfSome result (IsFirstAskFormFault self.now.bus rules (first_ask self.now.asking) beat.now known) }
         ensures fits { IfNone result (FitsAsk self.now.bus (first_ask self.now.asking) beat.now) }
         ensures aligned { IfNone result (IsAlignedBy rules beat.now) }
+        ensures marked { IfNone result (IsAskMarkedBy rules beat.now) }
         ensures known { IfNone result (IsKnown beat.now known) }
     {
         self.asking.fault(rules, beat, known)
@@ -148,14 +148,14 @@ impl UnderWay {
     }
 
     /// Puts the request that a beat ends in the place of another.
-    pub fn ask_into(&self, beat: &AskHead, lanes: &[u8], ask: &mut Ask)
+    pub fn ask_into(&self, beat: &AskHead, lanes: &[u8], sent: &mut Sent)
         requires fits { FitsAsk self.now.bus (first_ask self.now.asking) beat.now }
         requires ends { IsTrue (ends_ask self.now.bus self.now.asking beat.now) }
         requires lanes { self.now.bus ≤ length lanes.now }
-        ensures { ask.new ≡ ask_of self.now.bus self.now.asking beat.now lanes.now }
+        ensures { sent.new ≡ ask_of self.now.bus self.now.asking beat.now lanes.now }
     {
         self.asking
-            .ask_into(beat, on_bus(self.asking.bus(), lanes), ask);
+            .ask_into(beat, on_bus(self.asking.bus(), lanes), sent);
     }
 
     /// Puts the reply, to a request at this address, that a beat ends in the place of another, as far as the lanes of

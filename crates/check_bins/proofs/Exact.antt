@@ -24,7 +24,7 @@ use Rattle.check_bins.specs.declared.bin.Operation.{Operation}
 use Rattle.check_bins.specs.declared.bin.Pair.{Pair}
 use Rattle.check_bins.specs.declared.bin.Shape.{Shape}
 use Rattle.check_bins.specs.declared.bin.Shape.TheVariants.{Empty, Full, One, Hole, Low, High, Even, Odd, Other}
-use Rattle.check_bins.specs.declared.bin.Bin.TheVariants.{Asked, Answered, Beats, Mask, InFlight, AtPort, Overtook, Again, Contested, Source, Range, Edge, Latency, Gap, Refused, Lane, After}
+use Rattle.check_bins.specs.declared.bin.Bin.TheVariants.{Asked, Answered, Beats, Mask, InFlight, AtPort, Overtook, Again, Contested, Source, Range, Edge, Latency, Gap, Refused, Lane, After, Corrupt}
 use Rattle.check_bins.specs.Counting.{bin_cmp}
 
 then_both : (a b : Ordering) → ordering_then a b ≡ Equal → (a ≡ Equal) × (b ≡ Equal)
@@ -144,6 +144,10 @@ exact (After m a b) (After k c d) is =
     let first = then_both (nat_cmp m k) (ordering_then ((access_ord.ghosts).cmp a c) ((access_ord.ghosts).cmp b d)) is in
     let second = then_both ((access_ord.ghosts).cmp a c) ((access_ord.ghosts).cmp b d) first.1 in
     λ i. After (exact_unsigned m k first.0 i) (access_exact a c second.0 i) (access_exact b d second.1 i)
+exact (Corrupt p o u) (Corrupt q r v) is =
+    let first = then_both ((pair_ord.ghosts).cmp p q) (ordering_then ((operation_ord.ghosts).cmp o r) (bool_cmp u v)) is in
+    let second = then_both ((operation_ord.ghosts).cmp o r) (bool_cmp u v) first.1 in
+    λ i. Corrupt (pair_exact p q first.0 i) (operation_exact o r second.0 i) (bool_exact u v second.1 i)
 exact one other is = absurd (true≢false (ap is_eq (sym is)))
 
 pub exact_eq : (one other : Bin) → is_eq (bin_cmp one other) ≡ true → one ≡ other

@@ -8,7 +8,7 @@ use Rattle.std.specs.Map.{keys_of, lookup, values_of}
 use Rattle.tl_text.specs.Name.{operation_word}
 use Rattle.check_beats.specs.Message.{op_of}
 use Rattle.check_bins.specs.declared.bin.Bin.{Bin}
-use Rattle.check_bins.specs.declared.bin.Bin.TheVariants.{Asked, Answered, Beats, Mask, InFlight, AtPort, Overtook, Again, Contested, Source, Range, Edge, Latency, Gap, Refused, Lane, After}
+use Rattle.check_bins.specs.declared.bin.Bin.TheVariants.{Asked, Answered, Beats, Mask, InFlight, AtPort, Overtook, Again, Contested, Source, Range, Edge, Latency, Gap, Refused, Lane, After, Corrupt}
 use Rattle.check_bins.specs.declared.bin.Access.{Access}
 use Rattle.check_bins.specs.declared.bin.Access.TheVariants as access
 use Rattle.check_bins.specs.declared.bin.Cause.{Cause}
@@ -104,6 +104,9 @@ bin_text ports (Lane master size offset) =
     codes "lane" ++ master_text master ++ codes " " ++ decimal size ++ codes " " ++ decimal offset
 bin_text ports (After port before here) =
     codes "after" ++ port_text ports port ++ access_text before ++ access_text here
+bin_text ports (Corrupt pair operation is_reply) =
+    codes "corrupt" ++ pair_text ports pair ++ operation_text operation
+    ++ (if is_reply then codes " answered" else codes " asked")
 
 -- its line, with its count
 abbrev pub bin_line : ℕ → Bin × ℕ → List ℕ

@@ -106,4 +106,7 @@ pub enum Bin {
     Lane(usize, u8, usize),
     /// A request of a port that has a byte in common with the one before it: what that one does, and what it does itself.
     After(usize, Access, Access),
+    /// A beat with corrupt data, by the operation and the size of its request, and whether it is one of the reply. Each beat of a
+    /// denied reply with data is marked corrupt, and is not counted.
+    Corrupt(Pair, Operation, bool),
 }

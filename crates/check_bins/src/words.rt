@@ -302,6 +302,12 @@ fn elsewhere_words(elsewhere: bool) -> &'static str
     if elsewhere { " other" } else { " same" }
 }
 
+fn corrupt_words(is_reply: bool) -> &'static str
+    ensures { result.now ≡ (if is_reply then codes " answered" else codes " asked") }
+{
+    if is_reply { " answered" } else { " asked" }
+}
+
 fn edge_words(is_last: bool) -> &'static str
     ensures { result.now ≡ edge_text is_last }
 {
@@ -390,6 +396,10 @@ pub fn push_bin(text: &mut Vec<u8>, ports: usize, bin: &Bin) -> Result<(), Alloc
         }
         Bin::Lane(master, size, offset) => push_lane(text, master, size, offset),
         Bin::After(port, before, here) => push_after(text, ports, port, before, here),
+        Bin::Corrupt(pair, operation, is_reply) => {
+            let end = corrupt_words(is_reply);
+            push_message(text, "corrupt", ports, pair, operation, end)
+        }
     }
 }
 

@@ -1,9 +1,11 @@
 -- Marks of bytes, kept as bits of masks.
-use Rattle.std.proofs.Common.{◌≡◌, ◌∙◌, ⊎_elim, ℕ, ◌+◌, ◌-◌, ◌<◌, ◌≤◌, ◌^◌, Bool, true, false, ◌++◌, List, length, get_or, slice_get, Option, Some, None, sym, ap, refl, arith}
+use Rattle.std.proofs.Common.{◌≡◌, ◌∙◌, ⊎_elim, ℕ, suc, ◌+◌, ◌-◌, ◌<◌, ◌≤◌, ◌^◌, Bool, true, false, [], ◌∷◌, ◌++◌, List, length, get_or, slice_get, Option, Some, None, sym, ap, refl, arith}
 use Rattle.std.specs.Prelude.{replicate, slice_index_or, ◌==◌}
 use Rattle.std.specs.Int.{bit_at}
 use Rattle.std.proofs.lemmas.List.{ext_get_or, get_or_append_left, get_or-append_right, get_or-replicate, get_or_past, length-append, length-replicate}
 use Rattle.std.proofs.lemmas.List.FromFn.{length-map-range_with_len, get_or-map-range_with_len}
+use Rattle.std.specs.List.{list_any}
+use Rattle.std.proofs.lemmas.List.Folds.{list_any_at}
 use Rattle.std.proofs.lemmas.Bool.{cases_lt}
 use Rattle.std.proofs.lemmas.Option.{get_or_from_slice_get}
 use Rattle.tl_types.specs.Bytes.{bit_in}
@@ -126,3 +128,43 @@ below_but marks less more n long long' kept = record {
 -- the bit of a number that has only one
 pub bit_is : (x : ℕ) → x < 2 ^ 1 → x ≡ bit_at x 0
 bit_is x small = search arith
+
+-- ---- whether one is set
+
+-- a mark that is set is found
+pub set_is_found : (marks : List Bool) (place : ℕ) → get_or marks place false ≡ true → list_any (λ mark. mark) marks ≡ true
+set_is_found marks place is =
+    list_any_at (λ mark. mark) marks place false
+    (⊎_elim (λ below. below)
+    (λ past. let isnt : get_or marks place false ≡ false = get_or_past marks place false past in cc)
+    (cases_lt place (length marks)))
+    is
+
+-- if no mark is set, none is found
+pub none_is_found : (marks : List Bool) → ((place : ℕ) → get_or marks place false ≡ false)
+    → list_any (λ mark. mark) marks ≡ false
+none_is_found [] none = refl
+none_is_found (true ∷ marks) none = let isnt : true ≡ false = none 0 in cc
+none_is_found (false ∷ marks) none = none_is_found marks (λ place. none (suc place))
+
+-- the first marks are not set
+pub record AreUnsetTo (marks : List Bool) (count : ℕ) : Type 0 where
+  pub none : (place : ℕ) → place < count → get_or marks place false ≡ false
+
+-- nor is one more
+pub unset_more : (marks : List Bool) (count : ℕ) → AreUnsetTo marks count → get_or marks count false ≡ false
+    → AreUnsetTo marks (count + 1)
+unset_more marks count before one = record {
+  none = λ place below. ⊎_elim (λ less. before.none place less)
+      (λ past. let is : place ≡ count = omega (arith, below, past) in ap (λ p. get_or marks p false) is ∙ one)
+      (cases_lt place count);
+}
+
+-- if all are not set, none is found
+pub unset_is_none : (marks : List Bool) (count : ℕ) → length marks ≤ count → AreUnsetTo marks count
+    → list_any (λ mark. mark) marks ≡ false
+unset_is_none marks count all unset =
+    none_is_found marks
+    (λ place. ⊎_elim (λ below. unset.none place below)
+    (λ past. get_or_past marks place false (omega (arith, past, all)))
+    (cases_lt place count))

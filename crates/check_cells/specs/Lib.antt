@@ -3,3 +3,4 @@ pub mod Bit
 pub mod Room
 pub mod Marks
 pub mod Pattern
+pub mod Sent

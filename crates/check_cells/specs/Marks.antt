@@ -1,4 +1,4 @@
--- Marks of the bytes of a captured reply: which of them are spoiled. It is this project's own.
+-- Marks of the bytes of a captured message: which of them are spoiled. It is this project's own.
 use Rattle.std.specs.Prelude.{◌≡◌, ℕ, ◌≤◌, ◌==◌, Bool, false, List, length, map}
 use Rattle.std.specs.List.{range_with_len}
 use Rattle.tl_types.specs.Bytes.{bit_in}

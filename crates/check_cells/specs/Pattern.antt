@@ -1,6 +1,6 @@
 -- Replies of which some parts may be unknown, and which captured ones fit those that are expected. Which opcodes carry
 -- bytes is the TileLink specification's; what may be unknown is this project's own.
-use Rattle.std.specs.Prelude.{◌≡◌, ℕ, Bool, false, if◌then◌else◌, List, [], length, replicate, Option, None, Some}
+use Rattle.std.specs.Prelude.{◌≡◌, ℕ, Bool, true, false, if◌then◌else◌, List, [], length, replicate, Option, None, Some}
 use Rattle.tl_types.specs.declared.operation.ReplyOp.{ReplyOp}
 use Rattle.tl_types.specs.Operation.{reply_op_of, reply_carries_bytes, reply_byte_count}
 use Rattle.tl_types.specs.Request.{Request}
@@ -20,6 +20,10 @@ pub record Pattern : Type 0 where
 
 -- ---- which replies fit
 
+-- the bytes of a reply are looked at, unless it is denied and need not be
+abbrev pub AreLookedAt : Pattern → Pattern → Type 0
+AreLookedAt expected reply = reply.denied ≡ Some true → expected.denied ≡ Some true
+
 -- a reply says no less than what is expected: its opcode, size and source are those, and all else that is expected is known
 -- and is the same
 pub record FitsPattern (expected reply : Pattern) : Type 0 where
@@ -27,7 +31,8 @@ pub record FitsPattern (expected reply : Pattern) : Type 0 where
   pub size_is : reply.size ≡ expected.size
   pub source_is : reply.source ≡ expected.source
   pub denied_is : (flag : Bool) → expected.denied ≡ Some flag → reply.denied ≡ Some flag
-  pub bytes_fit : IsBelow expected.bytes reply.bytes
+  pub counted : length reply.bytes ≡ length expected.bytes
+  pub bytes_fit : AreLookedAt expected reply → IsBelow expected.bytes reply.bytes
 
 -- a captured reply fits what is expected: the same, but for its spoiled bytes, which promise nothing
 pub record FitsCaptured (expected captured : Pattern) : Type 0 where
@@ -35,7 +40,8 @@ pub record FitsCaptured (expected captured : Pattern) : Type 0 where
   pub size_is : captured.size ≡ expected.size
   pub source_is : captured.source ≡ expected.source
   pub denied_is : (flag : Bool) → expected.denied ≡ Some flag → captured.denied ≡ Some flag
-  pub bytes_fit : IsBelowBut captured.spoiled expected.bytes captured.bytes
+  pub counted : length captured.bytes ≡ length expected.bytes
+  pub bytes_fit : AreLookedAt expected captured → IsBelowBut captured.spoiled expected.bytes captured.bytes
 
 -- ---- what is expected
 
@@ -53,6 +59,16 @@ device_pattern ask = record {
   bytes = replicate (reply_byte_count (reply_op_of ask.op) ask.size) None;
   spoiled = [];
 }
+
+-- a flag that may be either where it would be false
+abbrev pub unsure_flag : Option Bool → Option Bool
+unsure_flag None = None
+unsure_flag (Some true) = Some true
+unsure_flag (Some false) = None
+
+-- the same answer, which may be denied too
+abbrev pub unsure : Pattern → Pattern
+unsure expected = record expected { denied = unsure_flag expected.denied }
 
 -- ---- what was captured
 

@@ -5,7 +5,8 @@
 //! reply of which the denied flag and some bytes may be unknown: the one that is expected, or the one that was
 //! captured. [`Pattern::fits`] says whether a captured reply fits what is expected (`FitsCaptured` of
 //! `specs/Pattern.antt`): all that is expected is known in it and is the same, but for bytes that a corrupt beat carried
-//! ([`Marks`]). An [`AskSoFar`] is a request of which not all beats have crossed yet.
+//! ([`Marks`]). A [`Sent`] is a request as it crossed, with marks of its own. An [`AskSoFar`] is a request of which not all
+//! beats have crossed yet.
 //!
 //! The link layer (`check_beats`) gathers replies as patterns, and memories (`check_memory`) answer them.
 //!
@@ -16,10 +17,12 @@ mod cells;
 mod marks;
 mod masks;
 mod pattern;
+mod sent;
 mod so_far;
 
 pub use cells::{Cells, MASK_BITS, mask_of};
 pub use marks::Marks;
 pub use masks::{give, known_cell, mark_cell, ones};
 pub use pattern::Pattern;
+pub use sent::Sent;
 pub use so_far::AskSoFar;

@@ -1,5 +1,6 @@
-//! Marks of the bytes of a captured reply: which of them are spoiled.
+//! Marks of the bytes of a captured message: which of them are spoiled.
 ghost use Rattle.std.specs.Prelude.{◌≡◌, ℕ, ◌+◌, ◌*◌, ◌<◌, ◌≤◌, ◌⊎◌, ◌++◌, [], length, replicate, slice_index_or, false};
+ghost use Rattle.std.specs.List.{list_any};
 ghost use Rattle.tl_types.specs.Bytes.{bit_in};
 ghost use Rattle.check_cells.specs.Bit.{known_bit};
 
@@ -8,12 +9,12 @@ use crate::masks::{known_cell, mark_cell};
 use std::marker::Model;
 use tl_types::{MAX_BYTES, WORD_BYTES};
 
-/// For each byte of a captured reply whether it is spoiled: a corrupt beat carried it.
+/// For each byte of a captured message whether it is spoiled: a corrupt beat carried it.
 #[derive(Debug, Drop)]
 pub struct Marks {
     bits: [u8; MAX_WORDS],
     len: usize,
-    /// If it is not set no bit is: so it is for most replies, and their bits are neither read nor written.
+    /// If it is not set no bit is: so it is for most messages, and their bits are neither read nor written.
     any: bool,
 }
 
@@ -55,6 +56,28 @@ impl Marks {
         self.any
     }
 
+    /// Whether one is set.
+    #[inline]
+    pub fn has_set(&self) -> bool
+        ensures { result ≡ list_any (λ mark. mark) self.now }
+    {
+        self.any && self.finds_set()
+    }
+
+    /// The same, mark by mark.
+    // apart, since most messages have no spoiled byte
+    #[inline(never)]
+    fn finds_set(&self) -> bool
+        ensures { result ≡ list_any (λ mark. mark) self.now }
+    {
+        for place in 0..self.len {
+            if self.get(place) {
+                return true;
+            }
+        }
+        false
+    }
+
     /// The mark of a byte. Past the last one none is set.
     pub fn get(&self, place: usize) -> bool
         ensures { result ≡ slice_index_or self.now place false }
@@ -86,7 +109,7 @@ impl Marks {
     }
 
     /// The same, by their bits.
-    // apart, since most replies have no spoiled byte
+    // apart, since most messages have no spoiled byte
     #[inline(never)]
     fn push_bits(&mut self, mark: bool, count: usize)
         requires { length self.old + count ≤ MAX_BYTES }

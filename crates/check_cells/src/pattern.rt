@@ -1,8 +1,9 @@
 //! Replies of which some parts may be unknown.
-ghost use Rattle.std.specs.Prelude.{◌≡◌, ◌↔◌, ℕ, ◌≤◌, Bool, [], length, false, IsTrue, Some};
+ghost use Rattle.std.specs.Prelude.{◌≡◌, ◌↔◌, ℕ, ◌≤◌, Bool, [], length, true, false, IsTrue, Some};
 ghost use Rattle.tl_types.specs.Operation.{reply_op_of};
 ghost use Rattle.tl_types.specs.declared.operation.ReplyOp.TheVariants.{AccessAck};
-ghost use Rattle.check_cells.specs.Pattern.{FitsCaptured, captured_as, captured_bytes, device_pattern};
+ghost use Rattle.check_cells.specs.Known.{IsBelowBut};
+ghost use Rattle.check_cells.specs.Pattern.{AreLookedAt, FitsCaptured, captured_as, captured_bytes, device_pattern, unsure};
 
 use crate::cells::Cells;
 use crate::marks::Marks;
@@ -172,6 +173,28 @@ impl Pattern {
         &self.marks
     }
 
+    /// The answer may be denied too.
+    pub fn doubt(&mut self)
+        ensures { self.new ≡ unsure self.old }
+    {
+        if self.denied == Some(false) {
+            self.denied = None;
+        }
+    }
+
+    /// Whether the bytes of a captured reply are as many, and fit those that are expected if they are looked at.
+    fn do_bytes_fit(&self, captured: &Pattern) -> bool
+        ensures { IsTrue result ↔ ((length captured.now.bytes ≡ length self.now.bytes)
+            × (AreLookedAt self.now captured.now
+            → IsBelowBut captured.now.spoiled self.now.bytes captured.now.bytes)) }
+    {
+        if are_looked_at(self.denied, captured.denied) {
+            self.cells.is_below_but(&captured.marks, &captured.cells)
+        } else {
+            captured.cells.len() == self.cells.len()
+        }
+    }
+
     /// Whether a captured reply fits this one, which is expected.
     pub fn fits(&self, captured: &Pattern) -> bool
         ensures { IsTrue result ↔ FitsCaptured self.now captured.now }
@@ -180,7 +203,18 @@ impl Pattern {
             && self.size == captured.size
             && self.source == captured.source
             && is_flag_kept(self.denied, captured.denied)
-            && self.cells.is_below_but(&captured.marks, &captured.cells)
+            && self.do_bytes_fit(captured)
+    }
+}
+
+/// Whether the bytes of a reply are looked at: unless it is denied and need not be.
+fn are_looked_at(less: Option<bool>, more: Option<bool>) -> bool
+    ensures { IsTrue result ↔ (more ≡ Some true → less ≡ Some true) }
+{
+    match (less, more) {
+        (Some(true), _) => true,
+        (_, Some(true)) => false,
+        _ => true,
     }
 }
 

@@ -1,5 +1,6 @@
 -- What is kept says no more than the truth, once a request is answered, and what was due to it fits.
 use Rattle.std.proofs.Common.{◌≡◌, ◌∙◌, ⊎_elim, ℕ, List, Some, None, sym, ap, subst}
+use Rattle.check_cells.specs.Sent.{Sent}
 use Rattle.check_memory.specs.Partial.{Partial}
 use Rattle.std.specs.Prelude.{option_map}
 use Rattle.std.proofs.lemmas.Bool.{cases_eq}
@@ -27,22 +28,22 @@ asked_before course wide other ask is = ⊎_elim
     none_asked : None ≡ Some ask → ⊥
     none_asked e = cc
 
-waited_before : (course : ℕ → Course) (wide other : ℕ) (ask : Request)
-    → course_with course wide Idle other ≡ Waiting ask
-    → (other ≡ wide → ⊥) × (course other ≡ Waiting ask)
-waited_before course wide other ask is = ⊎_elim
+waited_before : (course : ℕ → Course) (wide other : ℕ) (sent : Sent)
+    → course_with course wide Idle other ≡ Waiting sent
+    → (other ≡ wide → ⊥) × (course other ≡ Waiting sent)
+waited_before course wide other sent is = ⊎_elim
     (λ (same : other ≡ wide). absurd (idle_waits
     (sym (ap (course_with course wide Idle) same ∙ course-here course wide Idle) ∙ is)))
     (λ apart. (apart, sym (course-there course wide Idle other apart) ∙ is))
     (cases_eq other wide)
   where
-    idle_waits : Idle ≡ Waiting ask → ⊥
+    idle_waits : Idle ≡ Waiting sent → ⊥
     idle_waits e = cc
 
 memory_then : (ours truth : Partial) (kept : List Accepted) (course : ℕ → Course)
-    (wide : ℕ) (ask : Request) (reply : Pattern) → course wide ≡ Served ask reply → IsMemoryBelow ours truth kept course
+    (wide : ℕ) (sent : Sent) (reply : Pattern) → course wide ≡ Served sent reply → IsMemoryBelow ours truth kept course
     → IsMemoryBelow ours truth (kept_answering kept wide) (course_with course wide Idle)
-memory_then ours truth kept course wide ask reply served is = record {
+memory_then ours truth kept course wide sent reply served is = record {
   same = is.same;
   counted = is.counted;
   within = is.within;
@@ -55,35 +56,35 @@ memory_then ours truth kept course wide ask reply served is = record {
         alone = λ w ask' here may other ask'' there apart.
             right.alone w ask' (asked_before course wide w ask' here).1 may other ask''
             (asked_before course wide other ask'' there).1 apart;
-        to_come = λ w ask' waits may. right.to_come w ask' (waited_before course wide w ask' waits).1 may;
-        combined = λ w ask' waits may atomic place here other ask'' there apart.
-            right.combined w ask' (waited_before course wide w ask' waits).1 may atomic place here other ask''
+        to_come = λ w sent' waits may. right.to_come w sent' (waited_before course wide w sent' waits).1 may;
+        combined = λ w sent' waits may atomic place here other ask'' there apart.
+            right.combined w sent' (waited_before course wide w sent' waits).1 may atomic place here other ask''
             (asked_before course wide other ask'' there).1 apart;
-        there = λ none. right.there (λ w ask' waits.
-            none w ask' (course-there course wide Idle w (not_served w ask' waits) ∙ waits));
+        there = λ none. right.there (λ w sent' waits.
+            none w sent' (course-there course wide Idle w (not_served w sent' waits) ∙ waits));
       };
-  dues = λ w entry ask' there waits legal place byte known other ask'' asked apart.
-      let before = waited_before course wide w ask' waits in
-      is.dues w entry ask' (sym (answering-other kept wide w before.0) ∙ there) before.1 legal place byte known other
+  dues = λ w entry sent' there waits legal place byte known other ask'' asked apart.
+      let before = waited_before course wide w sent' waits in
+      is.dues w entry sent' (sym (answering-other kept wide w before.0) ∙ there) before.1 legal place byte known other
       ask'' (asked_before course wide other ask'' asked).1 apart;
 }
   where
-    not_served : (w : ℕ) (ask' : Request) → course w ≡ Waiting ask' → w ≡ wide → ⊥
-    not_served w ask' waits same = let e : Served ask reply ≡ Waiting ask' = sym served ∙ ap course (sym same) ∙ waits in cc
+    not_served : (w : ℕ) (sent' : Sent) → course w ≡ Waiting sent' → w ≡ wide → ⊥
+    not_served w sent' waits same = let e : Served sent reply ≡ Waiting sent' = sym served ∙ ap course (sym same) ∙ waits in cc
 
 slave_then : (ours truth : Slave) (kept : List Accepted) (course : ℕ → Course)
-    (wide : ℕ) (ask : Request) (reply : Pattern) → course wide ≡ Served ask reply → IsSlaveBelow ours truth kept course
+    (wide : ℕ) (sent : Sent) (reply : Pattern) → course wide ≡ Served sent reply → IsSlaveBelow ours truth kept course
     → IsSlaveBelow ours truth (kept_answering kept wide) (course_with course wide Idle)
-slave_then (Memory ours) (Memory truth) kept course wide ask reply served is =
-    memory_then ours truth kept course wide ask reply served is
-slave_then (Memory ours) Device kept course wide ask reply served is = is
-slave_then Device (Memory truth) kept course wide ask reply served is = is
-slave_then Device Device kept course wide ask reply served is = tt
+slave_then (Memory ours) (Memory truth) kept course wide sent reply served is =
+    memory_then ours truth kept course wide sent reply served is
+slave_then (Memory ours) Device kept course wide sent reply served is = is
+slave_then Device (Memory truth) kept course wide sent reply served is = is
+slave_then Device Device kept course wide sent reply served is = tt
 
-pub answering_keeps : (ours : Slave) (kept : List Accepted) (truth : Truth) (wide : ℕ) (ask : Request) (reply : Pattern)
-    → IsBelowTruth ours kept truth → truth.course wide ≡ Served ask reply
+pub answering_keeps : (ours : Slave) (kept : List Accepted) (truth : Truth) (wide : ℕ) (sent : Sent) (reply : Pattern)
+    → IsBelowTruth ours kept truth → truth.course wide ≡ Served sent reply
     → IsBelowTruth ours (kept_answering kept wide) (truth_answering truth wide)
-answering_keeps ours kept truth wide ask reply is served = record {
+answering_keeps ours kept truth wide sent reply is served = record {
   apart = apart-answering kept wide is.apart;
   asks = λ w. ⊎_elim
       (λ (same : w ≡ wide).
@@ -100,18 +101,18 @@ answering_keeps ours kept truth wide ask reply is served = record {
       (sym (course-there truth.course wide Idle w apart))
       (is.fits w entry (sym (answering-other kept wide w apart) ∙ there)))
       (cases_eq w wide);
-  slave = slave_then ours truth.slave kept truth.course wide ask reply served is.slave;
+  slave = slave_then ours truth.slave kept truth.course wide sent reply served is.slave;
 }
   where
     none_some : (entry : Accepted) → None ≡ Some entry → ⊥
     none_some entry e = cc
 
 -- the one that is answered is kept, and what is due to it fits what was expected as it took effect
-pub answer_fits : (ours : Slave) (kept : List Accepted) (truth : Truth) (wide : ℕ) (ask : Request) (reply : Pattern)
-    → IsBelowTruth ours kept truth → truth.course wide ≡ Served ask reply
-    → (entry : Accepted) × (kept_of kept wide ≡ Some entry) × (entry.ask ≡ ask) × FitsPattern entry.due reply
-answer_fits ours kept truth wide ask reply is served =
-    let entry = entry_of (kept_of kept wide) ask (is.asks wide ∙ ap asked_of served) in (
+pub answer_fits : (ours : Slave) (kept : List Accepted) (truth : Truth) (wide : ℕ) (sent : Sent) (reply : Pattern)
+    → IsBelowTruth ours kept truth → truth.course wide ≡ Served sent reply
+    → (entry : Accepted) × (kept_of kept wide ≡ Some entry) × (entry.ask ≡ sent.ask) × FitsPattern entry.due reply
+answer_fits ours kept truth wide sent reply is served =
+    let entry = entry_of (kept_of kept wide) sent.ask (is.asks wide ∙ ap asked_of served) in (
       entry.0,
       entry.1,
       entry.2,

@@ -14,7 +14,8 @@ use Rattle.check_contests.proofs.Marks.{shared, or_false}
 abbrev pub IsMet : Bool → Request → Request → Type 0
 IsMet met ask other = (met ≡ true) ↔ ((address : ℕ) × (shared ask other address ≡ true))
 
-legal_writes : (memory : Partial) (ask : Request) (a : ℕ) → permits memory ask ≡ true
+-- a legal request may write the bytes that it writes
+pub legal_writes : (memory : Partial) (ask : Request) (a : ℕ) → permits memory ask ≡ true
     → may_write memory ask a ≡ writes ask.op (placed memory ask) a
 legal_writes memory ask a legal = rw (legal, may_write) refl
 

@@ -3,6 +3,7 @@ use Rattle.std.proofs.Common.{◌≡◌, ◌∙◌, ◌⊎◌, inl, inr, ⊎_eli
 use Rattle.std.specs.Prelude.{option_map}
 use Rattle.std.proofs.lemmas.Bool.{cases_eq, eq-eqb, ne_eqb}
 use Rattle.tl_types.specs.Request.{Request}
+use Rattle.check_cells.specs.Sent.{Sent}
 use Rattle.check_contests.specs.Contests.{Accepted}
 use Rattle.check_contests.specs.Moments.{Course, asked_of, course_with}
 use Rattle.check_contests.specs.Moments.Course.{Waiting}
@@ -16,33 +17,33 @@ course-there course wide next other apart = rw (ne_eqb other wide apart) refl
 
 -- ---- one that is there, after one was accepted: it is that one, or it was there
 
-abbrev pub IsNew : ℕ → ℕ → Request → Request → Type 0
-IsNew wide other ask ask' = (other ≡ wide) × (ask ≡ ask')
+abbrev pub IsNew : {A : Type 0} → ℕ → ℕ → A → A → Type 0
+IsNew wide other one one' = (other ≡ wide) × (one ≡ one')
 
-pub asked_cases : (course : ℕ → Course) (wide : ℕ) (ask : Request) (other : ℕ) (ask' : Request)
-    → asked_of (course_with course wide (Waiting ask) other) ≡ Some ask'
-    → IsNew wide other ask ask' ⊎ ((other ≡ wide → ⊥) × (asked_of (course other) ≡ Some ask'))
-asked_cases course wide ask other ask' is = ⊎_elim
-    (λ same. let here : Some ask ≡ Some ask' =
-    sym (ap asked_of (ap (course_with course wide (Waiting ask)) same ∙ course-here course wide (Waiting ask))) ∙ is in
+pub asked_cases : (course : ℕ → Course) (wide : ℕ) (sent : Sent) (other : ℕ) (ask' : Request)
+    → asked_of (course_with course wide (Waiting sent) other) ≡ Some ask'
+    → IsNew wide other sent.ask ask' ⊎ ((other ≡ wide → ⊥) × (asked_of (course other) ≡ Some ask'))
+asked_cases course wide sent other ask' is = ⊎_elim
+    (λ same. let here : Some sent.ask ≡ Some ask' =
+    sym (ap asked_of (ap (course_with course wide (Waiting sent)) same ∙ course-here course wide (Waiting sent))) ∙ is in
     inl (same, some_same here))
-    (λ apart. inr (apart, sym (ap asked_of (course-there course wide (Waiting ask) other apart)) ∙ is))
+    (λ apart. inr (apart, sym (ap asked_of (course-there course wide (Waiting sent) other apart)) ∙ is))
     (cases_eq other wide)
   where
-    some_same : Some ask ≡ Some ask' → ask ≡ ask'
+    some_same : Some sent.ask ≡ Some ask' → sent.ask ≡ ask'
     some_same e = cc
 
-pub waiting_cases : (course : ℕ → Course) (wide : ℕ) (ask : Request) (other : ℕ) (ask' : Request)
-    → course_with course wide (Waiting ask) other ≡ Waiting ask'
-    → IsNew wide other ask ask' ⊎ ((other ≡ wide → ⊥) × (course other ≡ Waiting ask'))
-waiting_cases course wide ask other ask' is = ⊎_elim
-    (λ same. let here : Waiting ask ≡ Waiting ask' =
-    sym (ap (course_with course wide (Waiting ask)) same ∙ course-here course wide (Waiting ask)) ∙ is in
+pub waiting_cases : (course : ℕ → Course) (wide : ℕ) (sent : Sent) (other : ℕ) (sent' : Sent)
+    → course_with course wide (Waiting sent) other ≡ Waiting sent'
+    → IsNew wide other sent sent' ⊎ ((other ≡ wide → ⊥) × (course other ≡ Waiting sent'))
+waiting_cases course wide sent other sent' is = ⊎_elim
+    (λ same. let here : Waiting sent ≡ Waiting sent' =
+    sym (ap (course_with course wide (Waiting sent)) same ∙ course-here course wide (Waiting sent)) ∙ is in
     inl (same, waiting_same here))
-    (λ apart. inr (apart, sym (course-there course wide (Waiting ask) other apart) ∙ is))
+    (λ apart. inr (apart, sym (course-there course wide (Waiting sent) other apart) ∙ is))
     (cases_eq other wide)
   where
-    waiting_same : Waiting ask ≡ Waiting ask' → ask ≡ ask'
+    waiting_same : Waiting sent ≡ Waiting sent' → sent ≡ sent'
     waiting_same e = cc
 
 -- ---- those kept

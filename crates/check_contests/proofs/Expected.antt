@@ -1,10 +1,11 @@
 -- What is expected of memories that know less and more, and what is due beside other requests.
-use Rattle.std.proofs.Common.{◌≡◌, ◌∙◌, ℕ, ◌+◌, ◌^◌, ◌<◌, Bool, true, false, List, [], length, get_or, Option, Some, None, refl, sym, ap, subst, arith}
+use Rattle.std.proofs.Common.{◌≡◌, ◌∙◌, ℕ, ◌+◌, ◌^◌, ◌<◌, Bool, true, false, if◌then◌else◌, List, [], length, get_or, Option, Some, None, refl, sym, ap, subst, arith}
 use Rattle.tl_types.specs.Operation.{reply_op_of}
 use Rattle.tl_types.specs.Request.{Request}
 use Rattle.tl_types.specs.declared.operation.ReplyOp.{ReplyOp}
 use Rattle.tl_types.specs.declared.operation.ReplyOp.TheVariants.{AccessAck, AccessAckData, HintAck}
-use Rattle.check_memory.specs.Known.{IsBelow, known}
+use Rattle.check_cells.specs.Pattern.{unsure_flag, unsure}
+use Rattle.check_memory.specs.Known.{known}
 use Rattle.check_memory.specs.Partial.{Partial, permits, start_of, placed}
 use Rattle.check_memory.specs.Pattern.{Pattern, FitsPattern, FitsCaptured, pattern, shown_cells}
 use Rattle.check_memory.proofs.Unknown.{known_where, length-unknown_where}
@@ -20,7 +21,8 @@ fits_itself due = record {
   size_is = refl;
   source_is = refl;
   denied_is = λ flag is. is;
-  bytes_fit = record { counted = refl; kept = λ place byte is. is };
+  counted = refl;
+  bytes_fit = λ looked. record { counted = refl; kept = λ place byte is. is };
 }
 
 pub fits_through : (due reply captured : Pattern) → FitsPattern due reply → FitsPattern reply captured → FitsPattern due captured
@@ -29,10 +31,14 @@ fits_through due reply captured fits more = record {
   size_is = more.size_is ∙ fits.size_is;
   source_is = more.source_is ∙ fits.source_is;
   denied_is = λ flag is. more.denied_is flag (fits.denied_is flag is);
-  bytes_fit = record {
-    counted = more.bytes_fit.counted ∙ fits.bytes_fit.counted;
-    kept = λ place byte is. more.bytes_fit.kept place byte (fits.bytes_fit.kept place byte is);
-  };
+  counted = more.counted ∙ fits.counted;
+  bytes_fit = λ looked.
+      let first = fits.bytes_fit (λ denied. looked (more.denied_is true denied)) in
+      let second = more.bytes_fit (λ denied. fits.denied_is true (looked denied)) in
+      record {
+        counted = second.counted ∙ first.counted;
+        kept = λ place byte is. second.kept place byte (first.kept place byte is);
+      };
 }
 
 -- the same of what was captured
@@ -43,21 +49,74 @@ captured_through due reply captured fits more = record {
   size_is = more.size_is ∙ fits.size_is;
   source_is = more.source_is ∙ fits.source_is;
   denied_is = λ flag is. more.denied_is flag (fits.denied_is flag is);
-  bytes_fit = record {
-    counted = more.bytes_fit.counted ∙ fits.bytes_fit.counted;
-    kept = λ place byte clean is. more.bytes_fit.kept place byte clean (fits.bytes_fit.kept place byte is);
-  };
+  counted = more.counted ∙ fits.counted;
+  bytes_fit = λ looked.
+      let first = fits.bytes_fit (λ denied. looked (more.denied_is true denied)) in
+      let second = more.bytes_fit (λ denied. fits.denied_is true (looked denied)) in
+      record {
+        counted = second.counted ∙ first.counted;
+        kept = λ place byte clean is. second.kept place byte clean (first.kept place byte is);
+      };
 }
 
--- with other bytes
-pub fits_bytes : (due reply : Pattern) (bytes : List (Option ℕ)) → FitsPattern due reply → IsBelow due.bytes bytes
-    → FitsPattern due (record reply { bytes = bytes })
-fits_bytes due reply bytes fits below = record {
+-- ---- answers that may be denied too
+
+-- a flag that is known where it may be either is true, and was known before
+sure : (flag : Option Bool) (is : Bool) → unsure_flag flag ≡ Some is → flag ≡ Some is
+sure None is known = known
+sure (Some true) is known = known
+sure (Some false) is known = cc
+
+-- what fits an answer fits it where it may be denied too
+pub fits_unsure : (due reply : Pattern) → FitsPattern due reply → FitsPattern (unsure due) reply
+fits_unsure due reply fits = record {
+  op_is = fits.op_is;
+  size_is = fits.size_is;
+  source_is = fits.source_is;
+  denied_is = λ flag is. fits.denied_is flag (sure due.denied flag is);
+  counted = fits.counted;
+  bytes_fit = λ looked. fits.bytes_fit (λ denied. sure due.denied true (looked denied));
+}
+
+-- an answer that may be denied too, or that is as it was
+abbrev pub unsure_if : Bool → Pattern → Pattern
+unsure_if corrupt due = if corrupt then unsure due else due
+
+-- its bytes are the same
+pub unsure_bytes : (corrupt : Bool) (due : Pattern) → (unsure_if corrupt due).bytes ≡ due.bytes
+unsure_bytes true due = refl
+unsure_bytes false due = refl
+
+-- one that fits with other bytes, as many, that are as known where it matters
+pub fits_known : (corrupt : Bool) (due reply : Pattern) (bytes : List (Option ℕ)) → length bytes ≡ length reply.bytes
+    → ((place byte : ℕ) → get_or due.bytes place None ≡ Some byte → get_or reply.bytes place None ≡ Some byte
+    → get_or bytes place None ≡ Some byte)
+    → FitsPattern due (unsure_if corrupt reply) → FitsPattern due (unsure_if corrupt (record reply { bytes = bytes }))
+fits_known true due reply bytes long kept fits = record {
   op_is = fits.op_is;
   size_is = fits.size_is;
   source_is = fits.source_is;
   denied_is = fits.denied_is;
-  bytes_fit = below;
+  counted = long ∙ fits.counted;
+  bytes_fit = λ looked.
+      let before = fits.bytes_fit looked in
+      record {
+        counted = long ∙ before.counted;
+        kept = λ place byte known. kept place byte known (before.kept place byte known);
+      };
+}
+fits_known false due reply bytes long kept fits = record {
+  op_is = fits.op_is;
+  size_is = fits.size_is;
+  source_is = fits.source_is;
+  denied_is = fits.denied_is;
+  counted = long ∙ fits.counted;
+  bytes_fit = λ looked.
+      let before = fits.bytes_fit looked in
+      record {
+        counted = long ∙ before.counted;
+        kept = λ place byte known. kept place byte known (before.kept place byte known);
+      };
 }
 
 -- ---- what is due beside others
@@ -84,7 +143,8 @@ beside_below memory ask test due = by_cases (permits memory ask) refl
           size_is = refl;
           source_is = refl;
           denied_is = λ flag is'. is';
-          bytes_fit = record {
+          counted = sym (length-unknown_where (λ place. test (start_of memory ask + place)) due.bytes);
+          bytes_fit = λ looked. record {
             counted = sym (length-unknown_where (λ place. test (start_of memory ask + place)) due.bytes);
             kept = λ place byte is'. (known_where (λ place. test (start_of memory ask + place)) due.bytes place byte is').1;
           };

@@ -1,14 +1,15 @@
 -- The memory that forgets the bytes that are flagged is the one without those that are contested.
-use Rattle.std.proofs.Common.{◌≡◌, ◌∙◌, ◌⊎◌, inl, inr, ⊎_elim, ℕ, zero, suc, ◌+◌, ◌^◌, ◌<◌, ◌≤◌, Bool, true, false, ◌&&◌, if◌then◌else◌, List, [], ◌∷◌, ◌++◌, length, map, take, drop, get_or, Option, None, refl, sym, ap, arith}
+use Rattle.std.proofs.Common.{◌≡◌, ◌∙◌, ◌⊎◌, inl, inr, ⊎_elim, ℕ, zero, suc, ◌+◌, ◌^◌, ◌<◌, ◌≤◌, Bool, true, false, ◌&&◌, ◌||◌, if◌then◌else◌, List, [], ◌∷◌, ◌++◌, length, map, take, drop, get_or, Option, None, refl, sym, ap, arith}
 use Rattle.std.specs.List.{zip, range_with_len}
 use Rattle.std.proofs.lemmas.Bool.{and_left, and_right}
 use Rattle.tl_types.specs.Operation.{carries_bytes}
 use Rattle.tl_types.specs.Request.{Request}
 use Rattle.check_memory.specs.Cells.{forgotten_cell, forgotten}
 use Rattle.check_memory.specs.Partial.{Partial, permits, takes_bytes, after_partial, after_forgetting, start_of, placed}
-use Rattle.check_memory.proofs.Unknown.{unknown_none}
+use Rattle.check_memory.proofs.Unknown.{unknown_none, unknown-same, unknown-twice}
 use Rattle.check_contests.specs.Writes.{writes, may_write, leave_unknown, unknown_where}
-use Rattle.check_contests.specs.Contests.{Accepted, is_contested, memory_accepting}
+use Rattle.check_contests.specs.Cut.{memory_cut}
+use Rattle.check_contests.specs.Contests.{Accepted, is_contested, contested_in}
 use Rattle.check_contests.proofs.Blocks.{unmet_leaves}
 use Rattle.check_contests.proofs.Dues.{carries_none}
 use Rattle.check_contests.proofs.Uncontested.{any_none, leaves_is, denied_leaves}
@@ -86,10 +87,11 @@ forgotten-unknown test flags (suc start) (cell ∷ cells) here there =
 
 -- ---- the memory
 
+-- a request has taken effect, and then what is contested is forgotten
 pub forgetting_is : (memory : Partial) (kept : List Accepted) (ask : Request) (first : ℕ) (flags : List Bool)
     → takes_bytes memory ask ≡ true → Flagged (is_contested memory kept ask) flags first
     → Unflagged (is_contested memory kept ask) flags first
-    → after_forgetting memory ask first flags ≡ memory_accepting memory kept ask
+    → after_forgetting memory ask first flags ≡ contested_in memory kept ask (after_partial memory ask)
 forgetting_is memory kept ask first flags takes here there =
     forgets takes
     ∙ ap (λ (cells : List (Option ℕ)). record (after_partial memory ask) { cells = cells })
@@ -98,6 +100,26 @@ forgetting_is memory kept ask first flags takes here there =
     forgets : takes_bytes memory ask ≡ true → after_forgetting memory ask first flags
         ≡ record (after_partial memory ask) { cells = forgotten flags first (after_partial memory ask).cells }
     forgets is = rw (is, after_forgetting) refl
+
+-- what is contested is forgotten, and what the request itself may write
+pub cutting_is : (memory : Partial) (kept : List Accepted) (ask : Request) (first : ℕ) (flags : List Bool)
+    → Flagged (λ a. is_contested memory kept ask a || may_write memory ask a) flags first
+    → Unflagged (λ a. is_contested memory kept ask a || may_write memory ask a) flags first
+    → record memory { cells = forgotten flags first memory.cells }
+    ≡ contested_in memory kept ask (memory_cut memory ask)
+cutting_is memory kept ask first flags here there =
+    ap (λ (cells : List (Option ℕ)). record memory { cells = cells })
+    (forgotten-unknown (λ a. is_contested memory kept ask a || may_write memory ask a) flags first memory.cells here there
+    ∙ unknown-same (λ a. is_contested memory kept ask a || may_write memory ask a)
+    (λ a. may_write memory ask a || is_contested memory kept ask a) memory.cells
+    (λ a. swapped (is_contested memory kept ask a) (may_write memory ask a))
+    ∙ sym (unknown-twice (may_write memory ask) (is_contested memory kept ask) memory.cells))
+  where
+    swapped : (b c : Bool) → (b || c) ≡ (c || b)
+    swapped true true = refl
+    swapped true false = refl
+    swapped false true = refl
+    swapped false false = refl
 
 -- one that carries no bytes, or is denied, contests nothing
 pub carrying_leaves : (memory : Partial) (ask other : Request) (a : ℕ) → carries_bytes ask.op ≡ false
@@ -109,14 +131,14 @@ carrying_leaves memory ask other a none =
     (and_right (permits memory ask) (writes ask.op (placed memory ask) b)
     (carries_none ask.op (placed memory ask) b none))))
 
-pub not_taken : (memory : Partial) (kept : List Accepted) (ask : Request) → carries_bytes ask.op ≡ false
-    → after_partial memory ask ≡ memory_accepting memory kept ask
-not_taken memory kept ask none =
-    sym (leaves_is memory kept ask (λ a. any_none (λ (e : Accepted). leave_unknown memory ask e.ask a) kept
+pub not_taken : (memory : Partial) (kept : List Accepted) (ask : Request) (after : Partial) → carries_bytes ask.op ≡ false
+    → after ≡ contested_in memory kept ask after
+not_taken memory kept ask after none =
+    sym (leaves_is memory kept ask after (λ a. any_none (λ (e : Accepted). leave_unknown memory ask e.ask a) kept
     (λ entry. carrying_leaves memory ask entry.ask a none)))
 
-pub denied_is : (memory : Partial) (kept : List Accepted) (ask : Request) → permits memory ask ≡ false
-    → after_partial memory ask ≡ memory_accepting memory kept ask
-denied_is memory kept ask is =
-    sym (leaves_is memory kept ask (λ a. any_none (λ (e : Accepted). leave_unknown memory ask e.ask a) kept
+pub denied_is : (memory : Partial) (kept : List Accepted) (ask : Request) (after : Partial) → permits memory ask ≡ false
+    → after ≡ contested_in memory kept ask after
+denied_is memory kept ask after is =
+    sym (leaves_is memory kept ask after (λ a. any_none (λ (e : Accepted). leave_unknown memory ask e.ask a) kept
     (λ entry. denied_leaves memory ask entry.ask a is)))

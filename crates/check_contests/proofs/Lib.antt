@@ -5,6 +5,7 @@ pub mod Kept
 pub mod Clash
 pub mod Expected
 pub mod Courses
+pub mod Sending
 pub mod AcceptedBytes
 pub mod AcceptedMemory
 pub mod AcceptedSlave
@@ -12,6 +13,7 @@ pub mod Serving
 pub mod Answering
 pub mod Runs
 pub mod Uncontested
+pub mod Corrupt
 pub mod Near
 pub mod Dues
 pub mod Marks

@@ -1,6 +1,7 @@
 -- What is kept says no more than the truth at reset, and so over whole runs.
 use Rattle.std.proofs.Common.{◌≡◌, ◌∙◌, ℕ, List, [], ◌∷◌, Some, None, refl, sym}
 use Rattle.tl_types.specs.Request.{Request}
+use Rattle.check_cells.specs.Sent.{Sent}
 use Rattle.check_memory.specs.Partial.{Partial, is_volatile}
 use Rattle.check_memory.specs.Pattern.{Pattern}
 use Rattle.check_memory.specs.declared.slave.Slave.{Slave}
@@ -21,8 +22,8 @@ use Rattle.check_contests.proofs.Answering.{answering_keeps, answer_fits}
 none_asked : (ask : Request) {A : Type 0} → None ≡ Some ask → A
 none_asked ask e = cc
 
-none_waits : (ask : Request) {A : Type 0} → Idle ≡ Waiting ask → A
-none_waits ask e = cc
+none_waits : (sent : Sent) {A : Type 0} → Idle ≡ Waiting sent → A
+none_waits sent e = cc
 
 none_kept : (entry : Accepted) {A : Type 0} → None ≡ Some entry → A
 none_kept entry e = cc
@@ -38,11 +39,11 @@ memory_at_reset ours truth is = record {
   carried = λ wide ask there. none_asked ask there;
   known = λ a byte known. record {
     alone = λ wide ask there may. none_asked ask there;
-    to_come = λ wide ask waits may. none_waits ask waits;
-    combined = λ wide ask waits may. none_waits ask waits;
+    to_come = λ wide sent waits may. none_waits sent waits;
+    combined = λ wide sent waits may. none_waits sent waits;
     there = λ none. is.below.kept a byte known;
   };
-  dues = λ wide entry ask there waits. none_waits ask waits;
+  dues = λ wide entry sent there waits. none_waits sent waits;
 }
 
 slave_at_reset : (ours truth : Slave) → IsBelowAtReset ours truth → IsSlaveBelow ours truth [] (λ _. Idle)
@@ -61,38 +62,38 @@ reset_is_below ours truth is = record {
 
 -- ---- runs
 
-pub answer_is_due : (ours : Slave) (kept : List Accepted) (truth : Truth) (wide : ℕ) (ask : Request) (reply : Pattern)
-    → IsBelowTruth ours kept truth → truth.course wide ≡ Served ask reply → IsDueBelow kept wide ask reply
-answer_is_due ours kept truth wide ask reply is served =
-    let due = answer_fits ours kept truth wide ask reply is served in
+pub answer_is_due : (ours : Slave) (kept : List Accepted) (truth : Truth) (wide : ℕ) (sent : Sent) (reply : Pattern)
+    → IsBelowTruth ours kept truth → truth.course wide ≡ Served sent reply → IsDueBelow kept wide sent.ask reply
+answer_is_due ours kept truth wide sent reply is served =
+    let due = answer_fits ours kept truth wide sent reply is served in
     record { entry = due.0; kept_as = due.1; ask_is = due.2; fits = due.3 }
 
 taking_keeps : (judged : Judged) (truth : Truth) (wide : ℕ) (course : Course) → truth.course wide ≡ course
     → IsWaiting course → IsBelowTruth judged.slave judged.kept truth
     → IsBelowTruth judged.slave judged.kept (truth_taking truth wide course)
 taking_keeps judged truth wide Idle at waits is = absurd waits
-taking_keeps judged truth wide (Waiting ask) at waits is =
-    serving_keeps judged.slave judged.kept truth wide ask is at
-taking_keeps judged truth wide (Served ask reply) at waits is = absurd waits
+taking_keeps judged truth wide (Waiting sent) at waits is =
+    serving_keeps judged.slave judged.kept truth wide sent is at
+taking_keeps judged truth wide (Served sent reply) at waits is = absurd waits
 
 answered_keeps : (judged : Judged) (truth : Truth) (wide : ℕ) (course : Course) → truth.course wide ≡ course
     → IsServedCourse course → IsBelowTruth judged.slave judged.kept truth
     → IsAnswerBelow judged wide course
     × IsBelowTruth judged.slave (judged_after judged (Answers wide)).kept (truth_after truth (Answers wide))
 answered_keeps judged truth wide Idle at served is = absurd served
-answered_keeps judged truth wide (Waiting ask) at served is = absurd served
-answered_keeps judged truth wide (Served ask reply) at served is = (
-  answer_is_due judged.slave judged.kept truth wide ask reply is at,
-  answering_keeps judged.slave judged.kept truth wide ask reply is at,
+answered_keeps judged truth wide (Waiting sent) at served is = absurd served
+answered_keeps judged truth wide (Served sent reply) at served is = (
+  answer_is_due judged.slave judged.kept truth wide sent reply is at,
+  answering_keeps judged.slave judged.kept truth wide sent reply is at,
 )
 
 pub all_below : (judged : Judged) (truth : Truth) (moments : List SlaveMoment) → IsBelowTruth judged.slave judged.kept truth
     → MayAllCome truth moments → AreAllBelow judged truth moments
 all_below judged truth [] is may = tt
-all_below judged truth (Accepts wide ask ∷ moments) is may = (
+all_below judged truth (Accepts wide sent ∷ moments) is may = (
   tt,
-  all_below (judged_after judged (Accepts wide ask)) (truth_after truth (Accepts wide ask)) moments
-      (accepting_keeps judged.slave judged.kept truth wide judged.served ask is may.0.0 may.0.1) may.1,
+  all_below (judged_after judged (Accepts wide sent)) (truth_after truth (Accepts wide sent)) moments
+      (accepting_keeps judged.slave judged.kept truth wide judged.served sent is may.0.0 may.0.1) may.1,
 )
 all_below judged truth (TakesEffect wide ∷ moments) is may = (
   tt,

@@ -9,18 +9,18 @@ use Rattle.tl_types.specs.Operation.{reply_op_of}
 use Rattle.tl_types.specs.Request.{Request}
 use Rattle.tl_types.specs.declared.operation.ReplyOp.{ReplyOp}
 use Rattle.tl_types.specs.declared.operation.ReplyOp.TheVariants.{AccessAck, AccessAckData, HintAck}
-use Rattle.check_memory.specs.Partial.{Partial, permits, visible, after_partial, start_of, placed}
-use Rattle.check_memory.specs.Pattern.{Pattern, pattern, shown_cells}
-use Rattle.check_memory.specs.Slave.{expected_of}
-use Rattle.check_memory.specs.declared.slave.Slave.{Slave}
+use Rattle.check_cells.specs.Sent.{Sent, is_corrupt}
+use Rattle.check_memory.specs.Partial.{Partial, permits, visible, start_of, placed}
+use Rattle.check_memory.specs.Pattern.{Pattern, pattern, device_pattern, shown_cells}
 use Rattle.check_memory.specs.declared.slave.Slave.TheVariants.{Memory, Device}
 use Rattle.check_memory.proofs.Unknown.{unknown_none}
 use Rattle.check_contests.specs.Writes.{in_window, writes, may_write, combines, meets, leave_unknown}
-use Rattle.check_contests.specs.Contests.{Accepted, one_may_write, is_contested, due_beside, due_of, memory_accepting, entry_accepting}
+use Rattle.check_contests.specs.Sent.{memory_after_sent, expected_of_sent}
+use Rattle.check_contests.specs.Contests.{Accepted, one_may_write, is_contested, contested_in, due_beside, due_of, entry_accepting}
 use Rattle.check_contests.specs.Laws.{IsAsServed, AreUncontested, IsBeside}
 use Rattle.check_contests.proofs.Clash.{not_both}
 use Rattle.check_contests.proofs.Effect.{in_here, written_in}
-use Rattle.check_contests.proofs.Expected.{beside_legal, beside_denied}
+use Rattle.check_contests.proofs.Expected.{unsure_if, unsure_bytes, beside_legal, beside_denied}
 
 pub any_none : {A : Type 0} (test : A → Bool) (items : List A) → ((item : A) → test item ≡ false)
     → list_any test items ≡ false
@@ -88,33 +88,44 @@ expected_short memory ask is =
     rw (is, pattern) (shown_short (reply_op_of ask.op) (2 ^ ask.size) (take (2 ^ ask.size) (drop (start_of memory ask) (visible memory)))
     (omega (arith, length-take (2 ^ ask.size) (drop (start_of memory ask) (visible memory)))))
 
-due_is : (memory : Partial) (kept : List Accepted) (ask : Request)
-    → All (λ (entry : Accepted). IsBeside memory ask entry) kept
-    → due_of (Memory memory) kept ask ≡ pattern memory ask
-due_is memory kept ask beside = by_cases (permits memory ask) refl
-  where
-    none : permits memory ask ≡ true → (k : ℕ) → k < length (pattern memory ask).bytes
-        → one_may_write memory kept (start_of memory ask + k) ≡ false
-    none is k below =
-        any_none_of (λ (e : Accepted). IsBeside memory ask e)
-        (λ (e : Accepted). may_write memory e.ask (start_of memory ask + k)) kept
-        (λ entry un. not_by_other memory ask entry.ask (start_of memory ask + k) un.uncontested
-        (in_here (placed memory ask) k (omega (arith, below, expected_short memory ask is)))) beside
+-- what is expected of a request as it crossed has as many bytes
+sent_short : (memory : Partial) (sent : Sent) → permits memory sent.ask ≡ true
+    → length (expected_of_sent (Memory memory) sent).bytes ≤ 2 ^ sent.ask.size
+sent_short memory sent is =
+    let same = unsure_bytes (is_corrupt sent) (pattern memory sent.ask) in
+    omega (arith, ap (λ (bytes : List (Option ℕ)). length bytes) same, expected_short memory sent.ask is)
 
-    by_cases : (p : Bool) → permits memory ask ≡ p → due_of (Memory memory) kept ask ≡ pattern memory ask
-    by_cases true is = due_stays memory ask (one_may_write memory kept) (pattern memory ask) (none is)
-    by_cases false is = beside_denied memory ask (one_may_write memory kept) (pattern memory ask) is
+due_is : (memory : Partial) (kept : List Accepted) (sent : Sent)
+    → All (λ (entry : Accepted). IsBeside memory sent.ask entry) kept
+    → due_of (Memory memory) kept sent ≡ expected_of_sent (Memory memory) sent
+due_is memory kept sent beside = by_cases (permits memory sent.ask) refl
+  where
+    expected : Pattern
+    expected = expected_of_sent (Memory memory) sent
+
+    none : permits memory sent.ask ≡ true → (k : ℕ) → k < length expected.bytes
+        → one_may_write memory kept (start_of memory sent.ask + k) ≡ false
+    none is k below =
+        any_none_of (λ (e : Accepted). IsBeside memory sent.ask e)
+        (λ (e : Accepted). may_write memory e.ask (start_of memory sent.ask + k)) kept
+        (λ entry un. not_by_other memory sent.ask entry.ask (start_of memory sent.ask + k) un.uncontested
+        (in_here (placed memory sent.ask) k (omega (arith, below, sent_short memory sent is)))) beside
+
+    by_cases : (p : Bool) → permits memory sent.ask ≡ p → due_of (Memory memory) kept sent ≡ expected
+    by_cases true is = due_stays memory sent.ask (one_may_write memory kept) expected (none is)
+    by_cases false is = beside_denied memory sent.ask (one_may_write memory kept) expected is
 
 with_same : (memory : Partial) (cells : List (Option ℕ)) → cells ≡ memory.cells
     → record memory { cells = cells } ≡ memory
 with_same memory cells same = ap (λ (cs : List (Option ℕ)). record memory { cells = cs }) same
 
-pub leaves_is : (memory : Partial) (kept : List Accepted) (ask : Request)
+-- what a request leaves is all that is left, where nothing is contested
+pub leaves_is : (memory : Partial) (kept : List Accepted) (ask : Request) (after : Partial)
     → ((a : ℕ) → is_contested memory kept ask a ≡ false)
-    → memory_accepting memory kept ask ≡ after_partial memory ask
-leaves_is memory kept ask none =
-    with_same (after_partial memory ask) (memory_accepting memory kept ask).cells
-    (unknown_none (is_contested memory kept ask) (after_partial memory ask).cells (λ k below. none k))
+    → contested_in memory kept ask after ≡ after
+leaves_is memory kept ask after none =
+    with_same after (contested_in memory kept ask after).cells
+    (unknown_none (is_contested memory kept ask) after.cells (λ k below. none k))
 
 kept_is : (memory : Partial) (ask : Request) (kept : List Accepted)
     → All (λ (entry : Accepted). IsBeside memory ask entry) kept
@@ -130,25 +141,24 @@ kept_is memory ask (entry ∷ kept) beside =
     ∙ ap (λ (rest : List Accepted). entry ∷ rest)
     (kept_is memory ask kept (All-tail (λ (e : Accepted). IsBeside memory ask e) entry kept beside))
 
-joined : (slave : Slave) (kept kept' : List Accepted) (wide index : ℕ) (ask : Request) (due due' : Pattern) → kept ≡ kept'
-    → due ≡ due'
+joined : (kept kept' : List Accepted) (wide index : ℕ) (ask : Request) (due due' : Pattern) → kept ≡ kept' → due ≡ due'
     → kept ++ record { wide = wide; ask = ask; due = due; index = index } ∷ []
     ≡ kept' ++ record { wide = wide; ask = ask; due = due'; index = index } ∷ []
-joined slave kept kept' wide index ask due due' same same' =
+joined kept kept' wide index ask due due' same same' =
     let one : Pattern → Accepted = λ d. record { wide = wide; ask = ask; due = d; index = index } in
     ap (λ (k : List Accepted). k ++ one due ∷ []) same ∙ ap (λ (d : Pattern). kept' ++ one d ∷ []) same'
 
-pub uncontested_is_as_served : (memory : Partial) (kept : List Accepted) (wide index : ℕ) (ask : Request)
-    → All (λ (entry : Accepted). IsBeside memory ask entry) kept → IsAsServed (Memory memory) kept wide index ask
-uncontested_is_as_served memory kept wide index ask beside = record {
-  due = due_is memory kept ask beside;
-  leaves = ap (λ (m : Partial). Memory m) (leaves_is memory kept ask (λ a.
-      any_none_of (λ (e : Accepted). IsBeside memory ask e)
-      (λ (e : Accepted). leave_unknown memory ask e.ask a) kept
-      (λ entry un. left_known memory ask entry.ask a un.uncontested) beside));
-  keeps = joined (Memory memory) (map (entry_accepting (Memory memory) ask) kept) kept wide index ask
-      (due_of (Memory memory) kept ask) (pattern memory ask) (kept_is memory ask kept beside)
-      (due_is memory kept ask beside);
+pub uncontested_is_as_served : (memory : Partial) (kept : List Accepted) (wide index : ℕ) (sent : Sent)
+    → All (λ (entry : Accepted). IsBeside memory sent.ask entry) kept → IsAsServed (Memory memory) kept wide index sent
+uncontested_is_as_served memory kept wide index sent beside = record {
+  due = due_is memory kept sent beside;
+  leaves = ap (λ (m : Partial). Memory m) (leaves_is memory kept sent.ask (memory_after_sent memory sent) (λ a.
+      any_none_of (λ (e : Accepted). IsBeside memory sent.ask e)
+      (λ (e : Accepted). leave_unknown memory sent.ask e.ask a) kept
+      (λ entry un. left_known memory sent.ask entry.ask a un.uncontested) beside));
+  keeps = joined (map (entry_accepting (Memory memory) sent.ask) kept) kept wide index sent.ask
+      (due_of (Memory memory) kept sent) (expected_of_sent (Memory memory) sent) (kept_is memory sent.ask kept beside)
+      (due_is memory kept sent beside);
 }
 
 -- ---- a denied request, and a device
@@ -174,28 +184,37 @@ denied_keeps memory ask (entry ∷ kept) is =
     ap (λ (due : Pattern). record entry { due = due } ∷ map (entry_accepting (Memory memory) ask) kept) same
     ∙ ap (λ (rest : List Accepted). entry ∷ rest) (denied_keeps memory ask kept is)
 
-pub denied_is_as_served : (memory : Partial) (kept : List Accepted) (wide index : ℕ) (ask : Request)
-    → permits memory ask ≡ false → IsAsServed (Memory memory) kept wide index ask
-denied_is_as_served memory kept wide index ask is =
-    let due : due_of (Memory memory) kept ask ≡ pattern memory ask =
-    beside_denied memory ask (one_may_write memory kept) (pattern memory ask) is in
+pub denied_is_as_served : (memory : Partial) (kept : List Accepted) (wide index : ℕ) (sent : Sent)
+    → permits memory sent.ask ≡ false → IsAsServed (Memory memory) kept wide index sent
+denied_is_as_served memory kept wide index sent is =
+    let expected : Pattern = expected_of_sent (Memory memory) sent in
+    let due : due_of (Memory memory) kept sent ≡ expected =
+    beside_denied memory sent.ask (one_may_write memory kept) expected is in
     record {
       due = due;
-      leaves = ap (λ (m : Partial). Memory m) (leaves_is memory kept ask (λ a.
-          any_none (λ (e : Accepted). leave_unknown memory ask e.ask a) kept
-          (λ entry. denied_leaves memory ask entry.ask a is)));
-      keeps = joined (Memory memory) (map (entry_accepting (Memory memory) ask) kept) kept wide index ask
-          (due_of (Memory memory) kept ask) (pattern memory ask) (denied_keeps memory ask kept is) due;
+      leaves = ap (λ (m : Partial). Memory m) (leaves_is memory kept sent.ask (memory_after_sent memory sent) (λ a.
+          any_none (λ (e : Accepted). leave_unknown memory sent.ask e.ask a) kept
+          (λ entry. denied_leaves memory sent.ask entry.ask a is)));
+      keeps = joined (map (entry_accepting (Memory memory) sent.ask) kept) kept wide index sent.ask
+          (due_of (Memory memory) kept sent) expected (denied_keeps memory sent.ask kept is) due;
     }
 
 pub device_keeps : (ask : Request) (kept : List Accepted) → map (entry_accepting Device ask) kept ≡ kept
 device_keeps ask [] = refl
 device_keeps ask (entry ∷ kept) = ap (λ (rest : List Accepted). entry ∷ rest) (device_keeps ask kept)
 
-pub device_is_as_served : (kept : List Accepted) (wide index : ℕ) (ask : Request) → IsAsServed Device kept wide index ask
-device_is_as_served kept wide index ask = record {
-  due = refl;
+-- of a device anything is expected, of a corrupt request too
+pub device_expects : (sent : Sent) → device_pattern sent.ask ≡ expected_of_sent Device sent
+device_expects sent = by_cases (is_corrupt sent)
+  where
+    by_cases : (corrupt : Bool) → device_pattern sent.ask ≡ unsure_if corrupt (device_pattern sent.ask)
+    by_cases true = refl
+    by_cases false = refl
+
+pub device_is_as_served : (kept : List Accepted) (wide index : ℕ) (sent : Sent) → IsAsServed Device kept wide index sent
+device_is_as_served kept wide index sent = record {
+  due = device_expects sent;
   leaves = refl;
-  keeps = joined Device (map (entry_accepting Device ask) kept) kept wide index ask (due_of Device kept ask)
-      (expected_of Device ask) (device_keeps ask kept) refl;
+  keeps = joined (map (entry_accepting Device sent.ask) kept) kept wide index sent.ask (due_of Device kept sent)
+      (expected_of_sent Device sent) (device_keeps sent.ask kept) (device_expects sent);
 }

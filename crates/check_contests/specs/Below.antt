@@ -4,12 +4,13 @@ use Rattle.std.specs.Prelude.{◌≡◌, ℕ, ◌+◌, ◌≢◌, true, false, L
 use Rattle.tl_types.specs.Request.{Request}
 use Rattle.tl_ops.specs.declared.kind.Kind.TheVariants.{ClearRegs}
 use Rattle.check_memory.specs.Cells.{is_atomic}
-use Rattle.check_memory.specs.Partial.{Partial, start_of, permits, visible, after_partial, AreWithin}
+use Rattle.check_cells.specs.Sent.{Sent}
+use Rattle.check_memory.specs.Partial.{Partial, start_of, permits, visible, AreWithin}
 use Rattle.check_memory.specs.Pattern.{Pattern, FitsPattern}
-use Rattle.check_memory.specs.Slave.{expected_of}
 use Rattle.check_memory.specs.declared.slave.Slave.{Slave}
 use Rattle.check_memory.specs.declared.slave.Slave.TheVariants.{Memory, Device}
 use Rattle.check_contests.specs.Writes.{may_write}
+use Rattle.check_contests.specs.Sent.{memory_after_sent, expected_of_sent}
 use Rattle.check_contests.specs.Contests.{Accepted, kept_of}
 use Rattle.check_contests.specs.Moments.{Course, asked_of, Truth, AreBytes, IsCarried}
 use Rattle.check_contests.specs.Moments.Course.{Idle, Waiting, Served}
@@ -24,8 +25,8 @@ AreApart (entry ∷ kept) = (kept_of kept entry.wide ≡ None) × AreApart kept
 -- what is due says no more than what is expected of the slave, or was when the request took effect
 abbrev pub DueFits : Slave → Pattern → Course → Type 0
 DueFits slave due Idle = Unit {0}
-DueFits slave due (Waiting ask) = FitsPattern due (expected_of slave ask)
-DueFits slave due (Served ask reply) = FitsPattern due reply
+DueFits slave due (Waiting sent) = FitsPattern due (expected_of_sent slave sent)
+DueFits slave due (Served sent reply) = FitsPattern due reply
 
 -- ---- bytes of a memory
 
@@ -40,12 +41,12 @@ NoOtherMayWrite memory course wide address =
 pub record IsKnownRightly (truth : Partial) (course : ℕ → Course) (address byte : ℕ) : Type 0 where
   pub alone : (wide : ℕ) (ask : Request) → asked_of (course wide) ≡ Some ask → may_write truth ask address ≡ true
       → NoOtherMayWrite truth course wide address
-  pub to_come : (wide : ℕ) (ask : Request) → course wide ≡ Waiting ask → may_write truth ask address ≡ true
-      → slice_index_or (visible (after_partial truth ask)) address None ≡ Some byte
-  pub combined : (wide : ℕ) (ask : Request) → course wide ≡ Waiting ask → may_write truth ask address ≡ true
-      → is_atomic ask.op ≡ true → (place : ℕ) → may_write truth ask place ≡ true
+  pub to_come : (wide : ℕ) (sent : Sent) → course wide ≡ Waiting sent → may_write truth sent.ask address ≡ true
+      → slice_index_or (visible (memory_after_sent truth sent)) address None ≡ Some byte
+  pub combined : (wide : ℕ) (sent : Sent) → course wide ≡ Waiting sent → may_write truth sent.ask address ≡ true
+      → is_atomic sent.ask.op ≡ true → (place : ℕ) → may_write truth sent.ask place ≡ true
       → NoOtherMayWrite truth course wide place
-  pub there : ((wide : ℕ) (ask : Request) → course wide ≡ Waiting ask → may_write truth ask address ≡ false)
+  pub there : ((wide : ℕ) (sent : Sent) → course wide ≡ Waiting sent → may_write truth sent.ask address ≡ false)
       → slice_index_or (visible truth) address None ≡ Some byte
 
 -- of the bytes that are due to a request no other may write one that is known
@@ -64,8 +65,8 @@ pub record IsMemoryBelow (ours truth : Partial) (kept : List Accepted) (course :
   pub carried : (wide : ℕ) (ask : Request) → asked_of (course wide) ≡ Some ask → IsCarried (Memory truth) ask
   pub known : (address byte : ℕ) → slice_index_or (visible ours) address None ≡ Some byte
       → IsKnownRightly truth course address byte
-  pub dues : (wide : ℕ) (entry : Accepted) (ask : Request) → kept_of kept wide ≡ Some entry → course wide ≡ Waiting ask
-      → permits truth ask ≡ true → AreAlone truth course wide ask entry.due
+  pub dues : (wide : ℕ) (entry : Accepted) (sent : Sent) → kept_of kept wide ≡ Some entry → course wide ≡ Waiting sent
+      → permits truth sent.ask ≡ true → AreAlone truth course wide sent.ask entry.due
 
 -- ---- slaves
 

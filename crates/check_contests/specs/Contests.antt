@@ -3,11 +3,13 @@
 use Rattle.std.specs.Prelude.{ℕ, ◌+◌, Bool, if◌then◌else◌, ◌==◌, List, [], ◌∷◌, ◌++◌, map, Option, None, Some}
 use Rattle.std.specs.List.{list_any}
 use Rattle.tl_types.specs.Request.{Request}
-use Rattle.check_memory.specs.Partial.{Partial, start_of, permits, after_partial}
-use Rattle.check_memory.specs.Pattern.{Pattern, pattern, device_pattern}
+use Rattle.check_cells.specs.Sent.{Sent}
+use Rattle.check_memory.specs.Partial.{Partial, start_of, permits}
+use Rattle.check_memory.specs.Pattern.{Pattern, device_pattern}
 use Rattle.check_memory.specs.declared.slave.Slave.{Slave}
 use Rattle.check_memory.specs.declared.slave.Slave.TheVariants.{Memory, Device}
 use Rattle.check_contests.specs.Writes.{may_write, leave_unknown, unknown_where}
+use Rattle.check_contests.specs.Sent.{memory_after_sent, expected_of_sent}
 -- a request that is accepted and not yet answered: its wide source, the request, what its reply has to fit, and its
 -- place in the port's list
 pub use Rattle.check_contests.specs.declared.accepted.Accepted.{Accepted}
@@ -34,21 +36,24 @@ due_beside memory ask test due =
 -- ---- a request is accepted, beside those that are kept
 
 -- what its reply has to fit: what is expected of the slave, without the bytes that one of those kept may write
-abbrev pub due_of : Slave → List Accepted → Request → Pattern
-due_of (Memory memory) kept ask = due_beside memory ask (one_may_write memory kept) (pattern memory ask)
-due_of Device kept ask = device_pattern ask
+abbrev pub due_of : Slave → List Accepted → Sent → Pattern
+due_of (Memory memory) kept sent =
+    due_beside memory sent.ask (one_may_write memory kept) (expected_of_sent (Memory memory) sent)
+due_of Device kept sent = device_pattern sent.ask
+
+-- what a memory is after a request, without the bytes that were contested in it before
+abbrev pub contested_in : Partial → List Accepted → Request → Partial → Partial
+contested_in memory kept ask after =
+    record after { cells = unknown_where (is_contested memory kept ask) after.cells }
 
 -- the memory then: the one after the request, without the bytes that are contested
-abbrev pub memory_accepting : Partial → List Accepted → Request → Partial
-memory_accepting memory kept ask =
-    record (after_partial memory ask) {
-      cells = unknown_where (is_contested memory kept ask) (after_partial memory ask).cells;
-    }
+abbrev pub memory_accepting : Partial → List Accepted → Sent → Partial
+memory_accepting memory kept sent = contested_in memory kept sent.ask (memory_after_sent memory sent)
 
 -- the slave then
-abbrev pub slave_accepting : Slave → List Accepted → Request → Slave
-slave_accepting (Memory memory) kept ask = Memory (memory_accepting memory kept ask)
-slave_accepting Device kept ask = Device
+abbrev pub slave_accepting : Slave → List Accepted → Sent → Slave
+slave_accepting (Memory memory) kept sent = Memory (memory_accepting memory kept sent)
+slave_accepting Device kept sent = Device
 
 -- one of those kept, without the bytes that the new one may write
 abbrev pub entry_accepting : Slave → Request → Accepted → Accepted
@@ -57,10 +62,10 @@ entry_accepting (Memory memory) ask entry =
 entry_accepting Device ask entry = entry
 
 -- those kept then, the new one (of this wide source, with this place in the port's list) among them
-abbrev pub kept_accepting : Slave → List Accepted → ℕ → ℕ → Request → List Accepted
-kept_accepting slave kept wide index ask =
-    map (entry_accepting slave ask) kept
-    ++ record { wide = wide; ask = ask; due = due_of slave kept ask; index = index } ∷ []
+abbrev pub kept_accepting : Slave → List Accepted → ℕ → ℕ → Sent → List Accepted
+kept_accepting slave kept wide index sent =
+    map (entry_accepting slave sent.ask) kept
+    ++ record { wide = wide; ask = sent.ask; due = due_of slave kept sent; index = index } ∷ []
 
 -- ---- a request is answered
 

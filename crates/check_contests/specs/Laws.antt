@@ -1,14 +1,20 @@
 -- The laws, said on their own.
-use Rattle.std.specs.Prelude.{◌≡◌, ℕ, ◌+◌, ◌%◌, ◌^◌, ◌≤◌, true, false, List, [], ◌∷◌, ◌++◌, length, Some, All}
+use Rattle.std.specs.Prelude.{◌≡◌, ℕ, ◌+◌, ◌%◌, ◌^◌, ◌≤◌, ◌⊎◌, true, false, List, [], ◌∷◌, ◌++◌, length, replicate, None, Some, All, slice_index_or}
+use Rattle.tl_types.specs.Operation.{reply_op_of}
 use Rattle.tl_types.specs.Request.{Request}
+use Rattle.tl_types.specs.Response.{Response}
 use Rattle.tl_ops.specs.declared.kind.Kind.TheVariants.{ClearRegs}
-use Rattle.check_memory.specs.Known.{IsBelow}
+use Rattle.tl_ops.specs.Store.{shown}
+use Rattle.check_cells.specs.Sent.{Sent, is_corrupt}
+use Rattle.check_memory.specs.Known.{IsBelow, known}
+use Rattle.check_memory.specs.Laws.{IsLawfulAsk}
 use Rattle.check_memory.specs.Partial.{Partial, placed, permits, visible, AreWithin}
-use Rattle.check_memory.specs.Pattern.{Pattern, FitsPattern, FitsCaptured}
-use Rattle.check_memory.specs.Slave.{slave_after, expected_of}
+use Rattle.check_memory.specs.Pattern.{Pattern, FitsPattern, FitsCaptured, seen_as}
+use Rattle.check_memory.specs.Whole.{true_reply}
 use Rattle.check_memory.specs.declared.slave.Slave.{Slave}
 use Rattle.check_memory.specs.declared.slave.Slave.TheVariants.{Memory, Device}
 use Rattle.check_contests.specs.Writes.{in_window, may_write}
+use Rattle.check_contests.specs.Sent.{memory_after_sent, slave_after_sent, expected_of_sent}
 use Rattle.check_contests.specs.Contests.{Accepted, due_of, slave_accepting, kept_accepting, kept_of, kept_answering}
 use Rattle.check_contests.specs.Moments.{SlaveMoment, Course, Truth, untouched, truth_accepting, truth_serving, truth_answering, truth_after, AreBytes, IsCarried, MayAllCome}
 use Rattle.check_contests.specs.Moments.SlaveMoment.{Accepts, TakesEffect, Answers}
@@ -38,23 +44,23 @@ ResetIsBelow = (ours truth : Slave) → IsBelowAtReset ours truth → IsBelowTru
 -- it stays so, whichever request is accepted, takes effect or is answered
 abbrev pub AcceptingKeeps : Type 0
 AcceptingKeeps =
-    (ours : Slave) (kept : List Accepted) (truth : Truth) (wide index : ℕ) (ask : Request)
-    → IsBelowTruth ours kept truth → truth.course wide ≡ Idle → IsCarried truth.slave ask
-    → IsBelowTruth (slave_accepting ours kept ask) (kept_accepting ours kept wide index ask)
-    (truth_accepting truth wide ask)
+    (ours : Slave) (kept : List Accepted) (truth : Truth) (wide index : ℕ) (sent : Sent)
+    → IsBelowTruth ours kept truth → truth.course wide ≡ Idle → IsCarried truth.slave sent.ask
+    → IsBelowTruth (slave_accepting ours kept sent) (kept_accepting ours kept wide index sent)
+    (truth_accepting truth wide sent)
 
 -- it stays so as a request that is accepted takes effect: nothing of what is kept changes then.
 abbrev pub TakingEffectKeeps : Type 0
 TakingEffectKeeps =
-    (ours : Slave) (kept : List Accepted) (truth : Truth) (wide : ℕ) (ask : Request)
-    → IsBelowTruth ours kept truth → truth.course wide ≡ Waiting ask
-    → IsBelowTruth ours kept (truth_serving truth wide ask)
+    (ours : Slave) (kept : List Accepted) (truth : Truth) (wide : ℕ) (sent : Sent)
+    → IsBelowTruth ours kept truth → truth.course wide ≡ Waiting sent
+    → IsBelowTruth ours kept (truth_serving truth wide sent)
 
 -- it stays so as a request that has taken effect is answered: it is not kept any more then.
 abbrev pub AnsweringKeeps : Type 0
 AnsweringKeeps =
-    (ours : Slave) (kept : List Accepted) (truth : Truth) (wide : ℕ) (ask : Request) (reply : Pattern)
-    → IsBelowTruth ours kept truth → truth.course wide ≡ Served ask reply
+    (ours : Slave) (kept : List Accepted) (truth : Truth) (wide : ℕ) (sent : Sent) (reply : Pattern)
+    → IsBelowTruth ours kept truth → truth.course wide ≡ Served sent reply
     → IsBelowTruth ours (kept_answering kept wide) (truth_answering truth wide)
 
 -- a request that is answered is kept, and what is due to it says no more than what was expected as it took effect
@@ -68,8 +74,8 @@ pub record IsDueBelow (kept : List Accepted) (wide : ℕ) (ask : Request) (reply
 -- more than what was expected of the true slave then.
 abbrev pub AnswerIsDue : Type 0
 AnswerIsDue =
-    (ours : Slave) (kept : List Accepted) (truth : Truth) (wide : ℕ) (ask : Request) (reply : Pattern)
-    → IsBelowTruth ours kept truth → truth.course wide ≡ Served ask reply → IsDueBelow kept wide ask reply
+    (ours : Slave) (kept : List Accepted) (truth : Truth) (wide : ℕ) (sent : Sent) (reply : Pattern)
+    → IsBelowTruth ours kept truth → truth.course wide ≡ Served sent reply → IsDueBelow kept wide sent.ask reply
 
 -- so each reply that fits what was expected of the true slave fits what is due
 abbrev pub FitsThrough : Type 0
@@ -85,9 +91,9 @@ pub record Judged : Type 0 where
 
 -- what is kept of a port after one moment; nobody sees when a request takes effect.
 abbrev pub judged_after : Judged → SlaveMoment → Judged
-judged_after judged (Accepts wide ask) = record {
-  slave = slave_accepting judged.slave judged.kept ask;
-  kept = kept_accepting judged.slave judged.kept wide judged.served ask;
+judged_after judged (Accepts wide sent) = record {
+  slave = slave_accepting judged.slave judged.kept sent;
+  kept = kept_accepting judged.slave judged.kept wide judged.served sent;
   served = (judged.served + 1) % 2 ^ 64;
 }
 judged_after judged (TakesEffect wide) = judged
@@ -96,13 +102,13 @@ judged_after judged (Answers wide) = record judged { kept = kept_answering judge
 -- what is due to a request that is answered now says no more than what was expected of the true slave
 abbrev pub IsAnswerBelow : Judged → ℕ → Course → Type 0
 IsAnswerBelow judged wide Idle = ⊥
-IsAnswerBelow judged wide (Waiting ask) = ⊥
-IsAnswerBelow judged wide (Served ask reply) = IsDueBelow judged.kept wide ask reply
+IsAnswerBelow judged wide (Waiting sent) = ⊥
+IsAnswerBelow judged wide (Served sent reply) = IsDueBelow judged.kept wide sent.ask reply
 
 -- what is due to a request that this moment answers says no more than what was expected of the true slave; other moments
 -- say nothing.
 abbrev pub IsMomentBelow : Judged → Truth → SlaveMoment → Type 0
-IsMomentBelow judged truth (Accepts wide ask) = Unit {0}
+IsMomentBelow judged truth (Accepts wide sent) = Unit {0}
 IsMomentBelow judged truth (TakesEffect wide) = Unit {0}
 IsMomentBelow judged truth (Answers wide) = IsAnswerBelow judged wide (truth.course wide)
 
@@ -122,11 +128,11 @@ AnyOrderIsBelow =
 -- ---- nothing is lost without need
 
 -- a request is accepted as one that takes effect at once: nothing is made unknown
-pub record IsAsServed (slave : Slave) (kept : List Accepted) (wide index : ℕ) (ask : Request) : Type 0 where
-  pub due : due_of slave kept ask ≡ expected_of slave ask
-  pub leaves : slave_accepting slave kept ask ≡ slave_after slave ask
-  pub keeps : kept_accepting slave kept wide index ask
-      ≡ kept ++ record { wide = wide; ask = ask; due = expected_of slave ask; index = index } ∷ []
+pub record IsAsServed (slave : Slave) (kept : List Accepted) (wide index : ℕ) (sent : Sent) : Type 0 where
+  pub due : due_of slave kept sent ≡ expected_of_sent slave sent
+  pub leaves : slave_accepting slave kept sent ≡ slave_after_sent slave sent
+  pub keeps : kept_accepting slave kept wide index sent
+      ≡ kept ++ record { wide = wide; ask = sent.ask; due = expected_of_sent slave sent; index = index } ∷ []
 
 -- two requests have no byte in common that one of them may write
 abbrev pub AreUncontested : Partial → Request → Request → Type 0
@@ -142,15 +148,51 @@ pub record IsBeside (memory : Partial) (ask : Request) (entry : Accepted) : Type
 -- a request that is uncontested with each one that is kept makes nothing unknown.
 abbrev pub UncontestedIsAsServed : Type 0
 UncontestedIsAsServed =
-    (memory : Partial) (kept : List Accepted) (wide index : ℕ) (ask : Request)
-    → All (λ (entry : Accepted). IsBeside memory ask entry) kept → IsAsServed (Memory memory) kept wide index ask
+    (memory : Partial) (kept : List Accepted) (wide index : ℕ) (sent : Sent)
+    → All (λ (entry : Accepted). IsBeside memory sent.ask entry) kept → IsAsServed (Memory memory) kept wide index sent
 
 -- a request that is denied makes nothing unknown, and of a device nothing is kept that could be
 abbrev pub DeniedIsAsServed : Type 0
 DeniedIsAsServed =
-    (memory : Partial) (kept : List Accepted) (wide index : ℕ) (ask : Request) → permits memory ask ≡ false
-    → IsAsServed (Memory memory) kept wide index ask
+    (memory : Partial) (kept : List Accepted) (wide index : ℕ) (sent : Sent) → permits memory sent.ask ≡ false
+    → IsAsServed (Memory memory) kept wide index sent
 
 -- a request at a device makes nothing unknown.
 abbrev pub DeviceIsAsServed : Type 0
-DeviceIsAsServed = (kept : List Accepted) (wide index : ℕ) (ask : Request) → IsAsServed Device kept wide index ask
+DeviceIsAsServed = (kept : List Accepted) (wide index : ℕ) (sent : Sent) → IsAsServed Device kept wide index sent
+
+-- ---- corrupt requests
+
+-- the bytes of a memory later are those of before, but for such as a request may write
+pub record AreSameButWritten (memory : Partial) (ask : Request) (bytes later : List ℕ) : Type 0 where
+  pub counted : length later ≡ length bytes
+  pub same : (address : ℕ) → may_write memory ask address ≡ false
+      → slice_index_or (known later) address None ≡ slice_index_or (known bytes) address None
+
+-- a reply that denies the request
+abbrev pub denial : Request → Response
+denial ask = record {
+  op = reply_op_of ask.op;
+  size = ask.size;
+  source = ask.source;
+  denied = true;
+  bytes = shown (reply_op_of ask.op) (replicate (2 ^ ask.size) 0);
+}
+
+-- a memory with these bytes answers a corrupt request as any other, or denies it
+abbrev pub MayAnswerCorrupt : Partial → List ℕ → Request → Response → Type 0
+MayAnswerCorrupt memory bytes ask reply = (reply ≡ true_reply memory bytes ask) ⊎ (reply ≡ denial ask)
+
+-- whatever it answers and writes, the reply fits, and the bytes later are those that are seen as known
+pub record IsCorruptSound (memory : Partial) (sent : Sent) (later : List ℕ) (reply : Response) : Type 0 where
+  pub reply_fits : FitsPattern (expected_of_sent (Memory memory) sent) (seen_as reply)
+  pub stays_below : IsBelow (visible (memory_after_sent memory sent)) (known later)
+
+-- if the true bytes are those that are seen as known, a corrupt request may write any bytes in place of those that it may
+-- write, and may be denied or not: what is seen is still true.
+abbrev pub CorruptIsSound : Type 0
+CorruptIsSound =
+    (memory : Partial) (bytes later : List ℕ) (sent : Sent) (reply : Response) → is_corrupt sent ≡ true
+    → AreWithin memory.ranges (length bytes) → IsLawfulAsk sent.ask → IsBelow (visible memory) (known bytes)
+    → AreSameButWritten memory sent.ask bytes later → MayAnswerCorrupt memory bytes sent.ask reply
+    → IsCorruptSound memory sent later reply

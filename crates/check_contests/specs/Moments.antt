@@ -3,15 +3,16 @@
 use Rattle.std.specs.Prelude.{◌≡◌, ℕ, ◌<◌, if◌then◌else◌, ◌==◌, List, [], ◌∷◌, Option, Some, None, slice_index_or}
 use Rattle.tl_types.specs.Request.{Request}
 use Rattle.tl_ops.specs.declared.kind.Kind.TheVariants.{ClearRegs}
+use Rattle.check_cells.specs.Sent.{Sent}
 use Rattle.check_memory.specs.Laws.{IsLawfulAsk}
 use Rattle.check_memory.specs.Pattern.{Pattern}
-use Rattle.check_memory.specs.Slave.{slave_after, expected_of}
 use Rattle.check_memory.specs.declared.slave.Slave.{Slave}
 use Rattle.check_memory.specs.declared.slave.Slave.TheVariants.{Memory, Device}
+use Rattle.check_contests.specs.Sent.{slave_after_sent, expected_of_sent}
 
 -- a request of a wide source is accepted, it takes effect, or its reply begins
 pub data SlaveMoment : Type 0 where
-  Accepts : ℕ → Request → SlaveMoment
+  Accepts : ℕ → Sent → SlaveMoment
   TakesEffect : ℕ → SlaveMoment
   Answers : ℕ → SlaveMoment
 
@@ -21,14 +22,14 @@ pub data SlaveMoment : Type 0 where
 -- then
 pub data Course : Type 0 where
   Idle : Course
-  Waiting : Request → Course
-  Served : Request → Pattern → Course
+  Waiting : Sent → Course
+  Served : Sent → Pattern → Course
 
 -- the request, if there is one
 abbrev pub asked_of : Course → Option Request
 asked_of Idle = None
-asked_of (Waiting ask) = Some ask
-asked_of (Served ask reply) = Some ask
+asked_of (Waiting sent) = Some sent.ask
+asked_of (Served sent reply) = Some sent.ask
 
 -- a slave, and the request of each wide source
 pub record Truth : Type 0 where
@@ -46,15 +47,15 @@ abbrev pub course_with : (ℕ → Course) → ℕ → Course → ℕ → Course
 course_with course wide next other = if other == wide then next else course other
 
 -- a request of a wide source is accepted: it has not taken effect yet.
-abbrev pub truth_accepting : Truth → ℕ → Request → Truth
-truth_accepting truth wide ask = record truth { course = course_with truth.course wide (Waiting ask) }
+abbrev pub truth_accepting : Truth → ℕ → Sent → Truth
+truth_accepting truth wide sent = record truth { course = course_with truth.course wide (Waiting sent) }
 
 -- the request of a wide source takes effect: the slave does it, and what is expected of the slave at that moment is kept
 -- as its reply.
-abbrev pub truth_serving : Truth → ℕ → Request → Truth
-truth_serving truth wide ask = record {
-  slave = slave_after truth.slave ask;
-  course = course_with truth.course wide (Served ask (expected_of truth.slave ask));
+abbrev pub truth_serving : Truth → ℕ → Sent → Truth
+truth_serving truth wide sent = record {
+  slave = slave_after_sent truth.slave sent;
+  course = course_with truth.course wide (Served sent (expected_of_sent truth.slave sent));
 }
 
 -- the reply to a wide source begins: the source has no request any more.
@@ -64,12 +65,12 @@ truth_answering truth wide = record truth { course = course_with truth.course wi
 -- the request of a wide source takes effect, if it waits
 abbrev pub truth_taking : Truth → ℕ → Course → Truth
 truth_taking truth wide Idle = truth
-truth_taking truth wide (Waiting ask) = truth_serving truth wide ask
-truth_taking truth wide (Served ask reply) = truth
+truth_taking truth wide (Waiting sent) = truth_serving truth wide sent
+truth_taking truth wide (Served sent reply) = truth
 
 -- what one moment leaves of the slave and of the requests of all wide sources.
 abbrev pub truth_after : Truth → SlaveMoment → Truth
-truth_after truth (Accepts wide ask) = truth_accepting truth wide ask
+truth_after truth (Accepts wide sent) = truth_accepting truth wide sent
 truth_after truth (TakesEffect wide) = truth_taking truth wide (truth.course wide)
 truth_after truth (Answers wide) = truth_answering truth wide
 
@@ -92,18 +93,18 @@ pub record IsCarried (slave : Slave) (ask : Request) : Type 0 where
 -- there is a request that has not taken effect yet.
 abbrev pub IsWaiting : Course → Type 0
 IsWaiting Idle = ⊥
-IsWaiting (Waiting ask) = Unit {0}
-IsWaiting (Served ask reply) = ⊥
+IsWaiting (Waiting sent) = Unit {0}
+IsWaiting (Served sent reply) = ⊥
 
 -- there is a request that has taken effect.
 abbrev pub IsServedCourse : Course → Type 0
 IsServedCourse Idle = ⊥
-IsServedCourse (Waiting ask) = ⊥
-IsServedCourse (Served ask reply) = Unit {0}
+IsServedCourse (Waiting sent) = ⊥
+IsServedCourse (Served sent reply) = Unit {0}
 
 -- a wide source has one request at a time, which takes effect once, between its acceptance and its answer
 abbrev pub MayCome : Truth → SlaveMoment → Type 0
-MayCome truth (Accepts wide ask) = (truth.course wide ≡ Idle) × IsCarried truth.slave ask
+MayCome truth (Accepts wide sent) = (truth.course wide ≡ Idle) × IsCarried truth.slave sent.ask
 MayCome truth (TakesEffect wide) = IsWaiting (truth.course wide)
 MayCome truth (Answers wide) = IsServedCourse (truth.course wide)
 

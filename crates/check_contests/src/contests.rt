@@ -1,14 +1,18 @@
 //! The requests that a port has accepted and not yet answered, if nobody knows in which order they take effect.
 ghost use Rattle.std.specs.Prelude.{◌≡◌, ℕ, ◌<◌, [], length, slice_get, map, Some, None, true, IfOk, IfSome, OnOk, OnErr, option_map};
 ghost use Rattle.std.specs.List.{remove};
-ghost use Rattle.check_memory.specs.Partial.{takes_bytes};
+ghost use Rattle.check_memory.specs.Partial.{after_partial, takes_bytes};
+ghost use Rattle.check_cells.specs.Pattern.{unsure};
 ghost use Rattle.check_memory.specs.Pattern.{pattern};
-ghost use Rattle.check_contests.specs.Contests.{due_beside, due_of, entry_accepting, kept_accepting, kept_answering, kept_of, memory_accepting, one_may_write, slave_accepting};
+ghost use Rattle.check_contests.specs.Cut.{memory_cut};
+ghost use Rattle.check_contests.specs.Contests.{contested_in, due_beside, due_of, entry_accepting, kept_accepting, kept_answering, kept_of, memory_accepting, one_may_write, slave_accepting};
 
 use crate::accepted::Accepted;
 use crate::due::hide;
-use crate::flags::{NEAR_BYTES, mark_all, near};
-use check_cells::Pattern;
+use crate::flags::{NEAR_BYTES, mark_all, mark_own, near};
+use crate::placed::Placed;
+use crate::sent::serve_sent;
+use check_cells::{Pattern, Sent};
 use check_memory::{PartialMemory, Slave};
 use std::alloc::{AllocError, Global};
 use std::marker::Model;
@@ -61,7 +65,8 @@ fn serve_in_block(
 ) -> Result<(), AllocError>
     requires takes { takes_bytes memory.old ask.now ≡ true }
     requires alone { memory.old.mirrors ≡ [] }
-    ensures after { IfOk result (λ _. memory.new ≡ memory_accepting memory.old kept.now ask.now) }
+    ensures after { IfOk result (λ _.
+        memory.new ≡ contested_in memory.old kept.now ask.now (after_partial memory.old ask.now)) }
     ensures pattern { IfOk result (λ _. due.new ≡ pattern memory.old ask.now) }
     ensures unchanged { OnErr result (memory.new ≡ memory.old) }
     ensures due_unchanged { OnErr result (due.new ≡ due.old) }
@@ -84,7 +89,8 @@ fn serve_near(
     due: &mut Pattern,
 ) -> Result<(), AllocError>
     requires takes { takes_bytes memory.old ask.now ≡ true }
-    ensures after { IfOk result (λ _. memory.new ≡ memory_accepting memory.old kept.now ask.now) }
+    ensures after { IfOk result (λ _.
+        memory.new ≡ contested_in memory.old kept.now ask.now (after_partial memory.old ask.now)) }
     ensures pattern { IfOk result (λ _. due.new ≡ pattern memory.old ask.now) }
     ensures unchanged { OnErr result (memory.new ≡ memory.old) }
     ensures due_unchanged { OnErr result (due.new ≡ due.old) }
@@ -96,8 +102,9 @@ fn serve_near(
     memory.serve_and_forget(alloc, ask, first, &flags, due)
 }
 
-/// Serves a request beside those kept: the memory is the one after it, without the bytes that are contested, and what is
-/// expected of it stands in the place of another pattern. If there is no memory for a page, nothing is changed.
+/// Serves a request, none of whose beats was corrupt, beside those kept: the memory is the one after it, without the bytes
+/// that are contested, and what is expected of it stands in the place of another pattern. If there is no memory for a page,
+/// nothing is changed.
 fn serve_contested(
     alloc: Global,
     memory: &mut PartialMemory,
@@ -105,7 +112,8 @@ fn serve_contested(
     ask: &Ask,
     due: &mut Pattern,
 ) -> Result<(), AllocError>
-    ensures after { IfOk result (λ _. memory.new ≡ memory_accepting memory.old kept.now ask.now) }
+    ensures after { IfOk result (λ _.
+        memory.new ≡ contested_in memory.old kept.now ask.now (after_partial memory.old ask.now)) }
     ensures pattern { IfOk result (λ _. due.new ≡ pattern memory.old ask.now) }
     ensures unchanged { OnErr result (memory.new ≡ memory.old) }
     ensures due_unchanged { OnErr result (due.new ≡ due.old) }
@@ -121,20 +129,74 @@ fn serve_contested(
     }
 }
 
-/// Serves a request beside those kept, as `serve_contested` does, and makes each byte of what is due unknown that one of
-/// those kept may write.
-fn serve_beside(
+/// Makes unknown what a legal request that carries bytes, a beat of which was corrupt, may write beside those kept, and what is
+/// contested. If there is no memory for a page, nothing is changed.
+fn forget_corrupt(
+    alloc: Global,
+    memory: &mut PartialMemory,
+    kept: &[Accepted],
+    ask: &Ask,
+) -> Result<(), AllocError>
+    requires takes { takes_bytes memory.old ask.now ≡ true }
+    ensures after { OnOk result (memory.new
+        ≡ contested_in memory.old kept.now ask.now (memory_cut memory.old ask.now)) }
+    ensures unchanged { OnErr result (memory.new ≡ memory.old) }
+{
+    let here = Placed::of(memory, ask);
+    let first = near(here.address());
+    let _in_limit = here.width();
+    let mut flags = [false; NEAR_BYTES];
+    mark_all(memory, kept, ask, first, &mut flags);
+    mark_own(&here, first, &mut flags);
+    memory.forget(alloc, first, &flags)
+}
+
+/// Serves a corrupt request beside those kept: the bytes that it may write are unknown, and those that are contested. What is
+/// expected of it stands in the place of another pattern. If there is no memory for a page, nothing is changed.
+// apart, since few requests are corrupt: it makes room for an answer of its own
+#[inline(never)]
+fn serve_corrupt(
     alloc: Global,
     memory: &mut PartialMemory,
     kept: &[Accepted],
     ask: &Ask,
     due: &mut Pattern,
 ) -> Result<(), AllocError>
-    ensures after { IfOk result (λ _. memory.new ≡ memory_accepting memory.old kept.now ask.now) }
-    ensures due { IfOk result (λ _. due.new ≡ due_of (Slave.Memory memory.old) kept.now ask.now) }
+    ensures after { IfOk result (λ _.
+        memory.new ≡ contested_in memory.old kept.now ask.now (memory_cut memory.old ask.now)) }
+    ensures pattern { IfOk result (λ _. due.new ≡ unsure (pattern memory.old ask.now)) }
+    ensures unchanged { OnErr result (memory.new ≡ memory.old) }
+    ensures due_unchanged { OnErr result (due.new ≡ due.old) }
+{
+    let mut expected = Pattern::blank();
+    memory.answer(ask, &mut expected);
+    expected.doubt();
+    if ask.op().carries_bytes() && memory.permits(ask) {
+        forget_corrupt(alloc, memory, kept, ask)?;
+    }
+    due.refill_from(&expected);
+    Ok(())
+}
+
+/// Serves a request beside those kept, as `serve_contested` and `serve_corrupt` do, and makes each byte of what is due unknown
+/// that one of those kept may write.
+fn serve_beside(
+    alloc: Global,
+    memory: &mut PartialMemory,
+    kept: &[Accepted],
+    sent: &Sent,
+    due: &mut Pattern,
+) -> Result<(), AllocError>
+    ensures after { IfOk result (λ _. memory.new ≡ memory_accepting memory.old kept.now sent.now) }
+    ensures due { IfOk result (λ _. due.new ≡ due_of (Slave.Memory memory.old) kept.now sent.now) }
     ensures unchanged { OnErr result (memory.new ≡ memory.old) }
 {
-    serve_contested(alloc, memory, kept, ask, due)?;
+    let ask = sent.ask();
+    if sent.is_corrupt() {
+        serve_corrupt(alloc, memory, kept, ask, due)?;
+    } else {
+        serve_contested(alloc, memory, kept, ask, due)?;
+    }
     hide_each(memory, kept, ask, due);
     Ok(())
 }
@@ -144,23 +206,20 @@ fn serve(
     alloc: Global,
     slave: &mut Slave,
     kept: &[Accepted],
-    ask: &Ask,
+    sent: &Sent,
     due: &mut Pattern,
 ) -> Result<(), AllocError>
-    ensures after { IfOk result (λ _. slave.new ≡ slave_accepting slave.old kept.now ask.now) }
-    ensures due { IfOk result (λ _. due.new ≡ due_of slave.old kept.now ask.now) }
+    ensures after { IfOk result (λ _. slave.new ≡ slave_accepting slave.old kept.now sent.now) }
+    ensures due { IfOk result (λ _. due.new ≡ due_of slave.old kept.now sent.now) }
     ensures unchanged { OnErr result (slave.new ≡ slave.old) }
 {
+    if kept.is_empty() {
+        return serve_sent(alloc, slave, sent, due);
+    }
     match slave {
-        Slave::Memory(memory) => {
-            if kept.is_empty() {
-                memory.serve_into(alloc, ask, due)
-            } else {
-                serve_beside(alloc, memory, kept, ask, due)
-            }
-        }
+        Slave::Memory(memory) => serve_beside(alloc, memory, kept, sent, due),
         Slave::Device => {
-            due.expect_any(ask);
+            due.expect_any(sent.ask());
             Ok(())
         }
     }
@@ -211,16 +270,17 @@ impl Contests {
         slave: &mut Slave,
         wide: usize,
         index: usize,
-        ask: &Ask,
+        sent: &Sent,
     ) -> Result<(), AllocError>
-        ensures kept { OnOk result (self.new ≡ kept_accepting slave.old self.old wide index ask.now) }
-        ensures slave { OnOk result (slave.new ≡ slave_accepting slave.old self.old ask.now) }
+        ensures kept { OnOk result (self.new ≡ kept_accepting slave.old self.old wide index sent.now) }
+        ensures slave { OnOk result (slave.new ≡ slave_accepting slave.old self.old sent.now) }
         ensures unchanged { OnErr result (self.new ≡ self.old) }
         ensures slave_unchanged { OnErr result (slave.new ≡ slave.old) }
     {
         self.kept.reserve(1)?;
         let mut due = Pattern::blank();
-        serve(alloc, slave, self.kept.as_slice(), ask, &mut due)?;
+        serve(alloc, slave, self.kept.as_slice(), sent, &mut due)?;
+        let ask = sent.ask();
         hide_new(slave, self.kept.as_mut_slice(), ask);
         self.kept.push_reserved(Accepted {
             wide,

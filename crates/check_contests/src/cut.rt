@@ -1,5 +1,7 @@
 //! Requests that a reset cuts short.
 ghost use Rattle.std.specs.Prelude.{◌≡◌, ℕ, ◌+◌, ◌^◌, ◌<◌, length, slice_index_or, true, false, OnOk, OnErr};
+ghost use Rattle.check_memory.specs.Partial.{takes_bytes};
+ghost use Rattle.check_memory.specs.Slave.{slave_takes_bytes};
 ghost use Rattle.check_contests.specs.Writes.{writes};
 ghost use Rattle.check_contests.specs.Cut.{memory_cut, slave_cut};
 
@@ -37,9 +39,10 @@ fn mark_written(ask: &AskSoFar, flags: &mut [bool])
 /// Makes the bytes of a memory unknown that a request may write which was cut short.
 fn cut_memory(alloc: Global, memory: &mut PartialMemory, ask: &AskSoFar) -> Result<(), AllocError>
     ensures cut { OnOk result (memory.new ≡ memory_cut memory.old ask.now) }
+    ensures takes { OnErr result (takes_bytes memory.old ask.now ≡ true) }
     ensures unchanged { OnErr result (memory.new ≡ memory.old) }
 {
-    if !memory.permits_so_far(ask) {
+    if !ask.op().carries_bytes() || !memory.permits_so_far(ask) {
         return Ok(());
     }
     let mut flags = [false; MAX_BYTES];
@@ -52,6 +55,7 @@ fn cut_memory(alloc: Global, memory: &mut PartialMemory, ask: &AskSoFar) -> Resu
 /// in part. If there is no memory for a page, nothing is changed.
 pub fn cut_short(alloc: Global, slave: &mut Slave, ask: &AskSoFar) -> Result<(), AllocError>
     ensures cut { OnOk result (slave.new ≡ slave_cut slave.old ask.now) }
+    ensures takes { OnErr result (slave_takes_bytes slave.old ask.now ≡ true) }
     ensures unchanged { OnErr result (slave.new ≡ slave.old) }
 {
     match slave {

@@ -52,6 +52,21 @@ fn mark_shared(ask: &Placed, other: &Placed, first: u64, flags: &mut [bool]) -> 
     met
 }
 
+/// Flags the bytes that a request writes.
+pub fn mark_own(ask: &Placed, first: u64, flags: &mut [bool])
+    requires { LiesIn ask.now first (length flags.old) }
+    ensures flags { (k : ℕ) → k < length flags.old → slice_index_or flags.new k false
+        ≡ (slice_index_or flags.old k false || writes ask.now.op ask.now (first + k)) }
+    ensures len { length flags.new ≡ length flags.old }
+{
+    let start = (ask.address() - first) as usize;
+    for place in 0..ask.width() {
+        if writes_at(ask, place) {
+            flags[start + place] = true;
+        }
+    }
+}
+
 /// Whether a legal request may meet another one. If so, both have a byte in common.
 fn may_meet(memory: &PartialMemory, ask: &Ask, other: &Ask) -> bool
     ensures met { meets memory.now ask.now other.now ≡ true → IsTrue result }

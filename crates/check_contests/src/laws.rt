@@ -1,5 +1,5 @@
 //! Laws about the definitions, each on a function that does nothing but carry it.
-ghost use Rattle.check_contests.specs.Laws.{ResetIsBelow, AcceptingKeeps, TakingEffectKeeps, AnsweringKeeps, AnswerIsDue, FitsThrough, AnyOrderIsBelow, UncontestedIsAsServed, DeniedIsAsServed, DeviceIsAsServed};
+ghost use Rattle.check_contests.specs.Laws.{ResetIsBelow, AcceptingKeeps, TakingEffectKeeps, AnsweringKeeps, AnswerIsDue, FitsThrough, AnyOrderIsBelow, UncontestedIsAsServed, DeniedIsAsServed, DeviceIsAsServed, CorruptIsSound};
 
 /// At reset, what is kept says no more than the truth.
 pub fn reset_is_below()
@@ -30,4 +30,10 @@ pub fn uncontested_is_as_served()
     ensures uncontested { UncontestedIsAsServed }
     ensures denied { DeniedIsAsServed }
     ensures device { DeviceIsAsServed }
+{}
+
+/// Whatever a corrupt request writes in place of the bytes that it may write, and whether it is denied or not, what is seen
+/// stays true, and the reply fits.
+pub fn corrupt_is_sound()
+    ensures { CorruptIsSound }
 {}

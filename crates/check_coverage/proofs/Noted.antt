@@ -6,6 +6,7 @@ use Rattle.std.specs.declared.cmp.Ordering.TheVariants.{Less, Equal, Greater}
 use Rattle.std.proofs.lemmas.Bool.{cases_lt, le-ltb, lt-ltb, ne_eqb}
 use Rattle.std.specs.BTreeMap.{Updates, get}
 use Rattle.std.specs.Global.{Global}
+use Rattle.check_beats.specs.Message.{is_spoiled}
 use Rattle.check_beats.specs.declared.beat.AskHead.{AskHead}
 use Rattle.check_beats.specs.declared.beat.ReplyHead.{ReplyHead}
 use Rattle.check_watch.specs.declared.beat.Beat.{Beat}
@@ -14,7 +15,7 @@ use Rattle.check_watch.specs.declared.seen.Ended.{Ended}
 use Rattle.check_sides.specs.Plan.{Plan}
 use Rattle.check_coverage.specs.declared.coverage.Coverage.{Coverage}
 use Rattle.check_coverage.specs.declared.flight.CountedFlight.{CountedFlight}
-use Rattle.check_coverage.specs.Bins.{after_bins, bins_by, end_bins, first_bins, gap_bins, last_bins, of_found, reply_times_bins}
+use Rattle.check_coverage.specs.Bins.{after_bins, ask_part_bins, bins_by, end_bins, first_bins, last_bins, of_found, reply_part_bins}
 use Rattle.check_coverage.specs.Flights.{InFlight, flights_after, is_of, ends_a_reply, ends_an_ask, kept, with_beat, with_begun}
 use Rattle.check_bins.specs.Counting.{Adds}
 use Rattle.check_coverage.specs.View.{CountsBeat, IsNoted, times_in}
@@ -22,7 +23,6 @@ use Rattle.check_coverage.specs.Latest.{is_last_ask, latest_by, latest_of}
 use Rattle.check_coverage.specs.Times.{no_times, times_after}
 use Rattle.check_coverage.specs.declared.times.Times.{Times}
 use Rattle.check_bins.specs.declared.bin.Bin.{Bin}
-use Rattle.check_bins.specs.declared.bin.CountedChannel.TheVariants as channel
 use Rattle.check_bins.proofs.Counted.{adds_then}
 use Rattle.check_coverage.proofs.Places.{filter_kept}
 
@@ -55,24 +55,24 @@ module _ (plan : Plan) (bus wide time : ℕ) (times : Times) (beat : AskHead) (e
       → new.mirrors ≡ ended.mirrors → new.times ≡ ended.times → new.latest ≡ ended.latest → new.flights ≡ ended.flights
       → ((after : List InFlight) → ended.flights.items ≡ map kept after
       → OnOk r (Adds ended.counts new.counts
-      (of_found (find (is_of wide) after) (gap_bins plan.layout.rules channel.A time times.asked))))
+      (of_found (find (is_of wide) after) (ask_part_bins plan.layout.rules time times.asked beat.corrupt))))
       → OnOk r (CountsBeat plan bus wide time times (A beat) end old new)
   ask_counted (Err fault) ended_mirrors ended_times ended_latest ended_flights last new_mirrors new_times new_latest new_flights
-      gap = tt
+      part = tt
   ask_counted (Ok done) ended_mirrors ended_times ended_latest ended_flights last new_mirrors new_times new_latest new_flights
-      gap = record {
+      part = record {
         mirrors = new_mirrors ∙ ended_mirrors ∙ mirrors;
         times_stay = new_times ∙ ended_times ∙ same_times;
         latest_stays = new_latest ∙ ended_latest ∙ same_latest;
         flights = λ before is. ap (λ v. v.items) (new_flights ∙ ended_flights) ∙ after_grown before is;
         counts = λ before is.
             let after = flights_after plan bus wide before (A beat) end in
-            let gaps : List Bin =
-            of_found (find (is_of wide) after) (gap_bins plan.layout.rules channel.A time times.asked) in
+            let parts : List Bin =
+            of_found (find (is_of wide) after) (ask_part_bins plan.layout.rules time times.asked beat.corrupt) in
             adds_then old.counts mid.counts new.counts (first_bins plan wide before time times.answered beat)
-            (last_bins plan bus wide after beat end ++ gaps) (counts before is)
-            (adds_then mid.counts ended.counts new.counts (last_bins plan bus wide after beat end) gaps
-            (last after (after_grown before is)) (gap after (ap (λ v. v.items) ended_flights ∙ after_grown before is)));
+            (last_bins plan bus wide after beat end ++ parts) (counts before is)
+            (adds_then mid.counts ended.counts new.counts (last_bins plan bus wide after beat end) parts
+            (last after (after_grown before is)) (part after (ap (λ v. v.items) ended_flights ∙ after_grown before is)));
       }
 
 -- ---- a beat of a reply: if it is the last one, its request is answered and is no more in flight
@@ -94,7 +94,7 @@ pub reply_counted : (plan : Plan) (bus wide time : ℕ) (times : Times) (beat : 
     → ended.mirrors ≡ mid.mirrors → ended.times ≡ mid.times → ended.latest ≡ mid.latest → ended.flights ≡ mid.flights
     → ((before : List InFlight) → mid.flights.items ≡ map kept before
     → Adds mid.counts ended.counts
-    (of_found (find (is_of wide) before) (reply_times_bins plan.layout.rules time times)))
+    (of_found (find (is_of wide) before) (reply_part_bins plan.layout.rules time times (is_spoiled beat))))
     → left.items ≡ (if ends_a_reply end
     then filter (λ (flight : CountedFlight). not (flight.wide == wide)) ended.flights.items else ended.flights.items)
     → CountsBeat plan bus wide time times (D beat) end old (record ended { flights = left })
@@ -109,7 +109,7 @@ reply_counted plan bus wide time times beat end old mid ended left mid_mirrors m
           ∙ (λ i. if ends_a_reply end then filter (λ (flight : CountedFlight). not (flight.wide == wide)) (now i) else now i)
           ∙ left_by wide before (ends_a_reply end);
       counts = λ before is. adds_then old.counts mid.counts ended.counts (end_bins bus wide before beat end)
-          (of_found (find (is_of wide) before) (reply_times_bins plan.layout.rules time times)) (answers before is)
+          (of_found (find (is_of wide) before) (reply_part_bins plan.layout.rules time times (is_spoiled beat))) (answers before is)
           (counts before (ap (λ v. v.items) mid_flights ∙ is));
     }
 

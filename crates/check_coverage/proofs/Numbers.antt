@@ -4,6 +4,7 @@ use Rattle.std.specs.Prelude.{◌==◌, nat_lt, find, is_some}
 use Rattle.std.specs.List.{AllByRecursion, list_any}
 use Rattle.check_beats.specs.Rules.{clocks_in}
 use Rattle.check_beats.specs.declared.rules.LinkRules.{LinkRules}
+use Rattle.check_beats.specs.Message.{is_spoiled}
 use Rattle.check_beats.specs.declared.beat.AskHead.{AskHead}
 use Rattle.check_beats.specs.declared.beat.ReplyHead.{ReplyHead}
 use Rattle.check_watch.specs.declared.beat.Beat.{Beat}
@@ -13,7 +14,7 @@ use Rattle.check_sides.specs.Plan.{Plan, bus_of}
 use Rattle.check_rows.specs.Row.{SeenRow}
 use Rattle.check_bins.specs.declared.bin.Bin.{Bin}
 use Rattle.check_bins.specs.declared.bin.Bin.TheVariants as bin
-use Rattle.check_coverage.specs.Bins.{IsUpTo64, access_of, after_bins, after_by, again, ask_bins, begin_bins, bins, bins_by, bins_of, cause_of, contested_bins, contests, end_bins, first_bins, gap_bins, is_rival, lane_bins, last_bins, latency_bins, mask_bins, of_found, older, overlap, bin_pair, overtook_at, overtook_bins, place_bins, refused_bins, reply_bins, reply_times_bins, step_of, told_source, with_one}
+use Rattle.check_coverage.specs.Bins.{IsUpTo64, access_of, after_bins, after_by, again, ask_bins, ask_part_bins, begin_bins, bins, bins_by, bins_of, cause_of, contested_bins, contests, corrupt_bins, end_bins, first_bins, gap_bins, is_rival, lane_bins, last_bins, latency_bins, mask_bins, of_found, older, overlap, bin_pair, operation_of, overtook_at, overtook_bins, place_bins, refused_bins, reply_bins, reply_part_bins, reply_times_bins, step_of, told_source, with_one}
 use Rattle.check_coverage.specs.Flights.{InFlight, begun, end_of, flights_after, in_flight, is_counted, is_of, ends_an_ask, ends_a_reply, wide_at}
 use Rattle.check_coverage.specs.Latest.{is_last_ask, latest_at}
 use Rattle.check_coverage.specs.Times.{times_at}
@@ -126,20 +127,25 @@ latency_up rules time times flight = go (is_some times.replied)
     go true = tt
     go false = (tt, tt)
 
+corrupt_up : (is_corrupt is_reply : Bool) (flight : InFlight) → AllUpTo64 (corrupt_bins is_corrupt is_reply flight)
+corrupt_up is_corrupt is_reply flight =
+    if_up is_corrupt (bin.Corrupt (bin_pair flight) (operation_of flight) is_reply) tt
+
 module _ (plan : Plan) (bus wide : ℕ) (flights : List InFlight) (time : ℕ) (times : Times) (end : Ended) where
   beat_up : (beat : Beat) → AllUpTo64 (bins_by plan bus wide flights time times beat end)
   beat_up (A beat) =
-      both (first_bins plan wide flights time times.answered beat) (last_bins plan bus wide after beat end ++ gaps)
+      both (first_bins plan wide flights time times.answered beat) (last_bins plan bus wide after beat end ++ parts)
       (first (list_any (is_of wide) flights))
-      (both (last_bins plan bus wide after beat end) gaps (last (ends_an_ask end))
-      (found_up (find (is_of wide) after) (gap_bins plan.layout.rules channel.A time times.asked)
-      (gap_up plan.layout.rules channel.A time times.asked)))
+      (both (last_bins plan bus wide after beat end) parts (last (ends_an_ask end))
+      (found_up (find (is_of wide) after) (ask_part_bins plan.layout.rules time times.asked beat.corrupt)
+      (λ flight. both (gap_bins plan.layout.rules channel.A time times.asked flight) (corrupt_bins beat.corrupt false flight)
+      (gap_up plan.layout.rules channel.A time times.asked flight) (corrupt_up beat.corrupt false flight))))
     where
       after : List InFlight
       after = flights_after plan bus wide flights (A beat) end
 
-      gaps : List Bin
-      gaps = of_found (find (is_of wide) after) (gap_bins plan.layout.rules channel.A time times.asked)
+      parts : List Bin
+      parts = of_found (find (is_of wide) after) (ask_part_bins plan.layout.rules time times.asked beat.corrupt)
 
       first : (b : Bool)
           → AllUpTo64 (if b then [] else begin_bins plan.layout.rules flights (begun plan wide beat) time times.answered)
@@ -151,11 +157,13 @@ module _ (plan : Plan) (bus wide : ℕ) (flights : List InFlight) (time : ℕ) (
       last false = tt
   beat_up (D beat) =
       both (end_bins bus wide flights beat end)
-      (of_found (find (is_of wide) flights) (reply_times_bins plan.layout.rules time times)) (go (ends_a_reply end))
-      (found_up (find (is_of wide) flights) (reply_times_bins plan.layout.rules time times)
-      (λ flight. both (latency_bins plan.layout.rules time times flight)
+      (of_found (find (is_of wide) flights) (reply_part_bins plan.layout.rules time times (is_spoiled beat)))
+      (go (ends_a_reply end))
+      (found_up (find (is_of wide) flights) (reply_part_bins plan.layout.rules time times (is_spoiled beat))
+      (λ flight. both (reply_times_bins plan.layout.rules time times flight) (corrupt_bins (is_spoiled beat) true flight)
+      (both (latency_bins plan.layout.rules time times flight)
       (gap_bins plan.layout.rules channel.D time times.replied flight) (latency_up plan.layout.rules time times flight)
-      (gap_up plan.layout.rules channel.D time times.replied flight)))
+      (gap_up plan.layout.rules channel.D time times.replied flight)) (corrupt_up (is_spoiled beat) true flight)))
     where
       go : (b : Bool) → AllUpTo64 (if b then of_found (find (is_of wide) flights) (reply_bins bus flights beat) else [])
       go true = found_up (find (is_of wide) flights) (reply_bins bus flights beat) (reply_up bus flights beat)

@@ -4,12 +4,13 @@ ghost use Rattle.std.specs.Ordering.{nat_cmp};
 ghost use Rattle.std.specs.BTreeMap.{get};
 ghost use Rattle.tl_text.specs.Text.{BeginsWith};
 ghost use Rattle.check_beats.specs.Bus.{beat_count_on_bus, bus_bytes};
+ghost use Rattle.check_beats.specs.Message.{is_spoiled};
 ghost use Rattle.tl_map.specs.Owner.{IsWideSource};
 ghost use Rattle.check_rows.specs.Row.{SeenRow, beats_of, row_with};
 ghost use Rattle.check_sides.specs.Plan.{HasLink, Plan};
 ghost use Rattle.check_sides.specs.View.{Keeps, Suits};
 ghost use Rattle.check_watch.specs.declared.beat.Beat.TheVariants.{A, D};
-ghost use Rattle.check_coverage.specs.Bins.{after_bins, after_by, ask_bins, begin_bins, bins, contested_bins, end_bins, first_bins, gap_bins, lane_bins, last_bins, mask_bins, of_found, overtook_at, place_bins, reply_bins, reply_times_bins, told_source, with_one};
+ghost use Rattle.check_coverage.specs.Bins.{after_bins, after_by, ask_bins, ask_part_bins, begin_bins, bins, contested_bins, end_bins, first_bins, lane_bins, last_bins, mask_bins, of_found, overtook_at, place_bins, reply_bins, reply_part_bins, told_source, with_one};
 ghost use Rattle.check_coverage.specs.Flights.{HasSize, InFlight, begun, end_of, is_found, is_counted, is_of, kept, master_of, own_source, with_begun};
 ghost use Rattle.check_coverage.specs.Latest.{latest_by};
 ghost use Rattle.check_coverage.specs.Mirrors.{HasMirrors, HaveSameMirrors, mirrors_at};
@@ -18,7 +19,6 @@ ghost use Rattle.check_bins.specs.Text.{TellsCoverage};
 ghost use Rattle.check_bins.specs.Counting.{Adds};
 ghost use Rattle.check_coverage.specs.View.{Covers, CountsBeat, IsNoted, times_in};
 ghost use Rattle.check_bins.specs.declared.bin.Bin.{Bin as IsBin};
-ghost use Rattle.check_bins.specs.declared.bin.CountedChannel.TheVariants as channel;
 
 use crate::flight::CountedFlight;
 use crate::latest::{count_after, is_last_ask};
@@ -27,9 +27,10 @@ use crate::lists::{
 };
 use crate::marks::Marks;
 use crate::mirrors::Mirrors;
+use crate::parts::{count_ask_part, count_reply_part};
 use crate::ranges::{RangePlace, place_in};
 use crate::times::{Times, ends_a_reply, ends_an_ask};
-use crate::waits::{count_again, count_gap, count_reply_times};
+use crate::waits::count_again;
 use check_beats::{AskHead, Bus, LinkRules, ReplyHead, beat_count_on_bus};
 use check_bins::{Bin, CountedChannel, Counts};
 use check_rows::Row;
@@ -277,6 +278,13 @@ fn count_ask(
     count_lane(counts, flight, bus)
 }
 
+/// Whether a beat of a reply has corrupt data; those of denied replies don't count.
+fn is_spoiled(beat: &ReplyHead) -> bool
+    ensures { result ≡ is_spoiled beat.now }
+{
+    beat.corrupt && !beat.denied
+}
+
 /// Counts a reply that overtakes an older one of the same master: of another port, if that is asked, else of the same.
 fn count_overtaken(
     counts: &mut Counts,
@@ -402,13 +410,14 @@ impl Coverage {
         }
     }
 
-    /// Counts a beat of a request that is in flight, if one of the same request came before.
-    fn ask_gap(
+    /// Counts a beat of a request that is in flight. One of the same request came before at that time, if one did.
+    fn ask_part(
         &mut self,
         rules: LinkRules,
         wide: u16,
         time: u64,
         before: Option<u64>,
+        is_corrupt: bool,
     ) -> Result<(), AllocError>
         ensures mirrors { self.new.mirrors ≡ self.old.mirrors }
         ensures times { self.new.times ≡ self.old.times }
@@ -416,15 +425,15 @@ impl Coverage {
         ensures flights { self.new.flights ≡ self.old.flights }
         ensures counts { (after : List InFlight) → self.old.flights.items ≡ map kept after
             → OnOk result (Adds self.old.counts self.new.counts
-            (of_found (find (is_of wide) after) (gap_bins rules channel.A time before))) }
+            (of_found (find (is_of wide) after) (ask_part_bins rules time before is_corrupt))) }
     {
         match find_of(&self.flights, wide) {
-            Some(flight) => count_gap(
+            Some(flight) => count_ask_part(
                 &mut self.counts,
                 rules,
-                CountedChannel::A,
                 time,
                 before,
+                is_corrupt,
                 &flight,
             ),
             None => Ok(()),
@@ -449,7 +458,7 @@ impl Coverage {
         self.begin(watch, wide, time, beat, times.answered)?;
         grow(&mut self.flights, wide, bus, beat, ends_an_ask(end));
         self.end(wide, beat, bus, end)?;
-        self.ask_gap(watch.rules(), wide, time, times.asked)
+        self.ask_part(watch.rules(), wide, time, times.asked, beat.corrupt)
     }
 
     /// Counts the last beat of a reply, if it is that.
@@ -477,13 +486,14 @@ impl Coverage {
         }
     }
 
-    /// Counts a beat of a reply by its time.
-    fn reply_times(
+    /// Counts a beat of a reply to a request that is in flight.
+    fn reply_part(
         &mut self,
         rules: LinkRules,
         wide: u16,
         time: u64,
         times: Times,
+        is_corrupt: bool,
     ) -> Result<(), AllocError>
         ensures mirrors { self.new.mirrors ≡ self.old.mirrors }
         ensures times { self.new.times ≡ self.old.times }
@@ -491,10 +501,12 @@ impl Coverage {
         ensures flights { self.new.flights ≡ self.old.flights }
         ensures counts { (before : List InFlight) → self.old.flights.items ≡ map kept before
             → OnOk result (Adds self.old.counts self.new.counts
-            (of_found (find (is_of wide) before) (reply_times_bins rules time times))) }
+            (of_found (find (is_of wide) before) (reply_part_bins rules time times is_corrupt))) }
     {
         match find_of(&self.flights, wide) {
-            Some(flight) => count_reply_times(&mut self.counts, rules, time, times, &flight),
+            Some(flight) => {
+                count_reply_part(&mut self.counts, rules, time, times, is_corrupt, &flight)
+            }
             None => Ok(()),
         }
     }
@@ -515,7 +527,7 @@ impl Coverage {
             → OnOk result (CountsBeat plan (bus_bytes bus) wide time times (D beat.now) end self.old self.new) }
     {
         self.answer(wide, beat, bus, end)?;
-        self.reply_times(rules, wide, time, times)?;
+        self.reply_part(rules, wide, time, times, is_spoiled(beat))?;
         leave(&mut self.flights, wide, end);
         Ok(())
     }

@@ -21,6 +21,7 @@ pub mod laws;
 mod lists;
 mod marks;
 mod mirrors;
+mod parts;
 mod ranges;
 mod times;
 mod waits;

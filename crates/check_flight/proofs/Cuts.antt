@@ -1,12 +1,11 @@
--- Replies compared cut by cut.
+-- Messages compared cut by cut.
 use Rattle.std.proofs.Common.{◌≡◌, ℕ, zero, suc, ◌+◌, ◌*◌, ◌/◌, ◌<◌, ◌≤◌, ◌⊎◌, inl, inr, Bool, false, true, min, List, [], ◌∷◌, length, Option, None, Some, slice_get, not, eqb, eq-eqb, ap, sym, refl, arith}
-use Rattle.std.specs.Prelude.{slice_index_or}
+use Rattle.std.specs.Prelude.{◌↔◌, IsTrue, slice_index_or}
 use Rattle.std.specs.Option.{option_eq}
 use Rattle.std.proofs.Math.Nat.{div-lt_iff_lt-mul, mul-div-le, lt-mul-div-succ}
 use Rattle.std.proofs.lemmas.Bool.{cases_lt}
 use Rattle.std.proofs.lemmas.Option.{slice_get_past}
-use Rattle.check_cells.specs.Pattern.{Pattern}
-use Rattle.check_flight.specs.Crossing.{AreSameInCut, AreSameParts, IsCutSpoiled, IsSameCut}
+use Rattle.check_flight.specs.Crossing.{MessageBytes, AreSameInCut, AreSameParts, IsCutSpoiled, IsSameCut}
 
 -- ---- which places are in a cut
 
@@ -43,7 +42,7 @@ mark_past (x ∷ marks) zero past = absurd (omega (arith, past))
 mark_past (x ∷ marks) (suc place) past = mark_past marks place (omega (arith, past))
 
 -- no mark is set at the places of a cut
-pub none_spoiled : (width cut : ℕ) (reply : Pattern) → 0 < width
+pub none_spoiled : (width cut : ℕ) (reply : MessageBytes) → 0 < width
     → ((place : ℕ) → place / width ≡ cut → slice_index_or reply.spoiled place false ≡ false)
     → IsCutSpoiled width reply cut → ⊥
 none_spoiled width cut reply some none spoiled =
@@ -78,18 +77,18 @@ same_in_cut width cut end given captured some paired is same place at =
         let right = slice_get_past given place past in cc
 
 -- past the last byte and the last mark of both replies all cuts are the same
-pub record AllWithin (places : ℕ) (reply : Pattern) : Type 0 where
+pub record AllWithin (places : ℕ) (reply : MessageBytes) : Type 0 where
   pub bytes : length reply.bytes ≤ places
   pub marks : length reply.spoiled ≤ places
 
-past_spoiled : (width places cut : ℕ) (reply : Pattern) → 0 < width → AllWithin places reply → places / width < cut
+past_spoiled : (width places cut : ℕ) (reply : MessageBytes) → 0 < width → AllWithin places reply → places / width < cut
     → IsCutSpoiled width reply cut → ⊥
 past_spoiled width places cut reply some within past =
     none_spoiled width cut reply some (λ place at.
     let beyond = past_cut width cut place places some past at in
     mark_past reply.spoiled place (omega (arith, within.marks)))
 
-pub same_past : (width places cut : ℕ) (given captured : Pattern) → 0 < width → AllWithin places given
+pub same_past : (width places cut : ℕ) (given captured : MessageBytes) → 0 < width → AllWithin places given
     → AllWithin places captured → places / width < cut → IsSameCut width given captured cut
 same_past width places cut given captured some all also past = record {
   spoiled = (
@@ -102,7 +101,42 @@ same_past width places cut given captured some all also past = record {
       let right = slice_get_past given.bytes place (omega (arith, all.bytes)) in cc;
 }
 
--- ---- replies with no mark set
+-- ---- a cut, by what was found of it
+
+module _ (width cut : ℕ) (given captured : MessageBytes) (here there same : Bool)
+    (spoiled : IsTrue here ↔ IsCutSpoiled width given cut) (also : IsTrue there ↔ IsCutSpoiled width captured cut) where
+  -- it is spoiled in the first message
+  pub by_other : IsTrue here → IsTrue there ↔ IsSameCut width given captured cut
+  by_other is = (
+    λ yes. record {
+      spoiled = (λ _. also.0 yes, λ _. spoiled.0 is);
+      bytes = λ clean. absurd (clean (spoiled.0 is));
+    },
+    λ alike. also.1 (alike.spoiled.0 (spoiled.0 is)),
+  )
+
+  -- in the second alone
+  pub not_alike : here ≡ false → IsTrue there → IsSameCut width given captured cut → ⊥
+  not_alike isnt is alike = let found : IsTrue here = spoiled.1 (alike.spoiled.1 (also.0 is)) in cc
+
+  -- in neither
+  pub by_bytes : here ≡ false → there ≡ false → (IsTrue same ↔ AreSameInCut width cut given.bytes captured.bytes)
+      → IsTrue same ↔ IsSameCut width given captured cut
+  by_bytes isnt neither bytes = (
+    λ yes. record {
+      spoiled = (λ found. absurd (clean found), λ found. absurd (sound found));
+      bytes = λ none. bytes.0 yes;
+    },
+    λ alike. bytes.1 (alike.bytes clean),
+  )
+    where
+      clean : IsCutSpoiled width given cut → ⊥
+      clean found = let is : IsTrue here = spoiled.1 found in cc
+
+      sound : IsCutSpoiled width captured cut → ⊥
+      sound found = let is : IsTrue there = also.1 found in cc
+
+-- ---- messages with no mark set
 
 pub same_lists : (a b : List (Option ℕ)) → ((place : ℕ) → slice_get b place ≡ slice_get a place) → a ≡ b
 same_lists [] [] same = refl
@@ -112,10 +146,10 @@ same_lists (x ∷ a) (y ∷ b) same =
     let first = same 0 in
     let rest : a ≡ b = same_lists a b (λ place. same (suc place)) in cc
 
-module _ (width : ℕ) (given captured : Pattern)
+module _ (width : ℕ) (given captured : MessageBytes)
     (clean : (place : ℕ) → slice_index_or given.spoiled place false ≡ false)
     (unmarked : (place : ℕ) → slice_index_or captured.spoiled place false ≡ false) where
-  no_cut : (reply : Pattern) → ((place : ℕ) → slice_index_or reply.spoiled place false ≡ false) → (cut : ℕ)
+  no_cut : (reply : MessageBytes) → ((place : ℕ) → slice_index_or reply.spoiled place false ≡ false) → (cut : ℕ)
       → IsCutSpoiled width reply cut → ⊥
   no_cut reply none cut spoiled = let isnt = none spoiled.0 in let is = spoiled.2 in cc
 

@@ -3,3 +3,4 @@ pub mod Fresh
 pub mod Served
 pub mod Same
 pub mod Known
+mod Given

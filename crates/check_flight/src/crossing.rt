@@ -1,14 +1,14 @@
 //! How far requests have come across.
-ghost use Rattle.std.specs.Prelude.{◌≡◌, ◌↔◌, ℕ, ◌*◌, ◌<◌, ◌≤◌, length, IsTrue, IsSomeAnd, option_map};
+ghost use Rattle.std.specs.Prelude.{◌≡◌, ◌↔◌, ℕ, ◌*◌, ◌<◌, ◌≤◌, length, map, is_some, List, Option, IsTrue, IsSomeAnd, option_map};
 ghost use Rattle.check_flight.specs.Crossing.Crossing.{Waiting, Crossed, Given};
-ghost use Rattle.check_flight.specs.Crossing.{given, AreSameInCut, AreSameParts, IsCutSpoiled, IsSameCut, IsSameReply};
+ghost use Rattle.check_flight.specs.Crossing.{given, reply_bytes, request_bytes, AreSameInCut, AreSameParts, IsCutSpoiled, IsSameCut, IsSameReply, IsSameSent};
 
 use crate::answer::Answer;
 use check_beats::MAX_LANES;
-use check_cells::{Cells, Pattern};
+use check_cells::{Cells, Marks, Pattern, Sent};
 use std::alloc::AllocError;
 use std::marker::Model;
-use tl_types::MAX_BYTES;
+use tl_types::{Bytes, MAX_BYTES};
 
 /// How far a request has come.
 #[derive(Debug, Clone, Copy, PartialEq, Eq)]
@@ -58,14 +58,15 @@ fn are_same_bytes(given: &Cells, captured: &Cells) -> bool
 }
 
 /// Whether a cut of so many bytes is spoiled: a byte of it is.
-fn is_cut_spoiled(reply: &Pattern, width: usize, cut: usize) -> bool
+fn is_cut_spoiled(marks: &Marks, width: usize, cut: usize) -> bool
     requires some { 0 < width }
     requires in_limit { width ≤ MAX_LANES }
     requires room { width * cut ≤ MAX_BYTES }
-    ensures { IsTrue result ↔ IsCutSpoiled width reply.now cut }
+    ensures { (bytes : List (Option ℕ)) → IsTrue result
+        ↔ IsCutSpoiled width (record { bytes = bytes; spoiled = marks.now }) cut }
 {
     for place in width * cut..width * cut + width {
-        if reply.marks().get(place) {
+        if marks.get(place) {
             return true;
         }
     }
@@ -88,32 +89,47 @@ fn are_same_in_cut(given: &Cells, captured: &Cells, width: usize, cut: usize) ->
     true
 }
 
-/// Whether two replies are the same in a cut: it is spoiled in both, or in neither and its bytes are known alike.
-fn is_same_cut(given: &Pattern, captured: &Pattern, width: usize, cut: usize) -> bool
+/// The bytes of a captured message, and which of them are spoiled.
+#[derive(Drop)]
+struct PartsOf<'a> {
+    cells: &'a Cells,
+    marks: &'a Marks,
+}
+
+impl<'a> Model for PartsOf<'a> {
+    ghost use Rattle.check_flight.specs.Crossing.{MessageBytes};
+
+    ghost Value = { MessageBytes };
+
+    ghost view = { λ p. record { bytes = p.cells.now; spoiled = p.marks.now } };
+}
+
+/// Whether two messages are the same in a cut: it is spoiled in both, or in neither and its bytes are known alike.
+fn is_same_cut(given: &PartsOf, captured: &PartsOf, width: usize, cut: usize) -> bool
     requires some { 0 < width }
     requires in_limit { width ≤ MAX_LANES }
     requires room { width * cut ≤ MAX_BYTES }
     requires paired { length captured.now.bytes ≡ length given.now.bytes }
     ensures { IsTrue result ↔ IsSameCut width given.now captured.now cut }
 {
-    if is_cut_spoiled(given, width, cut) {
-        return is_cut_spoiled(captured, width, cut);
+    if is_cut_spoiled(given.marks, width, cut) {
+        return is_cut_spoiled(captured.marks, width, cut);
     }
-    !is_cut_spoiled(captured, width, cut)
-        && are_same_in_cut(given.cells(), captured.cells(), width, cut)
+    !is_cut_spoiled(captured.marks, width, cut)
+        && are_same_in_cut(given.cells, captured.cells, width, cut)
 }
 
-/// Whether two replies are the same in each cut.
-// apart from `is_same_reply`, since few replies have a spoiled byte
+/// Whether two messages are the same in each cut.
+// apart, since few messages have a spoiled byte
 #[inline(never)]
-fn are_same_cuts(given: &Pattern, captured: &Pattern, width: usize) -> bool
+fn are_same_cuts(given: &PartsOf, captured: &PartsOf, width: usize) -> bool
     requires some { 0 < width }
     requires in_limit { width ≤ MAX_LANES }
     requires paired { length captured.now.bytes ≡ length given.now.bytes }
     ensures { IsTrue result ↔ ((cut : ℕ) → IsSameCut width given.now captured.now cut) }
 {
-    let marks = given.marks().len().max(captured.marks().len());
-    let places = given.cells().len().max(marks);
+    let marks = given.marks.len().max(captured.marks.len());
+    let places = given.cells.len().max(marks);
     for cut in 0..places / width + 1 {
         if !is_same_cut(given, captured, width, cut) {
             return false;
@@ -122,16 +138,26 @@ fn are_same_cuts(given: &Pattern, captured: &Pattern, width: usize) -> bool
     true
 }
 
-/// Whether the bytes of two replies are the same, in cuts of so many.
-fn are_same_parts(given: &Pattern, captured: &Pattern, width: usize) -> bool
+/// Whether the bytes of two messages are the same, in cuts of so many.
+fn are_same_parts(given: &PartsOf, captured: &PartsOf, width: usize) -> bool
     requires some { 0 < width }
     requires in_limit { width ≤ MAX_LANES }
     ensures { IsTrue result ↔ AreSameParts width given.now captured.now }
 {
-    if !given.marks().is_any() && !captured.marks().is_any() {
-        return are_same_bytes(given.cells(), captured.cells());
+    if !given.marks.is_any() && !captured.marks.is_any() {
+        return are_same_bytes(given.cells, captured.cells);
     }
-    given.cells().len() == captured.cells().len() && are_same_cuts(given, captured, width)
+    given.cells.len() == captured.cells.len() && are_same_cuts(given, captured, width)
+}
+
+/// The bytes of a captured reply, and which of them are spoiled.
+fn reply_bytes(reply: &Pattern) -> PartsOf
+    ensures { result ≡ reply_bytes reply.now }
+{
+    PartsOf {
+        cells: reply.cells(),
+        marks: reply.marks(),
+    }
 }
 
 /// Whether two captured replies are the same but for their sources, in cuts of so many bytes.
@@ -143,7 +169,94 @@ fn is_same_reply(given: &Pattern, captured: &Pattern, width: usize) -> bool
     given.op() == captured.op()
         && given.size() == captured.size()
         && given.denied() == captured.denied()
-        && are_same_parts(given, captured, width)
+        && are_same_parts(&reply_bytes(given), &reply_bytes(captured), width)
+}
+
+/// The bytes of a request, unknown where none is given.
+fn cells_of(bytes: &Bytes) -> Cells
+    ensures { result ≡ bytes.now }
+{
+    let mut cells = Cells::new();
+    for place in 0..bytes.len() {
+        cells.push(bytes.get(place));
+    }
+    cells
+}
+
+/// Whether a byte is given in both, or in neither.
+fn is_given_alike(one: Option<u8>, other: Option<u8>) -> bool
+    ensures { IsTrue result ↔ (is_some one ≡ is_some other) }
+{
+    match (one, other) {
+        (Some(_), Some(_)) | (None, None) => true,
+        (Some(_), None) | (None, Some(_)) => false,
+    }
+}
+
+/// Whether the same bytes are given.
+fn are_given_alike(sent: &Bytes, seen: &Bytes) -> bool
+    ensures { IsTrue result ↔ (map (λ byte. is_some byte) seen.now ≡ map (λ byte. is_some byte) sent.now) }
+{
+    if sent.len() != seen.len() {
+        return false;
+    }
+    for place in 0..sent.len() {
+        if !is_given_alike(sent.get(place), seen.get(place)) {
+            return false;
+        }
+    }
+    true
+}
+
+/// Whether the bytes of two requests are the same, in cuts of so many.
+// apart, since few requests have a spoiled byte
+#[inline(never)]
+fn are_sent_in_cuts(sent: &Sent, seen: &Sent, width: usize) -> bool
+    requires some { 0 < width }
+    requires in_limit { width ≤ MAX_LANES }
+    ensures { IsTrue result ↔ ((map (λ byte. is_some byte) seen.now.ask.bytes
+        ≡ map (λ byte. is_some byte) sent.now.ask.bytes)
+        × AreSameParts width (request_bytes sent.now) (request_bytes seen.now)) }
+{
+    let given = cells_of(sent.ask().bytes());
+    let captured = cells_of(seen.ask().bytes());
+    let given = PartsOf {
+        cells: &given,
+        marks: sent.marks(),
+    };
+    let captured = PartsOf {
+        cells: &captured,
+        marks: seen.marks(),
+    };
+    are_given_alike(sent.ask().bytes(), seen.ask().bytes())
+        && are_same_parts(&given, &captured, width)
+}
+
+/// Whether the bytes of two requests are the same, in cuts of so many.
+fn are_same_bytes_sent(sent: &Sent, seen: &Sent, width: usize) -> bool
+    requires some { 0 < width }
+    requires in_limit { width ≤ MAX_LANES }
+    ensures { IsTrue result ↔ ((map (λ byte. is_some byte) seen.now.ask.bytes
+        ≡ map (λ byte. is_some byte) sent.now.ask.bytes)
+        × AreSameParts width (request_bytes sent.now) (request_bytes seen.now)) }
+{
+    if !sent.marks().is_any() && !seen.marks().is_any() {
+        return sent.ask().bytes().is_same(seen.ask().bytes());
+    }
+    are_sent_in_cuts(sent, seen, width)
+}
+
+/// Whether two requests are the same but for their sources, in cuts of so many bytes.
+pub fn is_same_sent(sent: &Sent, seen: &Sent, width: usize) -> bool
+    requires some { 0 < width }
+    requires in_limit { width ≤ MAX_LANES }
+    ensures { IsTrue result ↔ IsSameSent width sent.now seen.now }
+{
+    let (ask, other) = (sent.ask(), seen.ask());
+    ask.op() == other.op()
+        && ask.size() == other.size()
+        && ask.address() == other.address()
+        && are_same_bytes_sent(sent, seen, width)
 }
 
 impl Crossing {

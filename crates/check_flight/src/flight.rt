@@ -13,9 +13,9 @@ use crate::answer::Answer;
 use crate::place::FlightPlace;
 use crate::slave::PortSlave;
 use check_beats::{AskHead, UnderWay};
+use check_cells::Sent;
 use std::alloc::{AllocError, Global};
 use std::marker::Model;
-use tl_types::Ask;
 
 /// Which part of a request is in flight, and between which link.
 #[derive(Debug, Clone, Copy, PartialEq, Eq)]
@@ -32,8 +32,8 @@ pub enum Stage {
 #[derive(Debug, Drop)]
 pub struct Flight {
     stage: Stage,
-    /// The request, if it has ended.
-    ask: Ask,
+    /// The request as it crossed, if it has ended.
+    sent: Sent,
     is_due: bool,
     /// What the reply has to fit, if one is due.
     due: Answer,
@@ -44,7 +44,7 @@ impl Model for Flight {
 
     ghost Value = { Flight };
 
-    ghost view = { λ f. record { turn = turn_kept f.stage f.ask; due = due_kept f.is_due f.due } };
+    ghost view = { λ f. record { turn = turn_kept f.stage f.sent; due = due_kept f.is_due f.due } };
 }
 
 impl Clone for Flight {
@@ -55,7 +55,7 @@ impl Clone for Flight {
     fn clone(&self) -> Result<Flight, AllocError> {
         Ok(Flight {
             stage: self.stage,
-            ask: self.ask.copy(),
+            sent: self.sent.copy(),
             is_due: self.is_due,
             due: self.due.copy(),
         })
@@ -69,7 +69,7 @@ impl Flight {
     {
         Flight {
             stage: Stage::Nothing,
-            ask: Ask::blank(),
+            sent: Sent::blank(),
             is_due: false,
             due: Answer::blank(),
         }
@@ -102,13 +102,13 @@ impl Flight {
         }
     }
 
-    /// The request, if it has ended.
-    pub fn asked(&self) -> Option<&Ask>
-        ensures { option_map (λ ask. ask.now) result ≡ asked self.now.turn }
+    /// The request as it crossed, if it has ended.
+    pub fn asked(&self) -> Option<&Sent>
+        ensures { option_map (λ sent. sent.now) result ≡ asked self.now.turn }
     {
         match self.stage {
             Stage::Nothing | Stage::Begun(_) => None,
-            Stage::Ended(_) => Some(&self.ask),
+            Stage::Ended(_) => Some(&self.sent),
         }
     }
 
@@ -135,7 +135,7 @@ impl Flight {
         ensures { let ask = ask_of under.now.bus under.now.asking beat.now lanes.now in
             self.new ≡ record { turn = Asked number ask; due = None } }
     {
-        under.ask_into(beat, lanes, &mut self.ask);
+        under.ask_into(beat, lanes, &mut self.sent);
         self.stage = Stage::Ended(number);
         self.is_due = false;
     }
@@ -167,8 +167,8 @@ impl Flight {
         if self.asked().is_some() {
             return self.accept_apart(alloc, place, under, beat, lanes, slave);
         }
-        under.ask_into(beat, lanes, &mut self.ask);
-        self.is_due = slave.accept(alloc, place, &self.ask, &mut self.due)?;
+        under.ask_into(beat, lanes, &mut self.sent);
+        self.is_due = slave.accept(alloc, place, &self.sent, &mut self.due)?;
         self.stage = Stage::Ended(place.link);
         Ok(())
     }
@@ -197,10 +197,10 @@ impl Flight {
         ensures unchanged { OnErr result (self.new ≡ self.old) }
         ensures slave_unchanged { OnErr result (slave.new ≡ slave.old) }
     {
-        let mut ask = Ask::blank();
-        under.ask_into(beat, lanes, &mut ask);
-        self.is_due = slave.accept(alloc, place, &ask, &mut self.due)?;
-        self.ask = ask;
+        let mut sent = Sent::blank();
+        under.ask_into(beat, lanes, &mut sent);
+        self.is_due = slave.accept(alloc, place, &sent, &mut self.due)?;
+        self.sent = sent;
         self.stage = Stage::Ended(place.link);
         Ok(())
     }
@@ -224,7 +224,7 @@ impl Flight {
         match self.stage {
             Stage::Nothing | Stage::Begun(_) => Ok(()),
             Stage::Ended(_) => {
-                if slave.answer(alloc, place, &self.ask, &mut self.due)? {
+                if slave.answer(alloc, place, &self.sent, &mut self.due)? {
                     self.is_due = true;
                 }
                 Ok(())

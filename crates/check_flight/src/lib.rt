@@ -22,7 +22,7 @@ mod side;
 mod slave;
 
 pub use answer::Answer;
-pub use crossing::Crossing;
+pub use crossing::{Crossing, is_same_sent};
 pub use flight::Flight;
 pub use order::{Order, SideOrders};
 pub use place::FlightPlace;

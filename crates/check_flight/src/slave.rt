@@ -7,12 +7,11 @@ ghost use Rattle.check_flight.specs.PortSlave.{accepting, answer_of, answer_of_k
 use crate::answer::Answer;
 use crate::order::Order;
 use crate::place::FlightPlace;
-use check_cells::AskSoFar;
-use check_contests::{Accepted, Contests, cut_short};
+use check_cells::{AskSoFar, Sent};
+use check_contests::{Accepted, Contests, answer_sent, cut_short, serve_sent};
 use check_memory::Slave;
 use std::alloc::{AllocError, Global};
 use std::marker::Model;
-use tl_types::Ask;
 
 /// What stands at a port, and how many requests have taken effect there, or were accepted if nobody knows when they do.
 #[derive(Drop)]
@@ -57,14 +56,14 @@ impl Clone for PortSlave {
 }
 
 /// Puts what is due to a request that is kept as this one in the place of another answer.
-fn kept_into(port: usize, ask: &Ask, entry: &Accepted, answer: &mut Answer)
-    ensures { Some answer.new ≡ answer_of_kept port ask.now (Some entry.now) }
+fn kept_into(port: usize, sent: &Sent, entry: &Accepted, answer: &mut Answer)
+    ensures { Some answer.new ≡ answer_of_kept port sent.now (Some entry.now) }
 {
     let due = &entry.due;
     answer.reply.refill_from(due);
     answer
         .reply
-        .set_fields(due.op(), due.size(), ask.source(), due.denied());
+        .set_fields(due.op(), due.size(), sent.ask().source(), due.denied());
     answer.port = port;
     answer.index = entry.index;
 }
@@ -124,16 +123,16 @@ impl PortSlave {
         &mut self,
         alloc: Global,
         port: usize,
-        ask: &Ask,
+        sent: &Sent,
         answer: &mut Answer,
     ) -> Result<(), AllocError>
-        ensures served { OnOk result (self.new ≡ served_by self.old ask.now) }
-        ensures answer { OnOk result (answer.new ≡ answer_of port self.old ask.now) }
-        ensures takes { OnErr result (slave_takes_bytes self.old.kept ask.now ≡ true) }
+        ensures served { OnOk result (self.new ≡ served_by self.old sent.now) }
+        ensures answer { OnOk result (answer.new ≡ answer_of port self.old sent.now) }
+        ensures takes { OnErr result (slave_takes_bytes self.old.kept sent.now.ask ≡ true) }
         ensures unchanged { OnErr result (self.new ≡ self.old) }
         ensures answer_unchanged { OnErr result (answer.new ≡ answer.old) }
     {
-        self.kept.serve_into(alloc, ask, &mut answer.reply)?;
+        serve_sent(alloc, &mut self.kept, sent, &mut answer.reply)?;
         answer.port = port;
         answer.index = self.served;
         self.served = self.served.wrapping_add(1);
@@ -141,22 +140,22 @@ impl PortSlave {
     }
 
     /// Puts the answer of the slave of this port to a request that it does not serve in the place of another.
-    pub fn answer_into(&self, port: usize, ask: &Ask, answer: &mut Answer)
-        ensures { answer.new ≡ answer_of port self.now ask.now }
+    pub fn answer_into(&self, port: usize, sent: &Sent, answer: &mut Answer)
+        ensures { answer.new ≡ answer_of port self.now sent.now }
     {
-        self.kept.answer(ask, &mut answer.reply);
+        answer_sent(&self.kept, sent, &mut answer.reply);
         answer.port = port;
         answer.index = self.served;
     }
 
     /// Accepts a request of which nobody knows when it takes effect. If there is no memory, nothing is changed.
-    fn contest(&mut self, alloc: Global, wide: usize, ask: &Ask) -> Result<(), AllocError>
-        ensures contested { OnOk result (self.new ≡ contested_by self.old wide ask.now) }
+    fn contest(&mut self, alloc: Global, wide: usize, sent: &Sent) -> Result<(), AllocError>
+        ensures contested { OnOk result (self.new ≡ contested_by self.old wide sent.now) }
         ensures unchanged { OnErr result (self.new ≡ self.old) }
     {
         let index = self.served;
         self.contests
-            .accept(alloc, &mut self.kept, wide, index, ask)?;
+            .accept(alloc, &mut self.kept, wide, index, sent)?;
         self.served = index.wrapping_add(1);
         Ok(())
     }
@@ -167,24 +166,24 @@ impl PortSlave {
         &mut self,
         alloc: Global,
         place: FlightPlace,
-        ask: &Ask,
+        sent: &Sent,
         answer: &mut Answer,
     ) -> Result<bool, AllocError>
-        ensures slave { OnOk result (self.new ≡ accepting self.old place.wide (Some ask.now)) }
+        ensures slave { OnOk result (self.new ≡ accepting self.old place.wide (Some sent.now)) }
         ensures due { IfOk result (λ is_due.
-            due_kept is_due answer.new ≡ due_accepting place.port self.old (Some ask.now)) }
-        ensures needed { OnErr result (IsTrue (may_need_to_accept self.old ask.now)) }
+            due_kept is_due answer.new ≡ due_accepting place.port self.old (Some sent.now)) }
+        ensures needed { OnErr result (IsTrue (may_need_to_accept self.old sent.now)) }
         ensures unchanged { OnErr result (self.new ≡ self.old) }
         ensures answer_unchanged { OnErr result (answer.new ≡ answer.old) }
     {
         match self.order {
             Order::Accept => {
-                self.serve_into(alloc, place.port, ask, answer)?;
+                self.serve_into(alloc, place.port, sent, answer)?;
                 Ok(true)
             }
             Order::Reply => Ok(false),
             Order::Any => {
-                self.contest(alloc, place.wide, ask)?;
+                self.contest(alloc, place.wide, sent)?;
                 Ok(false)
             }
         }
@@ -196,28 +195,28 @@ impl PortSlave {
         &mut self,
         alloc: Global,
         place: FlightPlace,
-        ask: &Ask,
+        sent: &Sent,
         answer: &mut Answer,
     ) -> Result<bool, AllocError>
-        ensures slave { OnOk result (self.new ≡ answering self.old place.wide (Some ask.now)) }
+        ensures slave { OnOk result (self.new ≡ answering self.old place.wide (Some sent.now)) }
         ensures due { IfOk result (λ is_due.
-            due_kept is_due answer.new ≡ due_answering place.port self.old place.wide (Some ask.now)) }
+            due_kept is_due answer.new ≡ due_answering place.port self.old place.wide (Some sent.now)) }
         ensures kept { IfOk result (λ is_due. is_due ≡ false → answer.new ≡ answer.old) }
-        ensures needed { OnErr result (IsTrue (may_need_to_answer self.old ask.now)) }
+        ensures needed { OnErr result (IsTrue (may_need_to_answer self.old sent.now)) }
         ensures unchanged { OnErr result (self.new ≡ self.old) }
         ensures answer_unchanged { OnErr result (answer.new ≡ answer.old) }
     {
         match self.order {
             Order::Accept => Ok(false),
             Order::Reply => {
-                self.serve_into(alloc, place.port, ask, answer)?;
+                self.serve_into(alloc, place.port, sent, answer)?;
                 Ok(true)
             }
             Order::Any => {
                 let Some(entry) = self.contests.answer(place.wide) else {
                     return Ok(false);
                 };
-                kept_into(place.port, ask, &entry, answer);
+                kept_into(place.port, sent, &entry, answer);
                 Ok(true)
             }
         }
@@ -225,20 +224,20 @@ impl PortSlave {
 
     /// What the reply to a request of a wide source has to fit that was accepted, if the reply begins now: whether it is
     /// known then, and not before. If it is, it is put in the place of another answer.
-    pub fn due_into(&self, port: usize, wide: usize, ask: &Ask, answer: &mut Answer) -> bool
-        ensures { due_kept result answer.new ≡ due_answering port self.now wide (Some ask.now) }
+    pub fn due_into(&self, port: usize, wide: usize, sent: &Sent, answer: &mut Answer) -> bool
+        ensures { due_kept result answer.new ≡ due_answering port self.now wide (Some sent.now) }
     {
         match self.order {
             Order::Accept => false,
             Order::Reply => {
-                self.answer_into(port, ask, answer);
+                self.answer_into(port, sent, answer);
                 true
             }
             Order::Any => {
                 let Some(entry) = self.contests.due(wide) else {
                     return false;
                 };
-                kept_into(port, ask, entry, answer);
+                kept_into(port, sent, entry, answer);
                 true
             }
         }

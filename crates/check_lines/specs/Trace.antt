@@ -1,17 +1,18 @@
 -- The lines of replies that were captured: `mM sS NAME ADDRESS SIZE [DATA] -> REPLY [denied] [DATA] pP #K`, as traces of
--- tlx spell an entry, and `xx` for an unknown byte of the reply. This project's own.
+-- tlx spell an entry, and `xx` for an unknown byte of the reply and for a spoiled one of the request. This project's own.
 use Rattle.std.specs.Prelude.{◌≡◌, ◌⊎◌, ℕ, List, [], ◌∷◌, ◌++◌, codes}
 use Rattle.tl_map.specs.Owner.{IsWideSource}
 use Rattle.tl_map.specs.declared.owners.Owner.{Owner}
-use Rattle.tl_script.specs.Trace.{ask_text, origin_text, place_text}
+use Rattle.tl_script.specs.Trace.{origin_text, place_text}
 use Rattle.check_watch.specs.declared.beat.Link.{Link}
 use Rattle.check_watch.specs.declared.beat.Link.TheVariants.{Master, Port}
 use Rattle.check_watch.specs.declared.seen.SeenEntry.{SeenEntry}
 use Rattle.check_lines.specs.Reply.{pattern_text}
+use Rattle.check_lines.specs.Sent.{sent_text}
 
 -- a request and the reply that was captured
 abbrev pub exchange_text : SeenEntry → List ℕ
-exchange_text entry = ask_text entry.ask ++ codes " -> " ++ pattern_text entry.reply
+exchange_text entry = sent_text entry.sent ++ codes " -> " ++ pattern_text entry.reply
 
 -- the line of a request of a master from this source of its own, with the reply that was captured
 unfoldable pub entry_line : ℕ → ℕ → SeenEntry → List ℕ

@@ -3,8 +3,8 @@
 //! [`push_lawful`], [`push_empty`], [`push_unlawful`], [`push_breach`] and [`push_incomplete`] append the line of a verdict
 //! (`specs/Verdict.antt`), [`push_answer`] the line of a reply that was seen at a link (`specs/Trace.antt`). A [`Breach`] is how a
 //! row breaks the rules. A reply is spelled as
-//! traces of tlx spell one, with `xx` for each byte that is unknown (`specs/Reply.antt`). [`Names`] has the names of a system's masters and ports,
-//! by which lines name links.
+//! traces of tlx spell one, with `xx` for each byte that is unknown (`specs/Reply.antt`), and a request with `xx` for each byte
+//! that is spoiled (`specs/Sent.antt`). [`Names`] has the names of a system's masters and ports, by which lines name links.
 //!
 //! Each call appends exactly the text of its definition. If memory is refused, the text begins with what it was.
 //!
@@ -16,6 +16,7 @@ pub mod laws;
 mod left;
 mod names;
 mod reply;
+mod sent;
 mod target;
 mod trace;
 mod verdict;

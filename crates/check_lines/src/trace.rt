@@ -4,10 +4,11 @@ ghost use Rattle.tl_text.specs.Text.{BeginsWith};
 ghost use Rattle.check_lines.specs.Trace.{AppendsLine, entry_line, exchange_text};
 
 use crate::reply::push_pattern;
+use crate::sent::push_sent;
 use check_watch::{Link, SeenEntry};
 use std::alloc::AllocError;
 use tl_map::SourceOwners;
-use tl_script::{push_ask, push_origin, push_place};
+use tl_script::{push_origin, push_place};
 
 /// Appends a request and the reply that was captured.
 #[tactic(auto, using(tl_text::proofs::TextLemmas::begins))]
@@ -15,7 +16,7 @@ fn push_exchange(text: &mut Vec<u8>, entry: &SeenEntry) -> Result<(), AllocError
     ensures ok { OnOk result (text.new.items ≡ text.old.items ++ exchange_text entry.now) }
     ensures err { OnErr result (BeginsWith text.old.items text.new.items) }
 {
-    push_ask(text, &entry.ask)?;
+    push_sent(text, &entry.sent)?;
     text.extend_from_slice(b" -> ")?;
     push_pattern(text, &entry.reply)
 }

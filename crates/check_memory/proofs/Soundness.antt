@@ -22,8 +22,8 @@ use Rattle.tl_map.specs.declared.range.Range.{Range}
 use Rattle.check_memory.specs.Known.{IsBelow, known, all_known, replaced}
 use Rattle.check_memory.specs.Cells.{put_cell, clear_cell, put_cells, combined, combined_logic, new_cells, unknown_where}
 use Rattle.check_memory.specs.Partial.{Partial, start_of, placed, holds, permits, takes_bytes, is_volatile, visible, window_of, after_partial, AreWithin}
-use Rattle.check_memory.specs.Pattern.{shown_cells}
-use Rattle.check_memory.specs.Whole.{true_window, true_after}
+use Rattle.check_memory.specs.Pattern.{pattern, shown_cells}
+use Rattle.check_memory.specs.Whole.{true_window, true_after, true_reply}
 use Rattle.check_memory.specs.Laws.{IsLawfulAsk, IsSound, AreSameButVolatile}
 use Rattle.check_memory.proofs.Legal.{takes_legal, takes_carries, not_taken, replaced-same}
 use Rattle.check_memory.proofs.Unknown.{known_where, length-unknown_where, unknown-replaced, told-unknown}
@@ -261,15 +261,18 @@ pub partial_is_sound : (memory : Partial) (bytes : List ℕ) (ask : Request) →
     → IsLawfulAsk ask → IsBelow (visible memory) (known bytes) → IsSound memory bytes ask
 partial_is_sound memory bytes ask within lawful below =
     let told : Told (visible memory) bytes = told_from_below (visible memory) bytes below in
+    let fit : IsBelow (pattern memory ask).bytes (known (true_reply memory bytes ask).bytes) =
+    below-shown (reply_op_of ask.op) _ _
+    (told-chosen (permits memory ask) (window_of memory ask) (true_window bytes (placed memory ask))
+    (replicate (2 ^ ask.size) 0) (told_window memory bytes ask told)) in
     record {
       reply_fits = record {
         op_is = refl;
         size_is = refl;
         source_is = refl;
         denied_is = λ flag is. is;
-        bytes_fit = below-shown (reply_op_of ask.op) _ _
-            (told-chosen (permits memory ask) (window_of memory ask) (true_window bytes (placed memory ask))
-            (replicate (2 ^ ask.size) 0) (told_window memory bytes ask told));
+        counted = fit.counted;
+        bytes_fit = λ looked. fit;
       };
       stays_below = below_from_told (visible (after_partial memory ask)) (true_after memory bytes ask)
           (told-after memory bytes ask (takes_bytes memory ask) refl within lawful told);

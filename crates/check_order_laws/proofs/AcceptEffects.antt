@@ -3,13 +3,13 @@
 use Rattle.std.proofs.Common.{◌≡◌, ◌∙◌, ⊎_elim, ℕ, List, [], ◌∷◌, ◌++◌, length, Option, Some, None, refl, ap, sym, subst, append-nil}
 use Rattle.std.specs.Prelude.{◌≢◌}
 use Rattle.std.proofs.lemmas.Bool.{cases_eq}
-use Rattle.tl_types.specs.Request.{Request}
+use Rattle.check_cells.specs.Sent.{Sent}
 use Rattle.check_cells.specs.Pattern.{Pattern}
 use Rattle.check_contests.specs.Moments.{SlaveMoment, Course, Truth, IsWaiting, IsServedCourse, MayAllCome, course_with, truth_accepting, truth_answering, truth_serving, truth_taking}
 use Rattle.check_contests.specs.Moments.SlaveMoment.{Accepts as SlaveAccepts, TakesEffect, Answers as SlaveAnswers}
 use Rattle.check_contests.specs.Moments.Course.{Idle, Waiting, Served}
 use Rattle.check_contests.proofs.Courses.{course-here, course-there}
-use Rattle.check_memory.specs.Slave.{slave_after, expected_of}
+use Rattle.check_contests.specs.Sent.{slave_after_sent, expected_of_sent}
 use Rattle.check_flight.specs.declared.order.Order.TheVariants.{Accept}
 use Rattle.check_flight.specs.PortSlave.{PortSlave, accepted_by, answered_by, due_accepted_by, due_answered_by, served_by}
 use Rattle.check_watch_laws.specs.Memories.{entries_of}
@@ -22,36 +22,36 @@ use Rattle.check_order_laws.proofs.Effects.{with_effects, AreCarried, CarriedBy,
 
 -- of one source: what was given before it is answered, and what is due later, is what is given later, and at most one more,
 -- that of a request which is left open
-pub record GivesBut (wide : ℕ) (course : Course) (dues given : List (Request × Pattern)) (left : Option Request)
+pub record GivesBut (wide : ℕ) (course : Course) (dues given : List (Sent × Pattern)) (left : Option Sent)
     : Type 0 where
-  pub rest : List (Request × Pattern)
+  pub rest : List (Sent × Pattern)
   pub is : answer_given wide course ++ entries_of wide dues ≡ entries_of wide given ++ rest
   pub none : left ≡ None → rest ≡ []
-  pub some : (ask : Request) → left ≡ Some ask → length rest ≡ 1
+  pub some : (ask : Sent) → left ≡ Some ask → length rest ≡ 1
 
 -- these moments of the slave may come, they show the port's, and give what is due
-pub record GivesAll (port : ℕ) (held : ℕ → Option Request) (slave : PortSlave) (truth : Truth) (seen : List RequestMoment)
+pub record GivesAll (port : ℕ) (held : ℕ → Option Sent) (slave : PortSlave) (truth : Truth) (seen : List RequestMoment)
     (all : List SlaveMoment) : Type 0 where
   pub may : MayAllCome truth all
   pub shows : seen_in truth all ≡ seen
   pub gives : (wide : ℕ)
       → GivesBut wide (truth.course wide) (dues_of port slave seen) (given_in truth all) (open_after held seen wide)
 
-one_given : (wide : ℕ) (held : Option Request) (course : Course) (ask : Request) → HasCourse Accept held course
+one_given : (wide : ℕ) (held : Option Sent) (course : Course) (ask : Sent) → HasCourse Accept held course
     → held ≡ Some ask → length (answer_given wide course) ≡ 1
 one_given wide held course ask has left = ap (λ c. length (answer_given wide c)) (served_at held course ask has left).1
 
-module _ (port : ℕ) (held : ℕ → Option Request) (slave : PortSlave) (truth : Truth) (order : slave.order ≡ Accept)
-    (same : truth.slave ≡ slave.kept) (wide : ℕ) (ask : Request) (moments : List RequestMoment)
+module _ (port : ℕ) (held : ℕ → Option Sent) (slave : PortSlave) (truth : Truth) (order : slave.order ≡ Accept)
+    (same : truth.slave ≡ slave.kept) (wide : ℕ) (ask : Sent) (moments : List RequestMoment)
     (later : List SlaveMoment) where
   abbrev accepted : RequestMoment
-  accepted = record { act = Accepts; wide = wide; ask = ask }
+  accepted = record { act = Accepts; wide = wide; sent = ask }
 
   abbrev answered : RequestMoment
-  answered = record { act = Answers; wide = wide; ask = ask }
+  answered = record { act = Answers; wide = wide; sent = ask }
 
   abbrev expected : Pattern
-  expected = expected_of truth.slave ask
+  expected = expected_of_sent truth.slave ask
 
   abbrev accepts_it : Truth
   accepts_it = truth_accepting truth wide ask
@@ -66,9 +66,9 @@ module _ (port : ℕ) (held : ℕ → Option Request) (slave : PortSlave) (truth
       dues_cons port slave accepted moments
       ∙ ap (λ o. entry_due wide ask (due_accepted_by o port slave ask) ++ dues_of port (slave_then slave accepted) moments)
       order
-      ∙ ap (λ o. one_entry wide ask (expected_of slave.kept ask) ∷ dues_of port (accepted_by o slave wide ask) moments)
+      ∙ ap (λ o. one_entry wide ask (expected_of_sent slave.kept ask) ∷ dues_of port (accepted_by o slave wide ask) moments)
       order
-      ∙ ap (λ k. one_entry wide ask (expected_of k ask) ∷ dues_of port (served_by slave ask) moments) (sym same)
+      ∙ ap (λ k. one_entry wide ask (expected_of_sent k ask) ∷ dues_of port (served_by slave ask) moments) (sym same)
 
   dues_answering : dues_of port slave (answered ∷ moments) ≡ dues_of port slave moments
   dues_answering =
@@ -82,7 +82,7 @@ module _ (port : ℕ) (held : ℕ → Option Request) (slave : PortSlave) (truth
       → GivesAll port held slave truth (accepted ∷ moments) (SlaveAccepts wide ask ∷ TakesEffect wide ∷ later)
   accepts idle carried rest = record {
     may = (
-      (idle, carried_at truth.slave ask carried),
+      (idle, carried_at truth.slave ask.ask carried),
       subst (λ c. IsWaiting c × MayAllCome (truth_taking accepts_it wide c) later) (sym waits) (tt, rest.may),
     );
     shows = ap (λ c. accepted ∷ seen_in (truth_taking accepts_it wide c) later) waits ∙ ap (λ l. accepted ∷ l) rest.shows;
@@ -101,7 +101,7 @@ module _ (port : ℕ) (held : ℕ → Option Request) (slave : PortSlave) (truth
       waits : accepts_it.course wide ≡ Waiting ask
       waits = course-here truth.course wide (Waiting ask)
 
-      dues : List (Request × Pattern)
+      dues : List (Sent × Pattern)
       dues = dues_of port (served_by slave ask) moments
 
       front : (other : ℕ)
@@ -144,13 +144,13 @@ module _ (port : ℕ) (held : ℕ → Option Request) (slave : PortSlave) (truth
       after : Truth
       after = truth_answering truth wide
 
-      dues : List (Request × Pattern)
+      dues : List (Sent × Pattern)
       dues = dues_of port slave moments
 
-      given : List (Request × Pattern)
+      given : List (Sent × Pattern)
       given = given_in (truth_answering truth wide) later
 
-      both : (other : ℕ) (more : List (Request × Pattern))
+      both : (other : ℕ) (more : List (Sent × Pattern))
           → answer_given other (course_with truth.course wide Idle other) ++ entries_of other (dues_of port slave moments)
           ≡ entries_of other (given_in (truth_answering truth wide) later) ++ more
           → answer_given other (truth.course other) ++ entries_of other (dues_of port slave moments)
@@ -178,7 +178,7 @@ module _ (port : ℕ) (held : ℕ → Option Request) (slave : PortSlave) (truth
 -- so it is of all moments that come in turn
 abbrev AllGiven : ℕ → List RequestMoment → Type 0
 AllGiven port moments =
-    (held : ℕ → Option Request) (slave : PortSlave) (truth : Truth) → slave.order ≡ Accept → truth.slave ≡ slave.kept
+    (held : ℕ → Option Sent) (slave : PortSlave) (truth : Truth) → slave.order ≡ Accept → truth.slave ≡ slave.kept
     → HaveCourses Accept held truth.course → AreInTurn held moments → AreCarried moments
     → GivesAll port held slave truth moments (with_effects Accept moments)
 
@@ -189,20 +189,20 @@ step port moment moments rest held slave truth order same courses turns carried 
     wide : ℕ
     wide = moment.wide
 
-    ask : Request
-    ask = moment.ask
+    ask : Sent
+    ask = moment.sent
 
     go : (act : Act) → IsInTurn act ask (held wide) → AreInTurn (open_then held (record moment { act = act })) moments
         → CarriedBy act ask → GivesAll port held slave truth (record moment { act = act } ∷ moments)
         (with_effects Accept (record moment { act = act } ∷ moments))
     go Accepts turn later bytes =
         let here : RequestMoment = record moment { act = Accepts } in
-        let reply = expected_of truth.slave ask in
+        let reply = expected_of_sent truth.slave ask in
         accepts port held slave truth order same wide ask moments (with_effects Accept moments)
         (idle_at Accept (held wide) (truth.course wide) (courses wide) turn) bytes
         (rest (open_then held here) (served_by slave ask)
         (truth_serving (truth_accepting truth wide ask) wide ask) order
-        (ap (λ k. slave_after k ask) same)
+        (ap (λ k. slave_after_sent k ask) same)
         (courses_over Accept (open_then held here) truth.course wide (Waiting ask) (Served ask reply)
         (courses_then Accept held truth.course here (Served ask reply) courses
         (subst (λ o. HasCourse Accept o (Served ask reply)) (sym (open_here held here wide refl)) (reply, refl))))

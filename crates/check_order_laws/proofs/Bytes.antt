@@ -1,15 +1,14 @@
 -- The bytes of a request are those of lanes, and so are below 256.
-use Rattle.std.proofs.Common.{◌≡◌, ℕ, ◌+◌, ◌<◌, zero, suc, Bool, true, false, if◌then◌else◌, List, [], ◌∷◌, ◌++◌, map, take, Option, Some, None, unwrap_or, slice_index, arith}
-use Rattle.std.specs.Prelude.{◌==◌, ◌%◌, All, min}
+use Rattle.std.proofs.Common.{◌≡◌, ℕ, ◌+◌, ◌<◌, zero, suc, Bool, true, false, if◌then◌else◌, List, [], ◌∷◌, ◌++◌, map, replicate, take, Option, Some, None, unwrap_or, slice_index, arith}
+use Rattle.std.specs.Prelude.{◌==◌, ◌%◌, All}
 use Rattle.std.specs.Int.{bit_at}
 use Rattle.std.specs.List.{AllByRecursion, range_with_len}
 use Rattle.std.proofs.lemmas.List.Elements.{All-head, All-tail}
-use Rattle.tl_types.specs.Operation.{byte_count}
 use Rattle.check_beats.specs.Bus.{low}
 use Rattle.check_beats.specs.Laws.{asking}
-use Rattle.check_beats.specs.Message.{byte_at, ask_part, op_of}
+use Rattle.check_beats.specs.Message.{byte_at, ask_part, ask_part_count, shown_lanes, spoiled_ask_part}
 use Rattle.check_beats.specs.Spelling.{AskBeat}
-use Rattle.check_beats.specs.State.{asked_beats, asked_bytes, ends_ask, first_ask}
+use Rattle.check_beats.specs.State.{asked_beats, asked_bytes, asked_spoiled, ends_ask, first_ask}
 use Rattle.check_beats.specs.declared.beat.AskHead.{AskHead}
 use Rattle.check_contests.specs.Moments.{AreBytes}
 use Rattle.check_watch.specs.declared.beat.Beat.{Beat}
@@ -35,6 +34,11 @@ small_take (suc n) [] small k = omega arith
 small_take (suc n) (x ∷ lanes) small zero = small zero
 small_take (suc n) (x ∷ lanes) small (suc k) = small_take n lanes (λ j. small (suc j)) k
 
+small_zeros : (n : ℕ) → AreSmall (replicate n 0)
+small_zeros zero k = omega arith
+small_zeros (suc n) zero = omega arith
+small_zeros (suc n) (suc k) = small_zeros n k
+
 -- ---- cells
 
 pub bytes_append : (xs ys : List (Option ℕ)) → AreBytes xs → AreBytes ys → AreBytes (xs ++ ys)
@@ -56,13 +60,23 @@ small_byte : (value : ℕ) → value < 256 → (given : Bool) (byte : ℕ) → (
 small_byte value small true byte is = let same : value ≡ byte = cc in omega (arith, small, same)
 small_byte value small false byte is = cc
 
+-- what is shown of a beat: its lanes, or zeros
+small_shown : (bus : ℕ) (beat : AskHead) (lanes : List ℕ) → AreSmall lanes → AreSmall (shown_lanes bus beat lanes)
+small_shown bus beat lanes small = go beat.corrupt
+  where
+    go : (corrupt : Bool) → AreSmall (if corrupt then replicate bus 0 else lanes)
+    go true = small_zeros bus
+    go false = small
+
 pub small_part : (bus : ℕ) (beat : AskHead) (lanes : List ℕ) → AreSmall lanes → AreBytes (ask_part bus beat lanes)
 small_part bus beat lanes small =
     let first = low beat.address beat.size % bus in
-    bytes_map (λ k. byte_at beat.mask lanes (first + k))
-    (λ k byte is. small_byte (slice_index lanes (first + k)) (small (first + k)) (bit_at beat.mask (first + k) == 1)
+    let shown = shown_lanes bus beat lanes in
+    let below = small_shown bus beat lanes small in
+    bytes_map (λ k. byte_at beat.mask shown (first + k))
+    (λ k byte is. small_byte (slice_index shown (first + k)) (below (first + k)) (bit_at beat.mask (first + k) == 1)
     byte is)
-    (range_with_len 0 (min bus (byte_count (op_of beat.opcode beat.param) beat.size)))
+    (range_with_len 0 (ask_part_count bus beat))
 
 -- ---- a request that is under way
 
@@ -75,6 +89,7 @@ small_asking bus (beat ∷ beats) all = go (small_asking bus beats all.1) (ends_
       first = unwrap_or (first_ask (asking bus beats)) beat.head;
       beats = asked_beats (asking bus beats) + 1;
       bytes = asked_bytes (asking bus beats) ++ ask_part bus beat.head beat.lanes;
+      spoiled = asked_spoiled (asking bus beats) ++ spoiled_ask_part bus beat.head;
     })))
     go before true = none_there
     go before false = bytes_append (asked_bytes (asking bus beats)) (ask_part bus beat.head beat.lanes)

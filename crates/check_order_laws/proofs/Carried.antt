@@ -1,7 +1,7 @@
 -- The requests that a port accepts are as messages carry them: lawful ones, of bytes.
 use Rattle.std.proofs.Common.{◌≡◌, ℕ, Bool, true, false, if◌then◌else◌, List, [], ◌∷◌, ◌++◌, map, filter, take, Option, refl, subst}
 use Rattle.std.specs.List.{AllByRecursion}
-use Rattle.tl_types.specs.Request.{Request}
+use Rattle.check_cells.specs.Sent.{Sent}
 use Rattle.check_beats.specs.Laws.{IsSpelled, begun, ended_asks}
 use Rattle.check_beats.specs.State.{AskBegun, ask_of, ends_ask}
 use Rattle.check_memory.specs.Laws.{IsLawfulAsk}
@@ -30,7 +30,7 @@ carried_more [] later all more = more
 carried_more (moment ∷ before) later all more = (all.0, carried_more before later all.1 more)
 
 abbrev AreCarriedAsks : List AskSeen → Type 0
-AreCarriedAsks seen = AllByRecursion (λ (one : AskSeen). IsCarriedAsk one.ask) seen
+AreCarriedAsks seen = AllByRecursion (λ (one : AskSeen). IsCarriedAsk one.sent.ask) seen
 
 accepted_so : (plan : Plan) (port wide : ℕ) (seen : List AskSeen) → AreCarriedAsks seen
     → AreCarried (map (moment_of Accepts wide) (filter (is_for plan port) seen))
@@ -65,7 +65,7 @@ ended_so plan past x (A beat) watched lawful bytes = go (ends_ask bus before bea
     before : Option AskBegun
     before = asking_at plan.layout x.link past
 
-    ask : Request
+    ask : Sent
     ask = ask_of bus before beat (take bus x.lanes)
 
     spelled : AllByRecursion (IsSpelled bus) (ended_asks bus (ask_beat bus beat x.lanes ∷ asks_over plan.layout x.link past))
@@ -73,16 +73,16 @@ ended_so plan past x (A beat) watched lawful bytes = go (ends_ask bus before bea
         (if h then more_asks bus now (A beat) (asks_over plan.layout x.link past) else asks_over plan.layout x.link past)))
         (own_is x.link) ((messages plan (now ∷ past) watched lawful).links x.link).asks_spelled
 
-    lawful_ask : ends_ask bus before beat ≡ true → IsLawfulAsk ask
+    lawful_ask : ends_ask bus before beat ≡ true → IsLawfulAsk ask.ask
     lawful_ask is =
         let over = asks_over plan.layout x.link past in
         let all = subst (λ (e : Bool). AllByRecursion (IsSpelled bus) (if e
         then ended_asks bus over ++ (ask, begun bus over ++ ask_beat bus beat x.lanes ∷ []) ∷ []
         else ended_asks bus over)) is spelled in
-        (last_of (IsSpelled bus) (ended_asks bus over) (ask, begun bus over ++ ask_beat bus beat x.lanes ∷ []) all).0
+        (last_of (IsSpelled bus) (ended_asks bus over) (ask, begun bus over ++ ask_beat bus beat x.lanes ∷ []) all).0.lawful
 
     go : (ends : Bool) → ends_ask bus before beat ≡ ends
-        → AreCarriedAsks (if ends then record { link = x.link; ask = ask } ∷ [] else [])
+        → AreCarriedAsks (if ends then record { link = x.link; sent = ask } ∷ [] else [])
     go true is = (record { lawful = lawful_ask is; bytes = small_ended plan.layout past now beat bytes }, tt)
     go false is = tt
 

@@ -1,6 +1,6 @@
 -- If requests of a port take effect as they are accepted, what their replies have to fit is known from then on.
 use Rattle.std.proofs.Common.{◌≡◌, ◌∙◌, ℕ, Bool, true, false, if◌then◌else◌, List, [], ◌∷◌, Option, Some, None, refl, ap, sym, subst}
-use Rattle.tl_types.specs.Request.{Request}
+use Rattle.check_cells.specs.Sent.{Sent}
 use Rattle.check_beats.specs.State.{Under, ends_reply}
 use Rattle.check_beats.specs.declared.beat.AskHead.{AskHead}
 use Rattle.check_beats.specs.declared.beat.ReplyHead.{ReplyHead}
@@ -27,8 +27,8 @@ abbrev pub IsDueSoon : Plan → LinkSide → Turn → Option Answer → Type 0
 IsDueSoon plan side Idle due = Unit {0}
 IsDueSoon plan side (Asking n) due = Unit {0}
 IsDueSoon plan side (Asked n ask) due =
-    side ≡ side_for plan.layout (port_for plan (link_on side n) ask)
-    → order_at plan (port_for plan (link_on side n) ask) ≡ Accept → (answer : Answer) × (due ≡ Some answer)
+    side ≡ side_for plan.layout (port_for plan (link_on side n) ask.ask)
+    → order_at plan (port_for plan (link_on side n) ask.ask) ≡ Accept → (answer : Answer) × (due ≡ Some answer)
 
 abbrev pub AreDueSoon : Plan → State → Type 0
 AreDueSoon plan s =
@@ -53,19 +53,19 @@ module _ (plan : Plan) (s : State) (same_order : (port : ℕ) → order_at plan 
       found : ℕ
       found = (scene_found plan s link (A beat)).port
 
-      ended : Option Request
+      ended : Option Sent
       ended = ask_by (s.links (side_of link) (link_number link)) beat lanes
 
       seen : Bool
       seen = takes_effect plan.layout link found
 
-      own : (o : Option Request) → ended ≡ o
+      own : (o : Option Sent) → ended ≡ o
           → IsDueSoon plan (side_of link) (turn_by (link_number link) o)
           (due_accepting found (s.slaves found) (ask_if seen o))
       own None so = tt
       own (Some ask) so = λ here accept.
-          let goes : port_for plan (link_on (side_of link) (link_number link)) ask ≡ found =
-          ap (λ l. port_for plan l ask) (own_link link)
+          let goes : port_for plan (link_on (side_of link) (link_number link)) ask.ask ≡ found =
+          ap (λ l. port_for plan l ask.ask) (own_link link)
           ∙ ended_goes plan link turn (s.links (side_of link) (link_number link)) lanes beat ask so in
           let taken : seen ≡ true =
           takes plan.layout link found has watched (port_own plan link turn (A beat))

@@ -1,6 +1,6 @@
 -- What is lawful by the orders of ports is lawful if nobody knows some of them.
 use Rattle.std.proofs.Common.{◌≡◌, ◌∙◌, inl, inr, ℕ, List, [], ◌∷◌, ◌++◌, refl, ap, sym, subst}
-use Rattle.tl_types.specs.Request.{Request}
+use Rattle.check_cells.specs.Sent.{Sent}
 use Rattle.check_cells.specs.Pattern.{Pattern}
 use Rattle.check_contests.specs.Laws.{IsBelowAtReset}
 use Rattle.check_contests.specs.Moments.{SlaveMoment}
@@ -62,14 +62,14 @@ module _ (plan : Plan) (before after : List PortSlave) where
       go (A beat) was = was
       go (D beat) was = (
         was.0,
-        λ ask next. subst (λ b. HasKnownLanes (bus_of plan.layout x.link) b ask beat x.known)
-            (lanes (port_for plan x.link ask)) (was.1 ask next),
+        λ sent next. subst (λ b. HasKnownLanes (bus_of plan.layout x.link) b sent.ask beat x.known)
+            (lanes (port_for plan x.link sent.ask)) (was.1 sent next),
       )
 
   -- what is due at a port whose slave is the same
   pub same_due : (past : List Sighting) (port : ℕ) → reset_of other port ≡ reset_of one port
-      → (history : List (Request × Pattern)) × IsDueAt one past port history
-      → (history : List (Request × Pattern)) × IsDueAt other past port history
+      → (history : List (Sent × Pattern)) × IsDueAt one past port history
+      → (history : List (Sent × Pattern)) × IsDueAt other past port history
   same_due past port same due = (
     due.0,
     record {
@@ -90,7 +90,7 @@ module _ (plan : Plan) (before after : List PortSlave) where
 
   -- the rules, by what is due at each port
   pub rules_by_dues : (past : List Sighting) → IsPlan one → AreWatched plan.layout past → IsLawfulGroup one past
-      → ((port : ℕ) → (history : List (Request × Pattern)) × IsDueAt other past port history)
+      → ((port : ℕ) → (history : List (Sent × Pattern)) × IsDueAt other past port history)
       → KeepsRules other past
   rules_by_dues past is watched lawful dues = record {
     messages = same_messages plan before after past (messages one past watched lawful);
@@ -106,7 +106,7 @@ module _ (plan : Plan) (before after : List PortSlave) where
     -- nobody knows the order of a port where it was known
     any_due : (past : List Sighting) → AreWatched plan.layout past → HaveByteLanes past → IsLawfulGroup one past
         → (port : ℕ) → reset_of other port ≡ record (reset_of one port) { order = Any }
-        → (history : List (Request × Pattern)) × IsDueAt other past port history
+        → (history : List (Sent × Pattern)) × IsDueAt other past port history
     any_due past watched bytes lawful port is = go (order_at one port) refl
       where
         any : order_at other port ≡ Any
@@ -116,13 +116,13 @@ module _ (plan : Plan) (before after : List PortSlave) where
         none = ap (λ (s : PortSlave). s.contests) is ∙ fresh port
 
         done_so : (all : List SlaveMoment) → IsDoneWhenever one past port (reset_of one port).kept all
-            → (history : List (Request × Pattern)) × IsDueAt other past port history
+            → (history : List (Sent × Pattern)) × IsDueAt other past port history
         done_so all done =
             whenever_is_due other past port (reset_of one port).kept all any none
             (same_done past port (reset_of one port).kept all (ap (λ (s : PortSlave). s.kept) is) done)
 
         go : (order : Order) → order_at one port ≡ order
-            → (history : List (Request × Pattern)) × IsDueAt other past port history
+            → (history : List (Sent × Pattern)) × IsDueAt other past port history
         go Accept order = done_so _ (accept_done one past watched lawful port bytes (sound port) order)
         go Reply order = done_so _ (reply_done one past watched lawful port bytes (sound port) order)
         go Any order =
@@ -131,7 +131,7 @@ module _ (plan : Plan) (before after : List PortSlave) where
 
     looser_due : (past : List Sighting) → AreWatched plan.layout past → HaveByteLanes past → IsLawfulGroup one past
         → (port : ℕ) → IsSameOrAny (reset_of other port) (reset_of one port)
-        → (history : List (Request × Pattern)) × IsDueAt other past port history
+        → (history : List (Sent × Pattern)) × IsDueAt other past port history
     looser_due past watched bytes lawful port (inl is) = same_due past port is (due_at one past watched lawful port)
     looser_due past watched bytes lawful port (inr is) = any_due past watched bytes lawful port is
 

@@ -1,7 +1,7 @@
 -- A beat of a request: what it ends is open then, if it goes to the port, and nothing of its source was open before.
 use Rattle.std.proofs.Common.{◌≡◌, ◌∙◌, ◌⊎◌, ⊎_elim, ℕ, Bool, true, false, if◌then◌else◌, List, [], ◌∷◌, ◌++◌, Option, Some, None, refl, ap, sym, subst, eqb-true}
 use Rattle.std.specs.Prelude.{◌==◌}
-use Rattle.tl_types.specs.Request.{Request}
+use Rattle.check_cells.specs.Sent.{Sent}
 use Rattle.check_beats.specs.State.{Under, ReplyBegun}
 use Rattle.check_beats.specs.declared.beat.AskHead.{AskHead}
 use Rattle.check_flight.specs.Flight.{Turn}
@@ -42,10 +42,10 @@ module _ (plan : Plan) (s : State) (past : List Sighting) (linked : LinksAre pla
   abbrev found : ℕ
   found = (scene_found plan s link (A beat)).port
 
-  abbrev ended : Option Request
+  abbrev ended : Option Sent
   ended = ask_by under beat lanes
 
-  abbrev done : Option Request
+  abbrev done : Option Sent
   done = accepts_now plan s link lanes beat
 
   abbrev after : State
@@ -54,7 +54,7 @@ module _ (plan : Plan) (s : State) (past : List Sighting) (linked : LinksAre pla
   abbrev more : ℕ → List RequestMoment
   more port = if found == port then moment_if Accepts own done else []
 
-  abbrev before : ℕ → ℕ → Option Request
+  abbrev before : ℕ → ℕ → Option Sent
   before port = open_after none_open (moments plan port past)
 
   unseen : takes_effect plan.layout link found ≡ false → done ≡ None
@@ -116,16 +116,16 @@ module _ (plan : Plan) (s : State) (past : List Sighting) (linked : LinksAre pla
       by_none true false = none
       by_none false seen = none
 
-      by_some : (ask : Request) → (here : Bool) → (found == port) ≡ here
+      by_some : (ask : Sent) → (here : Bool) → (found == port) ≡ here
           → open_after (before port) (if here then moment_if Accepts own
           (ask_if (takes_effect plan.layout link found) (Some ask)) else []) own ≡ open_if here false ask
       by_some ask true is =
           ap (λ b. open_after (before port) (moment_if Accepts own (ask_if b (Some ask))) own)
           (taken_there plan link has watched found own done at_port unseen port is side)
-          ∙ open_here (before port) (record { act = Accepts; wide = own; ask = ask }) own refl
+          ∙ open_here (before port) (record { act = Accepts; wide = own; sent = ask }) own refl
       by_some ask false is = none
 
-      by_ended : (o : Option Request) → ended ≡ o
+      by_ended : (o : Option Sent) → ended ≡ o
           → open_after (before port) (if found == port then moment_if Accepts own
           (ask_if (takes_effect plan.layout link found) o) else []) own
           ≡ open_in plan after port own (side_of link) (turn_by (link_number link) o)
@@ -148,14 +148,14 @@ module _ (plan : Plan) (s : State) (past : List Sighting) (linked : LinksAre pla
       ≡ open_after (before port) (more port) wide
   opened port wide =
       ap (λ l. open_after none_open l wide) (moments_are port)
-      ∙ ap (λ (f : ℕ → Option Request). f wide) (open_more none_open (moments plan port past) (more port))
+      ∙ ap (λ (f : ℕ → Option Sent). f wide) (open_more none_open (moments plan port past) (more port))
 
   same_open : (port wide : ℕ) (side : LinkSide) (t : Turn)
       → open_in plan s port wide side t ≡ open_in plan after port wide side t
   same_open port wide side Idle = refl
   same_open port wide side (Asking n) = refl
   same_open port wide side (Asked n ask) =
-      ap (λ k. open_if (port_for plan (link_on side n) ask == port) (replies_to plan (link_on side n) wide k) ask)
+      ap (λ k. open_if (port_for plan (link_on side n) ask.ask == port) (replies_to plan (link_on side n) wide k) ask)
       (sym (replying_stays (link_on side n)))
 
   pub ask_opens : AreOpen plan (state_after plan s (ask_at link known lanes beat)) (ask_at link known lanes beat ∷ past)
@@ -187,7 +187,7 @@ module _ (plan : Plan) (s : State) (past : List Sighting) (linked : LinksAre pla
       subst (λ l. AreInTurn (before port) l)
       (sym (ask_does plan s past linked link known lanes has watched beat port)) (go (found == port) refl)
     where
-      by_done : (found == port) ≡ true → (o : Option Request) → done ≡ o
+      by_done : (found == port) ≡ true → (o : Option Sent) → done ≡ o
           → AreInTurn (before port) (moment_if Accepts own o)
       by_done here None so = tt
       by_done here (Some ask) so = (

@@ -1,7 +1,7 @@
 -- A beat of a reply: the request that it answers is open before its first beat, and not afterwards.
 use Rattle.std.proofs.Common.{◌≡◌, ◌∙◌, ◌+◌, ℕ, Bool, true, false, if◌then◌else◌, List, [], ◌∷◌, ◌++◌, replicate, Option, Some, None, unwrap_or, refl, ap, sym, subst}
 use Rattle.std.specs.Prelude.{◌==◌, ◌&&◌}
-use Rattle.tl_types.specs.Request.{Request}
+use Rattle.check_cells.specs.Sent.{Sent}
 use Rattle.check_beats.specs.Message.{seen_cells as seen_bytes, is_spoiled}
 use Rattle.check_beats.specs.State.{Under, ReplyBegun, first_reply, ends_reply, replied_beats, replied_bytes, replied_spoiled}
 use Rattle.check_beats.specs.declared.beat.ReplyHead.{ReplyHead}
@@ -45,7 +45,7 @@ module _ (plan : Plan) (s : State) (past : List Sighting) (linked : LinksAre pla
   abbrev found : ℕ
   found = (scene_found plan s link (D beat)).port
 
-  abbrev done : Option Request
+  abbrev done : Option Sent
   done = answers_now plan s link beat
 
   abbrev after : State
@@ -54,13 +54,13 @@ module _ (plan : Plan) (s : State) (past : List Sighting) (linked : LinksAre pla
   abbrev more : ℕ → List RequestMoment
   more port = if found == port then moment_if Answers own done else []
 
-  abbrev before : ℕ → ℕ → Option Request
+  abbrev before : ℕ → ℕ → Option Sent
   before port = open_after none_open (moments plan port past)
 
-  answers : (ask : Request) × (turn ≡ Asked (link_number link) ask)
+  answers : (ask : Sent) × (turn ≡ Asked (link_number link) ask)
   answers = let is = asked_at (link_number link) turn _ allowed.answers in (is.0, is.1)
 
-  goes : port_for plan link answers.0 ≡ found
+  goes : port_for plan link answers.0.ask ≡ found
   goes = reply_goes plan link turn (link_number link) beat answers.0 answers.1
 
   unseen : takes_effect plan.layout link found ≡ false → done ≡ None
@@ -133,7 +133,7 @@ module _ (plan : Plan) (s : State) (past : List Sighting) (linked : LinksAre pla
       → open_after (before port) (more port) own ≡ None
   none_after port side = go under.replying refl
     where
-      Now : Bool → Option ReplyBegun → Option Request
+      Now : Bool → Option ReplyBegun → Option Sent
       Now here kept = open_after (before port) (if here then moment_if Answers own
           (ask_if (takes_effect plan.layout link found && begins_reply kept) (asked turn)) else []) own
 
@@ -142,7 +142,7 @@ module _ (plan : Plan) (s : State) (past : List Sighting) (linked : LinksAre pla
           ap (λ b. open_after (before port) (moment_if Answers own (ask_if (b && true) (asked turn))) own)
           (taken_there plan link has watched found own done at_port unseen port here side)
           ∙ ap (λ t. open_after (before port) (moment_if Answers own (asked t)) own) answers.1
-          ∙ open_here (before port) (record { act = Answers; wide = own; ask = answers.0 }) own refl
+          ∙ open_here (before port) (record { act = Answers; wide = own; sent = answers.0 }) own refl
       taken false here is =
           open_before port side ∙ ap (λ h. open_if h (replies_to plan link own under.replying) answers.0) here
 
@@ -169,8 +169,8 @@ module _ (plan : Plan) (s : State) (past : List Sighting) (linked : LinksAre pla
   none_in port flight same false is =
       ap (λ t. open_in plan after port own (side_of link) t) (same ∙ answers.1)
       ∙ ap (λ l. open_ask plan after port own l answers.0) (own_link link)
-      ∙ ap (λ b. open_if (port_for plan link answers.0 == port) b answers.0) (goes_on is)
-      ∙ not_open (port_for plan link answers.0 == port) answers.0
+      ∙ ap (λ b. open_if (port_for plan link answers.0.ask == port) b answers.0) (goes_on is)
+      ∙ not_open (port_for plan link answers.0.ask == port) answers.0
 
   -- ---- all sources
 
@@ -181,14 +181,14 @@ module _ (plan : Plan) (s : State) (past : List Sighting) (linked : LinksAre pla
       ≡ open_after (before port) (more port) wide
   opened port wide =
       ap (λ l. open_after none_open (moments plan port past ++ l) wide) (does port)
-      ∙ ap (λ (f : ℕ → Option Request). f wide) (open_more none_open (moments plan port past) (more port))
+      ∙ ap (λ (f : ℕ → Option Sent). f wide) (open_more none_open (moments plan port past) (more port))
 
   same_open : (port wide : ℕ) (side : LinkSide) (t : Turn) → (side_of link ≡ side → (own == wide) ≡ false)
       → open_in plan s port wide side t ≡ open_in plan after port wide side t
   same_open port wide side Idle other = refl
   same_open port wide side (Asking n) other = refl
   same_open port wide side (Asked n ask) other =
-      ap (λ b. open_if (port_for plan (link_on side n) ask == port) b ask)
+      ap (λ b. open_if (port_for plan (link_on side n) ask.ask == port) b ask)
       (sym (replying_stays wide (link_on side n) (λ same. other (same ∙ side_on side n))))
 
   other_source : (side : LinkSide) (wide : ℕ) → (same_side (side_of link) side && (own == wide)) ≡ false

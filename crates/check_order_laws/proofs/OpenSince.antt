@@ -3,28 +3,28 @@ use Rattle.std.proofs.Common.{◌≡◌, ◌∙◌, ◌⊎◌, inl, inr, ⊎_eli
 use Rattle.std.specs.Prelude.{◌≢◌}
 use Rattle.std.proofs.lemmas.Bool.{cases_eq}
 use Rattle.std.specs.List.{AllByRecursion}
-use Rattle.tl_types.specs.Request.{Request}
+use Rattle.check_cells.specs.Sent.{Sent}
 use Rattle.check_watch_laws.specs.Moments.{Act, RequestMoment}
 use Rattle.check_watch_laws.specs.Moments.Act.{Accepts, Answers}
 use Rattle.check_order_laws.specs.Open.{IsOpen}
 use Rattle.check_order_laws.proofs.InTurn.{open_by, open_then, open_after, none_open, open_here, open_there}
 
 -- it was open before, or it was accepted among these moments; and none of its source came later
-abbrev IsOpenSince : (ℕ → Option Request) → List RequestMoment → ℕ → Request → Type 0
+abbrev IsOpenSince : (ℕ → Option Sent) → List RequestMoment → ℕ → Sent → Type 0
 IsOpenSince held moments wide ask =
     IsOpen moments wide ask
     ⊎ ((held wide ≡ Some ask) × AllByRecursion (λ (moment : RequestMoment). moment.wide ≢ wide) moments)
 
-opened_by : (moment : RequestMoment) (ask : Request) → open_by moment.act moment.ask ≡ Some ask
-    → moment ≡ record { act = Accepts; wide = moment.wide; ask = ask }
+opened_by : (moment : RequestMoment) (ask : Sent) → open_by moment.act moment.sent ≡ Some ask
+    → moment ≡ record { act = Accepts; wide = moment.wide; sent = ask }
 opened_by moment ask is = go moment.act is
   where
-    go : (act : Act) → open_by act moment.ask ≡ Some ask
-        → record moment { act = act } ≡ record { act = Accepts; wide = moment.wide; ask = ask }
-    go Accepts is = let same : moment.ask ≡ ask = cc in ap (λ r. record moment { act = Accepts; ask = r }) same
+    go : (act : Act) → open_by act moment.sent ≡ Some ask
+        → record moment { act = act } ≡ record { act = Accepts; wide = moment.wide; sent = ask }
+    go Accepts is = let same : moment.sent ≡ ask = cc in ap (λ r. record moment { act = Accepts; sent = r }) same
     go Answers is = cc
 
-since : (held : ℕ → Option Request) (moments : List RequestMoment) (wide : ℕ) (ask : Request)
+since : (held : ℕ → Option Sent) (moments : List RequestMoment) (wide : ℕ) (ask : Sent)
     → open_after held moments wide ≡ Some ask → IsOpenSince held moments wide ask
 since held [] wide ask is = inr (is, tt)
 since held (moment ∷ moments) wide ask is =
@@ -43,7 +43,7 @@ since held (moment ∷ moments) wide ask is =
       before = [];
       later = moments;
       accepted = ap (λ m. m ∷ moments) made
-          ∙ ap (λ w. record { act = Accepts; wide = w; ask = ask } ∷ moments) (sym here);
+          ∙ ap (λ w. record { act = Accepts; wide = w; sent = ask } ∷ moments) (sym here);
       unanswered = was.1;
     }))
     (λ (apart : wide ≢ moment.wide).
@@ -51,7 +51,7 @@ since held (moment ∷ moments) wide ask is =
     (cases_eq wide moment.wide))
     (since (open_then held moment) moments wide ask is)
 
-pub open_is : (moments : List RequestMoment) (wide : ℕ) (ask : Request) → open_after none_open moments wide ≡ Some ask
+pub open_is : (moments : List RequestMoment) (wide : ℕ) (ask : Sent) → open_after none_open moments wide ≡ Some ask
     → IsOpen moments wide ask
 open_is moments wide ask is =
     ⊎_elim (λ (found : IsOpen moments wide ask). found)

@@ -1,13 +1,13 @@
 -- A slave of which requests take effect as they are answered: what is due of its replies is what it gives, if each takes
 -- effect right before it is answered.
 use Rattle.std.proofs.Common.{◌≡◌, ◌∙◌, ℕ, List, [], ◌∷◌, ◌++◌, Option, refl, ap, sym, subst}
-use Rattle.tl_types.specs.Request.{Request}
+use Rattle.check_cells.specs.Sent.{Sent}
 use Rattle.check_cells.specs.Pattern.{Pattern}
 use Rattle.check_contests.specs.Moments.{SlaveMoment, Truth, IsWaiting, IsServedCourse, MayAllCome, truth_accepting, truth_answering, truth_serving, truth_taking}
 use Rattle.check_contests.specs.Moments.SlaveMoment.{Accepts as SlaveAccepts, TakesEffect, Answers as SlaveAnswers}
 use Rattle.check_contests.specs.Moments.Course.{Idle, Waiting, Served}
 use Rattle.check_contests.proofs.Courses.{course-here}
-use Rattle.check_memory.specs.Slave.{slave_after, expected_of}
+use Rattle.check_contests.specs.Sent.{slave_after_sent, expected_of_sent}
 use Rattle.check_flight.specs.declared.order.Order.TheVariants.{Reply}
 use Rattle.check_flight.specs.PortSlave.{PortSlave, accepted_by, answered_by, due_accepted_by, due_answered_by, served_by}
 use Rattle.check_watch_laws.specs.Moments.{Act, RequestMoment, dues_of, entry_due, slave_then}
@@ -25,18 +25,18 @@ pub record GivesAll (port : ℕ) (slave : PortSlave) (truth : Truth) (seen : Lis
   pub gives : given_in truth all ≡ dues_of port slave seen
 
 module _ (port : ℕ) (slave : PortSlave) (truth : Truth) (order : slave.order ≡ Reply) (same : truth.slave ≡ slave.kept)
-    (wide : ℕ) (ask : Request) (moments : List RequestMoment) (later : List SlaveMoment) where
+    (wide : ℕ) (ask : Sent) (moments : List RequestMoment) (later : List SlaveMoment) where
   abbrev accepted : RequestMoment
-  accepted = record { act = Accepts; wide = wide; ask = ask }
+  accepted = record { act = Accepts; wide = wide; sent = ask }
 
   abbrev answered : RequestMoment
-  answered = record { act = Answers; wide = wide; ask = ask }
+  answered = record { act = Answers; wide = wide; sent = ask }
 
   accepts : truth.course wide ≡ Idle → CarriedBy Accepts ask
       → GivesAll port slave (truth_accepting truth wide ask) moments later
       → GivesAll port slave truth (accepted ∷ moments) (SlaveAccepts wide ask ∷ later)
   accepts idle carried rest = record {
-    may = ((idle, carried_at truth.slave ask carried), rest.may);
+    may = ((idle, carried_at truth.slave ask.ask carried), rest.may);
     shows = ap (λ l. accepted ∷ l) rest.shows;
     gives = rest.gives ∙ sym (dues_cons port slave accepted moments
         ∙ ap (λ o. entry_due wide ask (due_accepted_by o port slave ask)
@@ -45,7 +45,7 @@ module _ (port : ℕ) (slave : PortSlave) (truth : Truth) (order : slave.order �
   }
 
   abbrev expected : Pattern
-  expected = expected_of truth.slave ask
+  expected = expected_of_sent truth.slave ask
 
   abbrev serves : Truth
   serves = truth_serving truth wide ask
@@ -62,11 +62,11 @@ module _ (port : ℕ) (slave : PortSlave) (truth : Truth) (order : slave.order �
     gives = ap (λ c. given_in (truth_taking truth wide c) (SlaveAnswers wide ∷ later)) waits
         ∙ ap (λ c. answer_given wide c ++ given_in (truth_answering serves wide) later) is_served
         ∙ ap (λ l. one_entry wide ask expected ∷ l) rest.gives
-        ∙ ap (λ k. one_entry wide ask (expected_of k ask) ∷ dues_of port (served_by slave ask) moments) same
+        ∙ ap (λ k. one_entry wide ask (expected_of_sent k ask) ∷ dues_of port (served_by slave ask) moments) same
         ∙ sym (dues_cons port slave answered moments
         ∙ ap (λ o. entry_due wide ask (due_answered_by o port slave wide ask)
         ++ dues_of port (slave_then slave answered) moments) order
-        ∙ ap (λ o. one_entry wide ask (expected_of slave.kept ask)
+        ∙ ap (λ o. one_entry wide ask (expected_of_sent slave.kept ask)
         ∷ dues_of port (answered_by o slave wide ask) moments) order);
   }
     where
@@ -76,7 +76,7 @@ module _ (port : ℕ) (slave : PortSlave) (truth : Truth) (order : slave.order �
 -- so it is of all moments that come in turn
 abbrev AllGiven : ℕ → List RequestMoment → Type 0
 AllGiven port moments =
-    (held : ℕ → Option Request) (slave : PortSlave) (truth : Truth) → slave.order ≡ Reply → truth.slave ≡ slave.kept
+    (held : ℕ → Option Sent) (slave : PortSlave) (truth : Truth) → slave.order ≡ Reply → truth.slave ≡ slave.kept
     → HaveCourses Reply held truth.course → AreInTurn held moments → AreCarried moments
     → GivesAll port slave truth moments (with_effects Reply moments)
 
@@ -87,8 +87,8 @@ step port moment moments rest held slave truth order same courses turns carried 
     wide : ℕ
     wide = moment.wide
 
-    ask : Request
-    ask = moment.ask
+    ask : Sent
+    ask = moment.sent
 
     go : (act : Act) → IsInTurn act ask (held wide) → AreInTurn (open_then held (record moment { act = act })) moments
         → CarriedBy act ask → GivesAll port slave truth (record moment { act = act } ∷ moments)
@@ -106,8 +106,8 @@ step port moment moments rest held slave truth order same courses turns carried 
         (waiting_at (held wide) (truth.course wide) ask (courses wide) turn)
         (rest (open_then held here) (served_by slave ask)
         (truth_answering (truth_serving truth wide ask) wide) order
-        (ap (λ k. slave_after k ask) same)
-        (courses_over Reply (open_then held here) truth.course wide (Served ask (expected_of truth.slave ask)) Idle
+        (ap (λ k. slave_after_sent k ask) same)
+        (courses_over Reply (open_then held here) truth.course wide (Served ask (expected_of_sent truth.slave ask)) Idle
         (courses_then Reply held truth.course here Idle courses
         (subst (λ o. HasCourse Reply o Idle) (sym (open_here held here wide refl)) refl))) later carried.1)
 

@@ -59,8 +59,6 @@ module _ (plan : Plan) (before after : List PortSlave) where
   pub same_crossing : (past : List Sighting) (wide : ℕ) → MessagesCross one past wide → MessagesCross other past wide
   same_crossing past wide cross = record {
     owned = cross.owned;
-    waiting = cross.waiting;
     requests = cross.requests;
-    one_waits = cross.one_waits;
     given = cross.given;
   }

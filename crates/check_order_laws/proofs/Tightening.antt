@@ -3,7 +3,7 @@
 use Rattle.std.proofs.Common.{◌≡◌, ◌≢◌, ◌∙◌, inl, inr, ℕ, false, List, [], ◌∷◌, ◌++◌, Option, Some, None, refl, ap, sym, subst, arith, append-nil, append_assoc}
 use Rattle.std.specs.Prelude.{◌↔◌}
 use Rattle.std.proofs.lemmas.Bool.{eq-eqb}
-use Rattle.tl_types.specs.Request.{Request}
+use Rattle.check_cells.specs.Sent.{Sent}
 use Rattle.check_cells.specs.Pattern.{Pattern}
 use Rattle.check_contests.specs.declared.accepted.Accepted.{Accepted}
 use Rattle.check_contests.specs.Contests.{kept_of}
@@ -52,7 +52,7 @@ module _ (plan : Plan) (past : List Sighting) (watched : AreWatched plan.layout 
   abbrev flight : Flight
   flight = (state plan past).flights side wide
 
-  no_due : (number : ℕ) (ask : Request) → port_for plan (link_on side number) ask ≡ port
+  no_due : (number : ℕ) (ask : Sent) → port_for plan (link_on side number) ask.ask ≡ port
       → replies_to plan (link_on side number) wide
       ((state plan past).links (side_of (link_on side number)) (link_number (link_on side number))).replying ≡ false
       → (due : Option Answer) → HasBegun plan (state plan past) side wide (Asked number ask) due → due ≡ None
@@ -64,7 +64,7 @@ module _ (plan : Plan) (past : List Sighting) (watched : AreWatched plan.layout 
       (ap (λ k. replies_to plan (link_on side number) wide k) here.1
       ∙ eq-eqb _ wide here.2) unanswered)
 
-  pub none_owed : (ask : Request) → IsAskedAt plan (state plan past) port wide side flight.turn ask
+  pub none_owed : (ask : Sent) → IsAskedAt plan (state plan past) port wide side flight.turn ask
       → owed plan port wide side flight.turn flight.due ≡ []
   none_owed ask at =
       let due : flight.due ≡ None = no_due at.number ask at.goes at.unanswered flight.due
@@ -74,12 +74,12 @@ module _ (plan : Plan) (past : List Sighting) (watched : AreWatched plan.layout 
       ∙ ap (λ t. owed plan port wide side t None) at.turn_is
 
   -- what was captured fits what is due of the replies of a slave that keeps this
-  pub captured_keeps : (accept : List (Request × Pattern))
-      → KeepsBut wide None accept (history_at plan port past) (open_after none_open (moments plan port past) wide)
+  pub captured_keeps : (accept : List (Sent × Pattern))
+      → KeepsBut wide None None accept (history_at plan port past) (open_after none_open (moments plan port past) wide)
       → AreEntries wide (exchanges_at plan port wide past) (entries_of wide accept)
   captured_keeps accept keeps = go (open_after none_open (moments plan port past) wide) refl
     where
-      go : (left : Option Request) → open_after none_open (moments plan port past) wide ≡ left
+      go : (left : Option Sent) → open_after none_open (moments plan port past) wide ≡ left
           → AreEntries wide (exchanges_at plan port wide past) (entries_of wide accept)
       go None is =
           subst (λ l. AreEntries wide (exchanges_at plan port wide past) l)
@@ -131,14 +131,14 @@ module _ (plan : Plan) (before after : List PortSlave) where
   accept_due : (past : List Sighting) (port : ℕ) → AreWatched plan.layout past → IsLawfulGroup loose past
       → reset_of loose port ≡ record (reset_of strict port) { order = Any } → order_at strict port ≡ Accept
       → (reset_of strict port).contests ≡ [] → NothingIsContested strict port past
-      → (history : List (Request × Pattern)) × IsDueAt strict past port history
+      → (history : List (Sent × Pattern)) × IsDueAt strict past port history
   accept_due past port watched lawful is accept fresh none = (
     dues_of port (reset_of strict port) (moments plan port past),
     record {
       dues = refl;
       captured = λ wide. captured_keeps loose past watched lawful port any wide
           (dues_of port (reset_of strict port) (moments plan port past))
-          (subst (λ (k : List Accepted). KeepsBut wide (kept_of k wide)
+          (subst (λ (k : List Accepted). KeepsBut wide None (kept_of k wide)
           (dues_of port (reset_of strict port) (moments plan port past)) (history_at loose port past)
           (open_after none_open (moments plan port past) wide)) empty
           (nothing_lost port (reset_of strict port).kept (moments plan port past) none_open (reset_of strict port)
@@ -175,7 +175,7 @@ module _ (plan : Plan) (before after : List PortSlave) where
     tight_due : (past : List Sighting) → AreWatched plan.layout past → IsLawfulGroup loose past
         → ((port : ℕ) → order_at loose port ≢ order_at strict port → NothingIsContested strict port past)
         → (port : ℕ) → IsSameOrAny (reset_of loose port) (reset_of strict port)
-        → (history : List (Request × Pattern)) × IsDueAt strict past port history
+        → (history : List (Sent × Pattern)) × IsDueAt strict past port history
     tight_due past watched lawful none port (inl is) =
         same_due plan before after past port (sym is) (due_at loose past watched lawful port)
     tight_due past watched lawful none port (inr is) = go (order_at strict port) refl
@@ -184,7 +184,7 @@ module _ (plan : Plan) (before after : List PortSlave) where
         any = ap (λ (s : PortSlave). s.order) is
 
         go : (order : Order) → order_at strict port ≡ order
-            → (history : List (Request × Pattern)) × IsDueAt strict past port history
+            → (history : List (Sent × Pattern)) × IsDueAt strict past port history
         go Accept order =
             let differ : order_at loose port ≢ order_at strict port =
             λ same. let both : Any ≡ Accept = sym any ∙ same ∙ order in absurd (cc) in

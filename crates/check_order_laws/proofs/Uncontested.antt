@@ -1,18 +1,18 @@
 -- While nothing is contested, what is due of the replies of a slave of which nobody knows when it does its requests is,
 -- source by source, what is due of one that does them as they are accepted.
 use Rattle.std.proofs.Common.{◌≡◌, ◌∙◌, ⊎_elim, ℕ, List, [], ◌∷◌, ◌++◌, length, Option, Some, None, refl, ap, sym, subst, append-nil, append_assoc}
-use Rattle.std.specs.Prelude.{◌≢◌, option_map}
+use Rattle.std.specs.Prelude.{◌≢◌}
 use Rattle.std.proofs.lemmas.Bool.{cases_eq}
-use Rattle.tl_types.specs.Request.{Request}
+use Rattle.check_cells.specs.Sent.{Sent}
 use Rattle.check_cells.specs.Pattern.{Pattern}
-use Rattle.check_memory.specs.Slave.{slave_after, expected_of}
+use Rattle.check_contests.specs.Sent.{slave_after_sent, expected_of_sent}
 use Rattle.check_memory.specs.declared.slave.Slave.{Slave}
 use Rattle.check_memory.specs.declared.slave.Slave.TheVariants.{Memory, Device}
 use Rattle.check_contests.specs.declared.accepted.Accepted.{Accepted}
 use Rattle.check_contests.specs.Contests.{kept_of, kept_answering}
 use Rattle.check_contests.specs.Laws.{IsAsServed}
 use Rattle.check_contests.proofs.Courses.{entry_of}
-use Rattle.check_contests.proofs.Kept.{answering-other, answering-same}
+use Rattle.check_contests.proofs.Kept.{answering-other}
 use Rattle.check_flight.specs.declared.order.Order.TheVariants.{Accept, Any}
 use Rattle.check_flight.specs.PortSlave.{PortSlave, accepted_by, answered_by, answer_of_kept, contested_by, due_accepted_by, due_answered_by, served_by}
 use Rattle.check_watch_laws.specs.Memories.{entries_of}
@@ -23,27 +23,27 @@ use Rattle.check_order_laws.specs.Open.{AreApart, IsOpen}
 use Rattle.check_order_laws.proofs.InTurn.{open_by, open_then, open_after, open_more, open_here, open_there, none_open, IsInTurn, AreInTurn}
 use Rattle.check_order_laws.proofs.OpenSince.{open_is}
 use Rattle.check_order_laws.proofs.Effects.{one_entry, entry_own, entry_other}
-use Rattle.check_order_laws.proofs.Beside.{IsSameButCells, same_after, AreUncontestedAt, AreKept, none_there, kept_here, kept_there, kept_more, kept_less, as_served}
+use Rattle.check_order_laws.proofs.Beside.{IsSameButCells, same_after, AreUncontestedAt, ask_held, ask_kept, AreKept, kept_here, kept_there, kept_more, kept_less, as_served}
 
 -- ---- each request that is accepted is contested by none that is open
 
-abbrev pub BesideBy : Act → Slave → (ℕ → Option Request) → Request → Type 0
+abbrev pub BesideBy : Act → Slave → (ℕ → Option Sent) → Sent → Type 0
 BesideBy Accepts slave held ask =
-    (other : ℕ) (with : Request) → held other ≡ Some with → AreUncontestedAt slave ask with
+    (other : ℕ) (with : Sent) → held other ≡ Some with → AreUncontestedAt slave ask with
 BesideBy Answers slave held ask = Unit {0}
 
-abbrev pub AreBeside : Slave → (ℕ → Option Request) → List RequestMoment → Type 0
+abbrev pub AreBeside : Slave → (ℕ → Option Sent) → List RequestMoment → Type 0
 AreBeside slave held [] = Unit {0}
 AreBeside slave held (moment ∷ moments) =
-    BesideBy moment.act slave held moment.ask × AreBeside slave (open_then held moment) moments
+    BesideBy moment.act slave held moment.sent × AreBeside slave (open_then held moment) moments
 
-apart_at : (slave : Slave) (moments : List RequestMoment) (wide other : ℕ) (ask with : Request) → AreApart slave moments
+apart_at : (slave : Slave) (moments : List RequestMoment) (wide other : ℕ) (ask with : Sent) → AreApart slave moments
     → wide ≢ other → IsOpen moments wide ask → IsOpen moments other with → AreUncontestedAt slave ask with
 apart_at (Memory memory) moments wide other ask with apart different first second =
     apart wide other ask with different first second
 apart_at Device moments wide other ask with apart different first second = tt
 
-none_some : (ask : Request) → None ≡ Some ask → ⊥
+none_some : (ask : Sent) → None ≡ Some ask → ⊥
 none_some ask is = cc
 
 pub beside_all : (slave : Slave) (before moments : List RequestMoment)
@@ -58,50 +58,51 @@ beside_all slave before (moment ∷ moments) apart turns = (
       (subst (λ held. AreInTurn held moments) (sym (open_more none_open before (moment ∷ []))) turns.1)),
 )
   where
-    go : (act : Act) → moment.act ≡ act → IsInTurn act moment.ask (open_after none_open before moment.wide)
-        → BesideBy act slave (open_after none_open before) moment.ask
+    go : (act : Act) → moment.act ≡ act → IsInTurn act moment.sent (open_after none_open before moment.wide)
+        → BesideBy act slave (open_after none_open before) moment.sent
     go Answers is turn = tt
     go Accepts is turn = λ other with held.
         let here : List RequestMoment = before ++ moment ∷ [] in
         let after : (wide : ℕ) → open_after none_open here wide ≡ open_then (open_after none_open before) moment wide =
-        λ wide. ap (λ (f : ℕ → Option Request). f wide) (open_more none_open before (moment ∷ [])) in
+        λ wide. ap (λ (f : ℕ → Option Sent). f wide) (open_more none_open before (moment ∷ [])) in
         let different : moment.wide ≢ other =
         λ same. none_some with (sym turn ∙ ap (λ w. open_after none_open before w) same ∙ held) in
-        apart_at slave here moment.wide other moment.ask with
+        apart_at slave here moment.wide other moment.sent with
         (apart here moments (append_assoc before (moment ∷ []) moments)) different
-        (open_is here moment.wide moment.ask (after moment.wide
+        (open_is here moment.wide moment.sent (after moment.wide
         ∙ open_here (open_after none_open before) moment moment.wide refl
-        ∙ ap (λ a. open_by a moment.ask) is))
+        ∙ ap (λ a. open_by a moment.sent) is))
         (open_is here other with (after other
         ∙ open_there (open_after none_open before) moment other (λ same. different (sym same)) ∙ held))
 
 -- ---- what is due, source by source
 
--- what is due to the one that is kept, once it is answered
-abbrev pub waiting : ℕ → Option Accepted → List (Request × Pattern)
-waiting wide None = []
-waiting wide (Some entry) = one_entry wide entry.ask entry.due ∷ []
+-- what is due to the one that is open, once it is answered, by what is kept of it
+abbrev pub waiting : ℕ → Option Sent → Option Accepted → List (Sent × Pattern)
+waiting wide None kept = []
+waiting wide (Some sent) None = []
+waiting wide (Some sent) (Some entry) = one_entry wide sent entry.due ∷ []
 
--- of one source: what is due to the one that is kept, and to those that are accepted later, is what is due of those that are
+-- of one source: what is due to the one that is open, and to those that are accepted later, is what is due of those that are
 -- answered later, and at most one more, that of a request which is left open
-pub record KeepsBut (wide : ℕ) (kept : Option Accepted) (accept any : List (Request × Pattern)) (left : Option Request)
-    : Type 0 where
-  pub rest : List (Request × Pattern)
-  pub is : waiting wide kept ++ entries_of wide accept ≡ entries_of wide any ++ rest
+pub record KeepsBut (wide : ℕ) (held : Option Sent) (kept : Option Accepted) (accept any : List (Sent × Pattern))
+    (left : Option Sent) : Type 0 where
+  pub rest : List (Sent × Pattern)
+  pub is : waiting wide held kept ++ entries_of wide accept ≡ entries_of wide any ++ rest
   pub none : left ≡ None → rest ≡ []
-  pub some : (ask : Request) → left ≡ Some ask → length rest ≡ 1
+  pub some : (ask : Sent) → left ≡ Some ask → length rest ≡ 1
 
-module _ (port : ℕ) (held : ℕ → Option Request) (strict loose : PortSlave) (accept : strict.order ≡ Accept)
+module _ (port : ℕ) (held : ℕ → Option Sent) (strict loose : PortSlave) (accept : strict.order ≡ Accept)
     (any : loose.order ≡ Any) (same : loose.kept ≡ strict.kept) (are : AreKept held loose.contests) (wide : ℕ)
-    (ask : Request) (moments : List RequestMoment) where
+    (ask : Sent) (moments : List RequestMoment) where
   abbrev accepted : RequestMoment
-  accepted = record { act = Accepts; wide = wide; ask = ask }
+  accepted = record { act = Accepts; wide = wide; sent = ask }
 
   abbrev answered : RequestMoment
-  answered = record { act = Answers; wide = wide; ask = ask }
+  answered = record { act = Answers; wide = wide; sent = ask }
 
   abbrev expected : Pattern
-  expected = expected_of strict.kept ask
+  expected = expected_of_sent strict.kept ask
 
   strict_accepting : dues_of port strict (accepted ∷ moments)
       ≡ one_entry wide ask expected ∷ dues_of port (served_by strict ask) moments
@@ -140,15 +141,17 @@ module _ (port : ℕ) (held : ℕ → Option Request) (strict loose : PortSlave)
 
   -- the one of another source stays
   accepts : held wide ≡ None → IsAsServed loose.kept loose.contests wide loose.served ask → (other : ℕ)
-      (later : Option Request)
-      → KeepsBut other (kept_of (contested_by loose wide ask).contests other)
+      (later : Option Sent)
+      → KeepsBut other (open_then held accepted other) (kept_of (contested_by loose wide ask).contests other)
       (dues_of port (served_by strict ask) moments) (dues_of port (contested_by loose wide ask) moments) later
-      → KeepsBut other (kept_of loose.contests other) (dues_of port strict (accepted ∷ moments))
+      → KeepsBut other (held other) (kept_of loose.contests other) (dues_of port strict (accepted ∷ moments))
       (dues_of port loose (accepted ∷ moments)) later
   accepts none served other later was = record {
     rest = was.rest;
-    is = ap (λ l. waiting other (kept_of loose.contests other) ++ entries_of other l) strict_accepting
-        ∙ front ∙ ap (λ k. waiting other (kept_of k other) ++ entries_of other dues) (sym served.keeps)
+    is = ap (λ l. waiting other (held other) (kept_of loose.contests other) ++ entries_of other l) strict_accepting
+        ∙ front
+        ∙ ap (λ k. waiting other (open_then held accepted other) (kept_of k other) ++ entries_of other dues)
+        (sym served.keeps)
         ∙ was.is ∙ ap (λ l. entries_of other l ++ was.rest) (sym loose_accepting);
     none = was.none;
     some = was.some;
@@ -158,85 +161,95 @@ module _ (port : ℕ) (held : ℕ → Option Request) (strict loose : PortSlave)
       kept = loose.contests
 
       new : Accepted
-      new = record { wide = wide; ask = ask; due = expected_of loose.kept ask; index = loose.served }
+      new = record { wide = wide; ask = ask.ask; due = expected_of_sent loose.kept ask; index = loose.served }
 
-      dues : List (Request × Pattern)
+      dues : List (Sent × Pattern)
       dues = dues_of port (served_by strict ask) moments
 
-      front : waiting other (kept_of kept other) ++ entries_of other (one_entry wide ask expected ∷ dues)
-          ≡ waiting other (kept_of (kept ++ new ∷ []) other) ++ entries_of other dues
+      front : waiting other (held other) (kept_of kept other) ++ entries_of other (one_entry wide ask expected ∷ dues)
+          ≡ waiting other (open_then held accepted other) (kept_of (kept ++ new ∷ []) other) ++ entries_of other dues
       front = ⊎_elim
-          (λ (is : other ≡ wide). subst (λ w. waiting w (kept_of kept w) ++ entries_of w (one_entry wide ask expected ∷ dues)
-          ≡ waiting w (kept_of (kept ++ new ∷ []) w) ++ entries_of w dues) (sym is)
-          (ap (λ k. waiting wide k ++ entries_of wide (one_entry wide ask expected ∷ dues))
-          (none_there held kept wide are none)
+          (λ (is : other ≡ wide). subst (λ w. waiting w (held w) (kept_of kept w)
+          ++ entries_of w (one_entry wide ask expected ∷ dues)
+          ≡ waiting w (open_then held accepted w) (kept_of (kept ++ new ∷ []) w) ++ entries_of w dues) (sym is)
+          (ap (λ h. waiting wide h (kept_of kept wide) ++ entries_of wide (one_entry wide ask expected ∷ dues)) none
           ∙ entry_own wide ask expected dues
-          ∙ ap (λ k. one_entry wide ask (expected_of k ask) ∷ entries_of wide dues) (sym same)
-          ∙ ap (λ k. waiting wide k ++ entries_of wide dues)
-          (sym (kept_here held kept are loose.kept wide loose.served ask none))))
+          ∙ ap (λ k. one_entry wide ask (expected_of_sent k ask) ∷ entries_of wide dues) (sym same)
+          ∙ ap (λ k. waiting wide (Some ask) k ++ entries_of wide dues)
+          (sym (kept_here held kept are loose.kept wide loose.served ask none))
+          ∙ ap (λ h. waiting wide h (kept_of (kept ++ new ∷ []) wide) ++ entries_of wide dues)
+          (sym (open_here held accepted wide refl))))
           (λ (apart : other ≢ wide).
-          ap (λ l. waiting other (kept_of kept other) ++ l)
+          ap (λ l. waiting other (held other) (kept_of kept other) ++ l)
           (entry_other other wide ask expected dues (λ is. apart (sym is)))
-          ∙ ap (λ k. waiting other k ++ entries_of other dues)
-          (sym (kept_there held kept are loose.kept wide loose.served ask none other apart)))
+          ∙ ap (λ k. waiting other (held other) k ++ entries_of other dues)
+          (sym (kept_there held kept are loose.kept wide loose.served ask none other apart))
+          ∙ ap (λ h. waiting other h (kept_of (kept ++ new ∷ []) other) ++ entries_of other dues)
+          (sym (open_there held accepted other apart)))
           (cases_eq other wide)
 
-  answers : (entry : Accepted) → kept_of loose.contests wide ≡ Some entry → entry.ask ≡ ask → (other : ℕ)
-      (later : Option Request)
-      → KeepsBut other (kept_of (kept_answering loose.contests wide) other) (dues_of port strict moments)
-      (dues_of port left moments) later
-      → KeepsBut other (kept_of loose.contests other) (dues_of port strict (answered ∷ moments))
+  answers : (entry : Accepted) → kept_of loose.contests wide ≡ Some entry → held wide ≡ Some ask → (other : ℕ)
+      (later : Option Sent)
+      → KeepsBut other (open_then held answered other) (kept_of (kept_answering loose.contests wide) other)
+      (dues_of port strict moments) (dues_of port left moments) later
+      → KeepsBut other (held other) (kept_of loose.contests other) (dues_of port strict (answered ∷ moments))
       (dues_of port loose (answered ∷ moments)) later
-  answers entry there asks other later was = record {
+  answers entry there turn other later was = record {
     rest = was.rest;
-    is = ap (λ l. waiting other (kept_of loose.contests other) ++ entries_of other l) strict_answering
+    is = ap (λ l. waiting other (held other) (kept_of loose.contests other) ++ entries_of other l) strict_answering
         ∙ both was.rest was.is ∙ ap (λ l. entries_of other l ++ was.rest) (sym (loose_answering entry there));
     none = was.none;
     some = was.some;
   }
     where
-      dues : List (Request × Pattern)
+      dues : List (Sent × Pattern)
       dues = dues_of port strict moments
 
-      given : List (Request × Pattern)
+      given : List (Sent × Pattern)
       given = dues_of port left moments
 
-      both : (more : List (Request × Pattern))
-          → waiting other (kept_of (kept_answering loose.contests wide) other) ++ entries_of other dues
+      both : (more : List (Sent × Pattern))
+          → waiting other (open_then held answered other) (kept_of (kept_answering loose.contests wide) other)
+          ++ entries_of other dues
           ≡ entries_of other given ++ more
-          → waiting other (kept_of loose.contests other) ++ entries_of other dues
+          → waiting other (held other) (kept_of loose.contests other) ++ entries_of other dues
           ≡ entries_of other (one_entry wide ask entry.due ∷ given) ++ more
       both more = ⊎_elim
           (λ (is : other ≡ wide).
-          subst (λ w. waiting w (kept_of (kept_answering loose.contests wide) w) ++ entries_of w dues
+          subst (λ w. waiting w (open_then held answered w) (kept_of (kept_answering loose.contests wide) w)
+          ++ entries_of w dues
           ≡ entries_of w given ++ more
-          → waiting w (kept_of loose.contests w) ++ entries_of w dues
+          → waiting w (held w) (kept_of loose.contests w) ++ entries_of w dues
           ≡ entries_of w (one_entry wide ask entry.due ∷ given) ++ more) (sym is)
-          (λ here. ap (λ k. waiting wide k ++ entries_of wide dues) there
-          ∙ ap (λ r. one_entry wide r entry.due ∷ entries_of wide dues) asks
+          (λ here. ap (λ k. waiting wide (held wide) k ++ entries_of wide dues) there
+          ∙ ap (λ h. waiting wide h (Some entry) ++ entries_of wide dues) turn
           ∙ ap (λ l. one_entry wide ask entry.due ∷ l)
-          (ap (λ k. waiting wide k ++ entries_of wide dues)
-          (sym (answering-same loose.contests wide are.apart)) ∙ here)
+          (ap (λ h. waiting wide h (kept_of (kept_answering loose.contests wide) wide) ++ entries_of wide dues)
+          (sym (open_here held answered wide refl)) ∙ here)
           ∙ ap (λ l. l ++ more) (sym (entry_own wide ask entry.due given))))
           (λ (apart : other ≢ wide) here.
-          ap (λ k. waiting other k ++ entries_of other dues) (sym (answering-other loose.contests wide other apart))
+          ap (λ h. waiting other h (kept_of loose.contests other) ++ entries_of other dues)
+          (sym (open_there held answered other apart))
+          ∙ ap (λ k. waiting other (open_then held answered other) k ++ entries_of other dues)
+          (sym (answering-other loose.contests wide other apart))
           ∙ here
           ∙ ap (λ l. l ++ more) (sym (entry_other other wide ask entry.due given (λ is. apart (sym is)))))
           (cases_eq other wide)
 
-one_waits : (wide : ℕ) (kept : Option Accepted) (held : Option Request) (ask : Request)
-    → option_map (λ (entry : Accepted). entry.ask) kept ≡ held → held ≡ Some ask → length (waiting wide kept) ≡ 1
-one_waits wide None held ask is some = let no : None ≡ Some ask = is ∙ some in absurd (none_some ask no)
-one_waits wide (Some entry) held ask is some = refl
+one_waits : (wide : ℕ) (kept : Option Accepted) (held : Option Sent) (ask : Sent)
+    → ask_kept kept ≡ ask_held held → held ≡ Some ask → length (waiting wide held kept) ≡ 1
+one_waits wide kept None ask is some = absurd (none_some ask some)
+one_waits wide None (Some sent) ask is some = cc
+one_waits wide (Some entry) (Some sent) ask is some = refl
 
 -- so it is of all moments that come in turn
 abbrev NothingLost : ℕ → Slave → List RequestMoment → Type 0
 NothingLost port reset moments =
-    (held : ℕ → Option Request) (strict loose : PortSlave) → strict.order ≡ Accept → loose.order ≡ Any
+    (held : ℕ → Option Sent) (strict loose : PortSlave) → strict.order ≡ Accept → loose.order ≡ Any
     → loose.kept ≡ strict.kept → IsSameButCells loose.kept reset → AreKept held loose.contests → AreInTurn held moments
     → AreBeside reset held moments → (wide : ℕ)
-    → KeepsBut wide (kept_of loose.contests wide) (dues_of port strict moments) (dues_of port loose moments)
-    (open_after held moments wide)
+    → KeepsBut wide (held wide) (kept_of loose.contests wide) (dues_of port strict moments)
+    (dues_of port loose moments) (open_after held moments wide)
 
 step : (port : ℕ) (reset : Slave) (moment : RequestMoment) (moments : List RequestMoment) → NothingLost port reset moments
     → NothingLost port reset (moment ∷ moments)
@@ -246,12 +259,13 @@ step port reset moment moments rest held strict loose accept any same kind are t
     wide : ℕ
     wide = moment.wide
 
-    ask : Request
-    ask = moment.ask
+    ask : Sent
+    ask = moment.sent
 
     go : (act : Act) → IsInTurn act ask (held wide) → AreInTurn (open_then held (record moment { act = act })) moments
         → BesideBy act reset held ask → AreBeside reset (open_then held (record moment { act = act })) moments
-        → KeepsBut other (kept_of loose.contests other) (dues_of port strict (record moment { act = act } ∷ moments))
+        → KeepsBut other (held other) (kept_of loose.contests other)
+        (dues_of port strict (record moment { act = act } ∷ moments))
         (dues_of port loose (record moment { act = act } ∷ moments))
         (open_after (open_then held (record moment { act = act })) moments other)
     go Accepts turn later by bys =
@@ -260,14 +274,14 @@ step port reset moment moments rest held strict loose accept any same kind are t
         accepts port held strict loose accept any same are wide ask moments turn served other
         (open_after (open_then held here) moments other)
         (rest (open_then held here) (served_by strict ask) (contested_by loose wide ask)
-        accept any (served.leaves ∙ ap (λ k. slave_after k ask) same)
+        accept any (served.leaves ∙ ap (λ k. slave_after_sent k ask) same)
         (subst (λ k. IsSameButCells k reset) (sym served.leaves) (same_after loose.kept reset ask kind))
         (subst (λ k. AreKept (open_then held here) k) (sym served.keeps)
         (kept_more held loose.contests are loose.kept wide loose.served ask turn)) later bys other)
     go Answers turn later by bys =
         let here : RequestMoment = record moment { act = Answers } in
-        let entry = entry_of (kept_of loose.contests wide) ask (are.asks wide ∙ turn) in
-        answers port held strict loose accept any same are wide ask moments entry.0 entry.1 entry.2 other
+        let entry = entry_of (kept_of loose.contests wide) ask.ask (are.asks wide ∙ ap ask_held turn) in
+        answers port held strict loose accept any same are wide ask moments entry.0 entry.1 turn other
         (open_after (open_then held here) moments other)
         (rest (open_then held here) strict
         (record loose { contests = kept_answering loose.contests wide }) accept any same kind
@@ -275,11 +289,11 @@ step port reset moment moments rest held strict loose accept any same kind are t
 
 pub nothing_lost : (port : ℕ) (reset : Slave) (moments : List RequestMoment) → NothingLost port reset moments
 nothing_lost port reset [] held strict loose accept any same kind are turns beside wide = record {
-  rest = waiting wide (kept_of loose.contests wide);
-  is = ap (λ l. waiting wide (kept_of loose.contests wide) ++ entries_of wide l) (dues_none port strict)
-      ∙ append-nil (waiting wide (kept_of loose.contests wide))
-      ∙ ap (λ l. entries_of wide l ++ waiting wide (kept_of loose.contests wide)) (sym (dues_none port loose));
-  none = λ none. ap (λ k. waiting wide k) (none_there held loose.contests wide are none);
+  rest = waiting wide (held wide) (kept_of loose.contests wide);
+  is = ap (λ l. waiting wide (held wide) (kept_of loose.contests wide) ++ entries_of wide l) (dues_none port strict)
+      ∙ append-nil (waiting wide (held wide) (kept_of loose.contests wide))
+      ∙ ap (λ l. entries_of wide l ++ waiting wide (held wide) (kept_of loose.contests wide)) (sym (dues_none port loose));
+  none = λ none. ap (λ h. waiting wide h (kept_of loose.contests wide)) none;
   some = λ ask some. one_waits wide (kept_of loose.contests wide) (held wide) ask (are.asks wide) some;
 }
 nothing_lost port reset (moment ∷ moments) held strict loose accept any same kind are turns beside wide =

@@ -1,7 +1,7 @@
 -- A slave whose order is known does its requests at moments that a slave may have whose order nobody knows.
 use Rattle.std.proofs.Common.{◌≡◌, ◌∙◌, ℕ, List, [], ◌++◌, length, Option, Some, None, refl, ap, sym, subst, arith, append-nil}
 use Rattle.std.proofs.lemmas.Bool.{eq-eqb}
-use Rattle.tl_types.specs.Request.{Request}
+use Rattle.check_cells.specs.Sent.{Sent}
 use Rattle.check_cells.specs.Pattern.{Pattern}
 use Rattle.check_contests.specs.Laws.{IsBelowAtReset}
 use Rattle.check_contests.specs.Moments.{untouched}
@@ -53,7 +53,7 @@ module _ (plan : Plan) (past : List Sighting) (watched : AreWatched plan.layout 
   abbrev side : LinkSide
   side = side_for plan.layout port
 
-  abbrev dues : List (Request × Pattern)
+  abbrev dues : List (Sent × Pattern)
   dues = history_at plan port past
 
   captured_due : (wide : ℕ) → AreEntries wide (exchanges_at plan port wide past) (entries_of wide dues)
@@ -62,7 +62,7 @@ module _ (plan : Plan) (past : List Sighting) (watched : AreWatched plan.layout 
       subst (λ l. AreEntries wide (exchanges_at plan port wide past) (entries_of wide l)) due.1.dues (due.1.captured wide)
 
   -- what was captured fits what the slave gave, if it fits what is due, and one that is not answered is left out
-  accept_captured : order_at plan port ≡ Accept → (wide : ℕ) (given : List (Request × Pattern))
+  accept_captured : order_at plan port ≡ Accept → (wide : ℕ) (given : List (Sent × Pattern))
       → accept.GivesBut wide CourseIdle dues given (open_after none_open (moments plan port past) wide)
       → AreEntries wide (exchanges_at plan port wide past) (entries_of wide given)
   accept_captured order wide given gives = go (open_after none_open (moments plan port past) wide) refl
@@ -70,7 +70,7 @@ module _ (plan : Plan) (past : List Sighting) (watched : AreWatched plan.layout 
       flight : Flight
       flight = (state plan past).flights side wide
 
-      go : (left : Option Request) → open_after none_open (moments plan port past) wide ≡ left
+      go : (left : Option Sent) → open_after none_open (moments plan port past) wide ≡ left
           → AreEntries wide (exchanges_at plan port wide past) (entries_of wide given)
       go None is =
           subst (λ l. AreEntries wide (exchanges_at plan port wide past) l)
@@ -85,7 +85,7 @@ module _ (plan : Plan) (past : List Sighting) (watched : AreWatched plan.layout 
           let one : length (owed plan port wide side flight.turn flight.due) ≡ 1 =
           ap (λ t. length (owed plan port wide side t flight.due)) at.turn_is
           ∙ one_owed plan port wide side at.number ask flight.due
-          (eq-eqb (port_for plan (link_on side at.number) ask) port at.goes)
+          (eq-eqb (port_for plan (link_on side at.number) ask.ask) port at.goes)
           (soon (ap (λ p. side_for plan.layout p) (sym at.goes)) (ap (λ p. order_at plan p) at.goes ∙ order)) in
           let same : entries_of wide given ≡ told.front =
           same_front (entries_of wide given) told.front gives.rest (owed plan port wide side flight.turn flight.due)

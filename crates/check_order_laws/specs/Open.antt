@@ -2,7 +2,7 @@
 -- in common that one of them may write. It is this project's own.
 use Rattle.std.specs.Prelude.{◌≡◌, ◌≢◌, ℕ, List, ◌∷◌, ◌++◌}
 use Rattle.std.specs.List.{AllByRecursion}
-use Rattle.tl_types.specs.Request.{Request}
+use Rattle.check_cells.specs.Sent.{Sent}
 use Rattle.check_contests.specs.Laws.{AreUncontested}
 use Rattle.check_memory.specs.declared.slave.Slave.{Slave}
 use Rattle.check_memory.specs.declared.slave.Slave.TheVariants.{Memory, Device}
@@ -14,17 +14,17 @@ use Rattle.check_watch_laws.specs.Moments.Act.{Accepts}
 
 -- among these moments of a port is one at which it accepts the request of a wide source, and later comes no moment of
 -- that source: the request is accepted and not answered
-pub record IsOpen (moments : List RequestMoment) (wide : ℕ) (ask : Request) : Type 0 where
+pub record IsOpen (moments : List RequestMoment) (wide : ℕ) (sent : Sent) : Type 0 where
   pub before : List RequestMoment
   pub later : List RequestMoment
-  pub accepted : moments ≡ before ++ record { act = Accepts; wide = wide; ask = ask } ∷ later
+  pub accepted : moments ≡ before ++ record { act = Accepts; wide = wide; sent = sent } ∷ later
   pub unanswered : AllByRecursion (λ (moment : RequestMoment). moment.wide ≢ wide) later
 
 -- no two requests that are open have a byte in common that one of them may write; a device keeps no bytes
 abbrev pub AreApart : Slave → List RequestMoment → Type 0
 AreApart (Memory memory) moments =
-    (wide other : ℕ) (ask with : Request) → wide ≢ other → IsOpen moments wide ask → IsOpen moments other with
-    → AreUncontested memory ask with
+    (wide other : ℕ) (sent with : Sent) → wide ≢ other → IsOpen moments wide sent → IsOpen moments other with
+    → AreUncontested memory sent.ask with.ask
 AreApart Device moments = Unit {0}
 
 -- so it is at each moment of a port

@@ -2,11 +2,13 @@
 use Rattle.std.proofs.Common.{◌≡◌, ◌∙◌, ℕ, Bool, true, false, if◌then◌else◌, ◌==◌, List, [], ◌∷◌, Option, Some, None, arith, refl, sym, ap}
 use Rattle.std.proofs.lemmas.Bool.Decides.{nat_tests}
 use Rattle.tl_types.specs.Request.{Request}
+use Rattle.check_cells.specs.Sent.{Sent, is_corrupt}
+use Rattle.check_memory.specs.Partial.{Partial, after_partial}
 use Rattle.check_memory.specs.declared.slave.Slave.{Slave}
 use Rattle.check_memory.specs.declared.slave.Slave.TheVariants.{Memory, Device}
-use Rattle.check_memory.specs.Slave.{slave_after}
 use Rattle.check_contests.specs.Contests.{slave_accepting}
-use Rattle.check_contests.specs.Cut.{IsLeftSlave}
+use Rattle.check_contests.specs.Sent.{slave_after_sent}
+use Rattle.check_contests.specs.Cut.{IsLeftSlave, memory_cut}
 use Rattle.check_contests.specs.declared.accepted.Accepted.{Accepted}
 use Rattle.check_flight.specs.PortSlave.{PortSlave, accepted_by, accepting, answered_by, answering, once_reset}
 use Rattle.check_flight.specs.declared.order.Order.{Order}
@@ -22,33 +24,38 @@ use Rattle.check_coverage.specs.Mirrors.{MirrorsView, mirrors_at, mirrors_of}
 
 -- ---- requests
 
-after_request : (kept : Slave) (ask : Request) → mirrors_of (slave_after kept ask) ≡ mirrors_of kept
-after_request (Memory memory) ask = refl
-after_request Device ask = refl
+after_memory : (corrupt : Bool) (memory : Partial) (ask : Request)
+    → mirrors_of (Memory (if corrupt then memory_cut memory ask else after_partial memory ask)) ≡ mirrors_of (Memory memory)
+after_memory true memory ask = refl
+after_memory false memory ask = refl
 
-after_contest : (kept : Slave) (contests : List Accepted) (ask : Request)
-    → mirrors_of (slave_accepting kept contests ask) ≡ mirrors_of kept
-after_contest (Memory memory) contests ask = refl
-after_contest Device contests ask = refl
+after_request : (kept : Slave) (sent : Sent) → mirrors_of (slave_after_sent kept sent) ≡ mirrors_of kept
+after_request (Memory memory) sent = after_memory (is_corrupt sent) memory sent.ask
+after_request Device sent = refl
 
-accepted_still : (order : Order) (slave : PortSlave) (wide : ℕ) (ask : Request)
+after_contest : (kept : Slave) (contests : List Accepted) (sent : Sent)
+    → mirrors_of (slave_accepting kept contests sent) ≡ mirrors_of kept
+after_contest (Memory memory) contests sent = after_memory (is_corrupt sent) memory sent.ask
+after_contest Device contests sent = refl
+
+accepted_still : (order : Order) (slave : PortSlave) (wide : ℕ) (ask : Sent)
     → mirrors_of (accepted_by order slave wide ask).kept ≡ mirrors_of slave.kept
 accepted_still Accept slave wide ask = after_request slave.kept ask
 accepted_still Reply slave wide ask = refl
 accepted_still Any slave wide ask = after_contest slave.kept slave.contests ask
 
-accepting_still : (slave : PortSlave) (wide : ℕ) (ask : Option Request)
+accepting_still : (slave : PortSlave) (wide : ℕ) (ask : Option Sent)
     → mirrors_of (accepting slave wide ask).kept ≡ mirrors_of slave.kept
 accepting_still slave wide None = refl
 accepting_still slave wide (Some ask) = accepted_still slave.order slave wide ask
 
-answered_still : (order : Order) (slave : PortSlave) (wide : ℕ) (ask : Request)
+answered_still : (order : Order) (slave : PortSlave) (wide : ℕ) (ask : Sent)
     → mirrors_of (answered_by order slave wide ask).kept ≡ mirrors_of slave.kept
 answered_still Accept slave wide ask = refl
 answered_still Reply slave wide ask = after_request slave.kept ask
 answered_still Any slave wide ask = refl
 
-answering_still : (slave : PortSlave) (wide : ℕ) (ask : Option Request)
+answering_still : (slave : PortSlave) (wide : ℕ) (ask : Option Sent)
     → mirrors_of (answering slave wide ask).kept ≡ mirrors_of slave.kept
 answering_still slave wide None = refl
 answering_still slave wide (Some ask) = answered_still slave.order slave wide ask

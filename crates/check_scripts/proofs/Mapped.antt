@@ -1,5 +1,5 @@
 -- What stands in a list that is mapped.
-use Rattle.std.proofs.Common.{◌≡◌, ◌∙◌, ℕ, List, Option, Some, None, slice_get, ap, sym, subst, refl}
+use Rattle.std.proofs.Common.{◌≡◌, ◌∙◌, ℕ, zero, suc, Bool, false, List, Option, Some, None, replicate, slice_get, ap, sym, subst, refl}
 use Rattle.std.specs.Prelude.{map, option_map}
 use Rattle.std.proofs.lemmas.Option.{slice_get-map}
 
@@ -12,3 +12,9 @@ from_map {A} {B} f P xs k each y at = go (slice_get xs k) refl
 
 pub in_map : {A B : Type 0} (f : A → B) (xs : List A) (k : ℕ) (x : A) → slice_get xs k ≡ Some x → slice_get (map f xs) k ≡ Some (f x)
 in_map {A} f xs k x is = slice_get-map f xs k ∙ ap (λ (p : Option A). option_map f p) is
+
+-- a mark among those that are not set
+pub none_marked : (n j : ℕ) (mark : Bool) → slice_get (replicate {A = Bool} n false) j ≡ Some mark → mark ≡ false
+none_marked zero j mark is = absurd (cc)
+none_marked (suc n) zero mark is = let same : false ≡ mark = cc in sym same
+none_marked (suc n) (suc j) mark is = none_marked n j mark is

@@ -1,5 +1,5 @@
 -- Beats on a bus of eight bytes spell the replies that they spell in `tl_beats`.
-use Rattle.std.proofs.Common.{◌≡◌, ◌∙◌, ℕ, zero, suc, ◌<◌, Bool, true, false, List, Option, Some, None, ap, sym, subst, refl, arith, replicate, length}
+use Rattle.std.proofs.Common.{◌≡◌, ◌∙◌, ℕ, zero, suc, ◌<◌, Bool, true, false, List, Option, Some, None, ap, sym, subst, refl, arith, length}
 use Rattle.std.specs.Prelude.{◌&&◌, not, map, slice_get, slice_index, IsTrue}
 use Rattle.std.specs.Int.{bit_at}
 use Rattle.std.proofs.lemmas.List.{length-map}
@@ -16,7 +16,7 @@ use Rattle.check_beats.specs.Rules.{IsMarkedBy}
 use Rattle.check_beats.specs.Spelling.{IsReplyBeatOf, SpellsReplyOnBus, StandsAt}
 use Rattle.check_scripts.specs.Beats.{all_lanes, reply_beat_of, AreMarkedByRules, ReplySpelledAlike}
 use Rattle.check_scripts.specs.Instance.{strict_rules}
-use Rattle.check_scripts.proofs.Mapped.{from_map, in_map}
+use Rattle.check_scripts.proofs.Mapped.{from_map, in_map, none_marked}
 
 -- each of the eight lanes is known
 lane_known : (lane : ℕ) → lane < 8 → bit_at all_lanes lane ≡ 1
@@ -83,12 +83,6 @@ not_spoiled : (denied corrupt : Bool) → (denied ≡ false → corrupt ≡ fals
 not_spoiled false corrupt strict = ap (λ (c : Bool). c && true) (strict refl)
 not_spoiled true true strict = refl
 not_spoiled true false strict = refl
-
--- no byte of a reply that is wholly known is spoiled
-none_marked : (n j : ℕ) (mark : Bool) → slice_get (replicate {A = Bool} n false) j ≡ Some mark → mark ≡ false
-none_marked zero j mark is = absurd (cc)
-none_marked (suc n) zero mark is = let same : false ≡ mark = cc in sym same
-none_marked (suc n) (suc j) mark is = none_marked n j mark is
 
 -- ---- beats
 

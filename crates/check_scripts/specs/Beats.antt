@@ -9,6 +9,7 @@ use Rattle.tl_beats.specs.Replies as narrow_reply
 use Rattle.tl_beats.specs.declared.beat.ABeat.{ABeat}
 use Rattle.tl_beats.specs.declared.beat.DBeat.{DBeat}
 use Rattle.check_cells.specs.Pattern.{seen_as}
+use Rattle.check_cells.specs.Sent.{unspoiled_ask}
 use Rattle.check_beats.specs.Bus.{active_mask_on_bus, beat_count_on_bus, lane_on_bus}
 use Rattle.check_beats.specs.Form.{IsLawfulMaskOnBus}
 use Rattle.check_beats.specs.Rules.{IsMarkedBy}
@@ -50,7 +51,8 @@ reply_beat_of beat = record {
 -- beats spell a request exactly if they do in `tl_beats`
 abbrev pub AskSpelledAlike : Type 0
 AskSpelledAlike =
-    (ask : Request) (beats : List ABeat) → SpellsAskOnBus 8 ask (map ask_beat_of beats) ↔ narrow.SpellsAsk ask beats
+    (ask : Request) (beats : List ABeat)
+    → SpellsAskOnBus 8 (unspoiled_ask ask) (map ask_beat_of beats) ↔ narrow.SpellsAsk ask beats
 
 -- the beats are marked corrupt as the standard asks: those that carry bytes of a denied reply are, and no others
 abbrev pub AreMarked : Response → List DBeat → Type 0

@@ -101,7 +101,7 @@ plain_master count = record {
   fifo = false;
 }
 
--- requests are aligned, no data of a reply is corrupt, and decoders look at all bytes of a request. A clock is a unit of time.
+-- requests are aligned, no data are corrupt, and decoders look at all bytes of a request. A clock is a unit of time.
 abbrev pub strict_rules : LinkRules
 strict_rules = record { unaligned = false; corrupt = false; by_address = false; period = 1 }
 

@@ -5,7 +5,7 @@ use Rattle.tl_types.specs.Fault.{IsFirstOf}
 use Rattle.tl_map.specs.Map.{RoutesBytes}
 use Rattle.tl_map.specs.declared.range.Range.{Range}
 use Rattle.check_beats.specs.Form.{FitsAsk, FitsReply, IsKnown}
-use Rattle.check_beats.specs.Rules.{IsAlignedBy, IsMarkedBy, decoded_size}
+use Rattle.check_beats.specs.Rules.{IsAlignedBy, IsAskMarkedBy, IsMarkedBy, decoded_size}
 use Rattle.check_beats.specs.State.{ends_reply, first_ask, first_reply}
 use Rattle.check_beats.specs.declared.beat.AskHead.{AskHead}
 use Rattle.check_beats.specs.declared.beat.ReplyHead.{ReplyHead}
@@ -65,13 +65,14 @@ module _ (layout : Layout) (links : LinkRules) (map : List (List Range)) (port :
       }
 
   pub up_to : (scene : Scene) (beat : AskHead) (known : ℕ) (lanes : List ℕ) (rank : ℕ)
-      → FitsAsk scene.under.bus (first_ask scene.under.asking) beat → IsAlignedBy links beat → IsKnown beat known
-      → beat.source < 65536 → (10 < rank → BeginsFree scene)
+      → FitsAsk scene.under.bus (first_ask scene.under.asking) beat → IsAlignedBy links beat → IsAskMarkedBy links beat
+      → IsKnown beat known → beat.source < 65536 → (10 < rank → BeginsFree scene)
       → (11 < rank → BeginsPlaced layout (Port port) scene beat)
       → AskUpTo layout (Port port) scene beat known lanes rank
-  up_to scene beat known lanes rank fits aligned seen small free placed = record {
+  up_to scene beat known lanes rank fits aligned marked seen small free placed = record {
     fits = fits;
     aligned = subst (λ (r : LinkRules). IsAlignedBy r beat) (sym own.rules) aligned;
+    marked = subst (λ (r : LinkRules). IsAskMarkedBy r beat) (sym own.rules) marked;
     known_lanes = seen;
     source = own_source beat.source small;
     free = free;

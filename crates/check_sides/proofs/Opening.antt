@@ -1,6 +1,6 @@
 -- Requests at a port's link that a reset cuts short, as they are looked at one after the other.
 use Rattle.std.proofs.Common.{◌≡◌, ◌∙◌, ◌⊎◌, inl, inr, ⊎_elim, ℕ, zero, suc, List, [], ◌∷◌, ◌++◌, map, slice_get, Option, Some, None, refl, sym, ap, subst}
-use Rattle.std.specs.Prelude.{unwrap_or}
+use Rattle.std.specs.Prelude.{option_map, unwrap_or}
 use Rattle.std.specs.Borrow.{Bor}
 use Rattle.std.specs.Cmp.{eq_by_cmp_equiv}
 use Rattle.std.specs.List.{IsDistinct}
@@ -10,13 +10,13 @@ use Rattle.std.proofs.lemmas.Bool.{eqb-true}
 use Rattle.std.proofs.lemmas.Cmp.{nat_cmp_total}
 use Rattle.std.proofs.lemmas.Map.Entries.{lookup_from_place, place_from_lookup}
 use Rattle.tl_types.specs.Request.{Request}
+use Rattle.check_cells.specs.Sent.{Sent}
 use Rattle.check_beats.specs.State.{AskBegun, ask_so_far}
 use Rattle.check_flight.specs.declared.flight.Flight as flight
-use Rattle.check_flight.specs.Flight.{Flight, IsAskedAt, Turn, asked, idle}
-use Rattle.check_flight.specs.Flight.Turn.{Idle, Asking, Asked}
+use Rattle.check_flight.specs.Flight.{Flight, IsAskedAt, IsEndedAsk, asked, idle}
 use Rattle.check_flight.specs.PortSlave.{PortSlave, once_cut}
 use Rattle.check_watch.specs.Reset.{IsLeftPort}
-use Rattle.check_watch.proofs.Resetting.{none_left_port, cut_left_port, both_left_port, alike_left_port}
+use Rattle.check_watch.proofs.Resetting.{none_left_port, cut_left_port, both_left_port, alike_left_port, ask_here, ask_told, ask_at}
 use Rattle.check_sides.specs.Flights.{IsOpenFlight, IsOpenOf, flight_kept, flight_of}
 use Rattle.check_sides.proofs.Puts.{same_key}
 
@@ -28,19 +28,14 @@ none_some a is = cc
 
 -- ---- one source
 
-turn_is : (turn : Turn) (port : ℕ) (ask : Request) → IsAskedAt port turn → asked turn ≡ Some ask → turn ≡ Asked port ask
-turn_is Idle port ask at is = absurd at
-turn_is (Asking number) port ask at is = absurd at
-turn_is (Asked number other) port ask at is =
-    ap (λ n. Asked n other) at ∙ ap (λ r. Asked port r) (some_same other ask is)
-
 pub open_cut : (port source : ℕ) (answering : Option ℕ) (flight : Flight) (slave : PortSlave) (ask : Request)
-    → IsAskedAt port flight.turn → asked flight.turn ≡ Some ask → (answering ≡ Some source → ⊥)
+    → IsAskedAt port flight.turn → option_map (λ (sent : Sent). sent.ask) (asked flight.turn) ≡ Some ask
+    → (answering ≡ Some source → ⊥)
     → IsLeftPort (IsOpenFlight port answering source flight) slave (once_cut slave ask)
 open_cut port source answering flight slave ask at is apart =
     alike_left_port (λ other. other ≡ ask) (IsOpenFlight port answering source flight) slave (once_cut slave ask)
-    (λ other same. (turn_is flight.turn port other at (is ∙ ap (λ r. Some r) (sym same)), apart))
-    (λ other held. some_same other ask (sym (ap (λ t. asked t) held.0) ∙ is))
+    (λ other same. (ask_here port other flight.turn at (is ∙ ap (λ r. Some r) (sym same)), apart))
+    (λ other held. some_same other ask (sym (ask_told port other flight.turn held.0) ∙ is))
     (cut_left_port slave ask)
 
 pub none_open : (port source : ℕ) (answering : Option ℕ) (flight : Flight) (slave : PortSlave)
@@ -49,7 +44,7 @@ pub none_open : (port source : ℕ) (answering : Option ℕ) (flight : Flight) (
 none_open port source answering flight slave why =
     none_left_port (IsOpenFlight port answering source flight) slave
     (λ ask held. ⊎_elim (λ own. held.1 own)
-    (λ none. none (subst (λ (t : Turn). IsAskedAt port t) (sym held.0) refl)) why)
+    (λ none. none (ask_at port ask flight.turn held.0)) why)
 
 -- ---- several of them
 
@@ -124,17 +119,15 @@ all_open kept port answering slave left apart =
               (sym (ap (λ o. unwrap_or o idle) found)) at.4,
         )
 
-    idle_open : (ask : Request) → Idle ≡ Asked port ask → ⊥
-    idle_open ask is = cc
-
     by_kept : (source : ℕ) (found : Option Flight) → flight_kept kept source ≡ found → (ask : Request)
         → IsOpenFlight port answering source (flight_of kept source) ask → OpenIn kept port answering ask
-    by_kept source None none ask held = absurd (idle_open ask (ap (λ o. (unwrap_or o idle).turn) (sym none) ∙ held.0))
+    by_kept source None none ask held =
+        absurd (subst (λ (o : Option Flight). IsEndedAsk port ask (unwrap_or o idle).turn) none held.0)
     by_kept source (Some flight) found ask held =
         let at = place_from_lookup (λ key. is_eq (nat_cmp source key)) kept flight found in
         let own : source ≡ at.1 = eqb-true source at.1 (sym (same_key source at.1) ∙ at.3) in
         open_at kept at.0 (at.1, flight) port answering ask at.2 (
-          ap (λ o. (unwrap_or o idle).turn) (sym found) ∙ held.0,
+          subst (λ (o : Option Flight). IsEndedAsk port ask (unwrap_or o idle).turn) found held.0,
           subst (λ (n : ℕ). answering ≡ Some n → ⊥) own held.1,
         )
 

@@ -7,7 +7,7 @@ use Rattle.check_beats.specs.declared.bus.Bus.{Bus}
 use Rattle.tl_types.specs.Request.{Request}
 use Rattle.check_beats.specs.State.{Under, ask_so_far, nothing_under, replying_source}
 use Rattle.check_memory.specs.declared.slave.Slave.{Slave}
-use Rattle.check_flight.specs.Flight.{Flight}
+use Rattle.check_flight.specs.Flight.{Flight, IsEndedAsk}
 use Rattle.check_flight.specs.PortSlave.{PortSlave}
 use Rattle.check_flight.specs.Side.{bus_at}
 use Rattle.check_watch.specs.declared.beat.Link.TheVariants.{Port}
@@ -125,7 +125,7 @@ module _ (plan : Plan) (port : ℕ) (past : List Sighting) (link : PortView) (kn
         (
           taken ask,
           (
-            ap (λ (f : Flight). f.turn) (keeps.flights opened.0) ∙ opened.1.0,
+            subst (λ (f : Flight). IsEndedAsk port ask f.turn) (sym (keeps.flights opened.0)) opened.1.0,
             λ answered. opened.1.1 (ap (λ (u : Under). replying_source u.replying) (sym keeps.under) ∙ answered.1
                 ∙ ap (λ (n : ℕ). Some n) (sym answered.2)),
           ),
@@ -138,7 +138,7 @@ module _ (plan : Plan) (port : ℕ) (past : List Sighting) (link : PortView) (kn
       (λ opened. inr (
         opened.0,
         (
-          ap (λ (f : Flight). f.turn) (sym (keeps.flights opened.0)) ∙ opened.1.1.0,
+          subst (λ (f : Flight). IsEndedAsk port ask f.turn) (keeps.flights opened.0) opened.1.1.0,
           λ replying. opened.1.1.1 (opened.0, ap (λ (u : Under). replying_source u.replying) keeps.under ∙ replying, refl),
         ),
       )) is

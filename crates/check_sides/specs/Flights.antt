@@ -3,8 +3,7 @@ use Rattle.std.specs.Prelude.{◌≡◌, ℕ, if◌then◌else◌, ◌==◌, Lis
 use Rattle.tl_types.specs.Request.{Request}
 use Rattle.std.specs.Map.{lookup}
 use Rattle.std.specs.Ordering.{is_eq, nat_cmp}
-use Rattle.check_flight.specs.Flight.{Flight, idle}
-use Rattle.check_flight.specs.Flight.Turn.{Asked}
+use Rattle.check_flight.specs.Flight.{Flight, idle, IsEndedAsk}
 
 -- what is kept of a source, if something is
 abbrev pub flight_kept : List (ℕ × Flight) → ℕ → Option Flight
@@ -31,7 +30,7 @@ IsChanged before after source f = IsFlightKept before after source (option_map f
 
 -- the request of a source has ended at the link of a port, and the reply that is under way is not its own
 abbrev pub IsOpenFlight : ℕ → Option ℕ → ℕ → Flight → Request → Type 0
-IsOpenFlight port answering source flight ask = (flight.turn ≡ Asked port ask) × (answering ≡ Some source → ⊥)
+IsOpenFlight port answering source flight ask = IsEndedAsk port ask flight.turn × (answering ≡ Some source → ⊥)
 
 -- the same of one of the sources
 abbrev pub IsOpenOf : List (ℕ × Flight) → ℕ → Option ℕ → Request → Type 0

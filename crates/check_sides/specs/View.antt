@@ -1,10 +1,10 @@
 -- What a judge keeps of the beats so far. It is this project's own.
 use Rattle.std.specs.Prelude.{◌≡◌, ℕ, ◌<◌, if◌then◌else◌, ◌==◌, List, [], map, Option, Some, None, IsTrue, IsSomeAnd, length, slice_get}
 use Rattle.std.specs.List.{zip}
-use Rattle.tl_types.specs.Request.{Request}
 use Rattle.tl_map.specs.declared.range.Range.{Range}
 use Rattle.tl_map.specs.Owner.{IsOwned}
 use Rattle.check_cells.specs.Pattern.{Pattern}
+use Rattle.check_cells.specs.Sent.{Sent}
 use Rattle.check_beats.specs.Bus.{bus_bytes}
 use Rattle.check_beats.specs.State.{Under, nothing_under}
 use Rattle.check_beats.specs.declared.beat.ReplyHead.{ReplyHead}
@@ -69,13 +69,13 @@ port_scene layout port beyond view beat =
     }) beat
 
 -- the request in flight of a source that the slave answers, if its reply begins with the next beat of channel D
-abbrev pub answered_in : PortView → ℕ → Option Request
+abbrev pub answered_in : PortView → ℕ → Option Sent
 answered_in view source = ask_if (begins_reply view.under.replying) (asked (flight_in view source).turn)
 
 -- the slave may need memory to answer it
 abbrev pub MayNeedToAnswer : PortView → ℕ → Type 0
 MayNeedToAnswer view source =
-    IsSomeAnd (answered_in view source) (λ ask. IsTrue (may_need_to_answer view.slave ask))
+    IsSomeAnd (answered_in view source) (λ sent. IsTrue (may_need_to_answer view.slave sent))
 
 -- the reply that the slave expects to what is in flight of a source
 abbrev pub due_in : PortView → ℕ → ℕ → Option Answer

@@ -94,7 +94,7 @@ fn cut_flight(
         return Ok(());
     }
     match flight.asked() {
-        Some(ask) => slave.cut_short(alloc, &AskSoFar::whole(ask)),
+        Some(sent) => slave.cut_short(alloc, &AskSoFar::whole(sent.ask())),
         None => Ok(()),
     }
 }

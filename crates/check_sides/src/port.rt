@@ -89,8 +89,8 @@ impl PortLink {
             return flight.due();
         }
         match flight.asked() {
-            Some(ask) => {
-                if self.slave.due_into(port, usize::from(source), ask, room) {
+            Some(sent) => {
+                if self.slave.due_into(port, usize::from(source), sent, room) {
                     Some(room)
                 } else {
                     flight.due()
@@ -108,7 +108,7 @@ impl PortLink {
         ensures { reply.new ≡ captured_in self.now beat.now known lanes.now }
     {
         let address = match self.flights.flight(beat.source).asked() {
-            Some(ask) => ask.address(),
+            Some(sent) => sent.ask().address(),
             None => 0,
         };
         self.under.reply_into(beat, address, known, lanes, reply);
@@ -291,7 +291,7 @@ impl PortLink {
         if !self.under.ends_reply(beat) {
             return Seen::Part;
         }
-        let Some(ask) = self.flights.flight(beat.source).asked() else {
+        let Some(sent) = self.flights.flight(beat.source).asked() else {
             return Seen::Part;
         };
         let mut room = Answer::blank();
@@ -300,7 +300,7 @@ impl PortLink {
                 let mut reply = Pattern::blank();
                 self.capture(beat, known, lanes, &mut reply);
                 Seen::WholeReply(SeenEntry {
-                    ask: ask.copy(),
+                    sent: sent.copy(),
                     reply,
                     port: answer.port,
                     index: answer.index,

@@ -41,7 +41,7 @@ one_moment plan port past x (A beat) =
   where
     go : (b : Bool) → length {A = AskSeen} (if b then record {
       link = x.link;
-      ask = ask_of (bus_of plan.layout x.link) (asking_at plan.layout x.link past) beat
+      sent = ask_of (bus_of plan.layout x.link) (asking_at plan.layout x.link past) beat
           (take (bus_of plan.layout x.link) x.lanes);
     } ∷ [] else []) ≤ 1
     go true = omega arith

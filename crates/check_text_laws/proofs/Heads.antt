@@ -3,6 +3,7 @@ use Rattle.std.proofs.Common.{◌≡◌, ◌≢◌, ◌∙◌, ◌⊎◌, inl, i
 use Rattle.std.specs.List.{AllByRecursion}
 use Rattle.tl_types.specs.Request.{Request}
 use Rattle.tl_map.specs.Map.{IsLawfulAddressMap}
+use Rattle.check_cells.specs.Sent.{Sent}
 use Rattle.check_beats.specs.Message.{op_of}
 use Rattle.check_flight.specs.Crossing.{Crossing}
 use Rattle.check_flight.specs.Crossing.Crossing.{Waiting, Crossed, Given}
@@ -40,19 +41,19 @@ use Rattle.check_text_laws.proofs.Rows.{counted_side}
 -- ---- what is open
 
 -- no later moment is of this source
-stays_open : (held : ℕ → Option Request) (later : List RequestMoment) (wide : ℕ)
+stays_open : (held : ℕ → Option Sent) (later : List RequestMoment) (wide : ℕ)
     → AllByRecursion (λ (moment : RequestMoment). moment.wide ≢ wide) later → open_after held later wide ≡ held wide
 stays_open held [] wide none = refl
 stays_open held (moment ∷ later) wide none =
     stays_open (open_then held moment) later wide none.1
     ∙ open_there held moment wide (λ is. none.0 (sym is))
 
-pub open_of : (all : List RequestMoment) (wide : ℕ) (ask : Request) → IsOpen all wide ask
+pub open_of : (all : List RequestMoment) (wide : ℕ) (ask : Sent) → IsOpen all wide ask
     → open_after none_open all wide ≡ Some ask
 open_of all wide ask is =
-    let accepted : RequestMoment = record { act = Accepts; wide = wide; ask = ask } in
+    let accepted : RequestMoment = record { act = Accepts; wide = wide; sent = ask } in
     ap (λ l. open_after none_open l wide) is.accepted
-    ∙ ap (λ (f : ℕ → Option Request). f wide) (open_more none_open is.before (accepted ∷ is.later))
+    ∙ ap (λ (f : ℕ → Option Sent). f wide) (open_more none_open is.before (accepted ∷ is.later))
     ∙ stays_open (open_then (open_after none_open is.before) accepted) is.later wide is.unanswered
     ∙ open_here (open_after none_open is.before) accepted wide refl
 
@@ -72,44 +73,43 @@ sides Each crosses = inl refl
 
 record IsSentAs (turn : Turn) (ask : Request) : Type 0 where
   number : ℕ
-  sent : Request
+  sent : Sent
   turn_is : turn ≡ Asked number sent
-  op : ask.op ≡ sent.op
-  address : ask.address ≡ sent.address
-  size : ask.size ≡ sent.size
+  op : ask.op ≡ sent.ask.op
+  address : ask.address ≡ sent.ask.address
+  size : ask.size ≡ sent.ask.size
 
-abbrev ask_in : Request → Turn → Request
-ask_in other Idle = other
-ask_in other (Asking n) = other
-ask_in other (Asked n ask) = ask
+abbrev sent_in : Sent → Turn → Sent
+sent_in other Idle = other
+sent_in other (Asking n) = other
+sent_in other (Asked n sent) = sent
 
-asked_same : (m n : ℕ) (one other : Request) → Asked m one ≡ Asked n other → one ≡ other
-asked_same m n one other is = ap (ask_in one) is
+asked_same : (m n : ℕ) (one other : Sent) → Asked m one ≡ Asked n other → one ≡ other
+asked_same m n one other is = ap (sent_in one) is
 
-some_pending : (there : Turn) (number : ℕ) (ask : Request) → there ≡ Asked number ask → pending AtPorts there ≡ [] → ⊥
+some_pending : (there : Turn) (number : ℕ) (ask : Sent) → there ≡ Asked number ask → pending AtPorts there ≡ [] → ⊥
 some_pending there number ask is none =
     let no : pending AtPorts (Asked number ask) ≡ [] = sym (ap (λ t. pending AtPorts t) is) ∙ none in absurd (cc)
 
-module _ (plan : Plan) (wide : ℕ) (story : Story) (there : Turn) (number : ℕ) (ask : Request)
+module _ (plan : Plan) (wide : ℕ) (story : Story) (there : Turn) (number : ℕ) (ask : Sent)
     (is : there ≡ Asked number ask) where
-  sent_out : (n : ℕ) (sent : Request) (out : Bool) (port : ℕ) (crossing : Crossing)
-      → IsOut plan wide story out port sent crossing there → IsSentAs (Asked n sent) ask
+  sent_out : (n : ℕ) (sent : Sent) (out : Bool) (port : ℕ) (crossing : Crossing)
+      → IsOut plan wide story out n port sent crossing there → IsSentAs (Asked n sent) ask.ask
   sent_out n sent false port crossing stands = absurd (some_pending there number ask is stands.free)
   sent_out n sent true port Waiting stands = absurd (some_pending there number ask is stands.free)
   sent_out n sent true port Crossed stands =
-      let same : ask ≡ record sent { source = wide } =
-      asked_same number port ask (record sent { source = wide }) (sym is ∙ stands.is) in
+      let same : ask ≡ stands.seen = asked_same number port ask stands.seen (sym is ∙ stands.is) in
       record {
         number = n;
         sent = sent;
         turn_is = refl;
-        op = ap (λ (r : Request). r.op) same;
-        address = ap (λ (r : Request). r.address) same;
-        size = ap (λ (r : Request). r.size) same;
+        op = ap (λ (r : Sent). r.ask.op) same ∙ stands.across.same.op;
+        address = ap (λ (r : Sent). r.ask.address) same ∙ stands.across.same.address;
+        size = ap (λ (r : Sent). r.ask.size) same ∙ stands.across.same.size;
       }
   sent_out n sent true port (Given answer) stands = absurd (some_pending there number ask is stands.free)
 
-  was_sent : (turn : Turn) (crossing : Crossing) → Stands plan wide story turn crossing there → IsSentAs turn ask
+  was_sent : (turn : Turn) (crossing : Crossing) → Stands plan wide story turn crossing there → IsSentAs turn ask.ask
   was_sent Idle crossing stands = absurd (some_pending there number ask is stands.free)
   was_sent (Asking n) crossing stands = absurd (some_pending there number ask is stands.free)
   was_sent (Asked n sent) crossing stands = sent_out n sent (is_out plan wide n sent) (goes_to plan wide n sent) crossing stands
@@ -130,7 +130,7 @@ module _ (plan : Plan) (is_plan : IsPlan plan) (map : IsLawfulAddressMap plan.la
     (past : List Sighting) (watched : AreGroupWatched plan.layout past)
     (lawful : IsGroupLawful plan past) (flights : List InFlight)
     (kept : AreKept plan (state plan past) (counted_side plan.layout.links) flights) (port wide : ℕ)
-    (ask : Request) (is_open : IsOpen (moments plan port past) wide ask) where
+    (ask : Sent) (is_open : IsOpen (moments plan port past) wide ask) where
   abbrev p : Plan
   p = plan
 
@@ -146,10 +146,10 @@ module _ (plan : Plan) (is_plan : IsPlan plan) (map : IsLawfulAddressMap plan.la
 
   -- a port's link has requests of the port alone
   routed : (number : ℕ) → (s.flights AtPorts wide).turn ≡ Asked number ask
-      → RoutesWide plan.layout wide ask.address ask.size number
+      → RoutesWide plan.layout wide ask.ask.address ask.ask.size number
   routed number is =
       let step = in_step p past lawful AtPorts wide in
-      last_of_all (IsInPlace p.layout wide) step.done (record { link = Port number; ask = ask })
+      last_of_all (IsInPlace p.layout wide) step.done (record { link = Port number; sent = ask })
       (subst (λ l. AllByRecursion (IsInPlace p.layout wide) l)
       (step.asks_are ∙ ap (λ t. step.done ++ pending AtPorts t) is) (asks_placed p past lawful AtPorts wide))
       number refl
@@ -162,30 +162,30 @@ module _ (plan : Plan) (is_plan : IsPlan plan) (map : IsLawfulAddressMap plan.la
   owned : (number : ℕ) → (s.flights AtMasters wide).turn ≡ Asked number ask → number ≡ owner
   owned number is =
       let step = in_step p past lawful AtMasters wide in
-      let own = last_of_all (IsOfMaster p.layout wide) step.done (record { link = Master number; ask = ask })
+      let own = last_of_all (IsOfMaster p.layout wide) step.done (record { link = Master number; sent = ask })
       (subst (λ l. AllByRecursion (IsOfMaster p.layout wide) l)
       (step.asks_are ∙ ap (λ t. step.done ++ pending AtMasters t) is) (asks_owned p is_plan past lawful wide)) in
-      ap link_number own.1 ∙ master_is p.layout.owners own.0 ask.source wide is_plan.owners own.2
+      ap link_number own.1 ∙ master_is p.layout.owners own.0 ask.ask.source wide is_plan.owners own.2
 
-  route_is : route_of plan owner ask.address ask.size ≡ port
+  route_is : route_of plan owner ask.ask.address ask.ask.size ≡ port
   route_is = go side at.number at.turn_is at.goes
     where
       by_owner : (master : ℕ) → master ≡ owner
-          → route_of plan owner ask.address ask.size ≡ route_of plan master ask.address ask.size
-      by_owner master is = ap (λ m. route_of plan m ask.address ask.size) (sym is)
+          → route_of plan owner ask.ask.address ask.ask.size ≡ route_of plan master ask.ask.address ask.ask.size
+      by_owner master is = ap (λ m. route_of plan m ask.ask.address ask.ask.size) (sym is)
 
       go : (sd : LinkSide) (number : ℕ) → (s.flights sd wide).turn ≡ Asked number ask
-          → port_for p (link_on sd number) ask ≡ port → route_of plan owner ask.address ask.size ≡ port
+          → port_for p (link_on sd number) ask.ask ≡ port → route_of plan owner ask.ask.address ask.ask.size ≡ port
       go AtMasters number is goes = by_owner number (owned number is) ∙ goes
       go AtPorts number is goes =
           let there = routed number is in
           by_owner there.master (master_is p.layout.owners there.master there.owns.0 wide is_plan.owners there.owns.1)
-          ∙ route_by_plan plan is_plan there.master ask.address ask.size number there.routes ∙ goes
+          ∙ route_by_plan plan is_plan there.master ask.ask.address ask.ask.size number there.routes ∙ goes
 
-  pub head : IsHead port (found wide flights) ask
+  pub head : IsHead port (found wide flights) ask.ask
   head = ⊎_elim
       (λ (same : side ≡ counted_side plan.layout.links).
-      let whole : IsWholeAs plan wide ask (found wide flights) =
+      let whole : IsWholeAs plan wide ask.ask (found wide flights) =
       subst (λ t. IsKeptAs plan wide t (found wide flights)) at.turn_is
       (subst (λ sd. IsKeptAs plan wide (s.flights sd wide).turn (found wide flights)) (sym same) (kept.turns wide)) in
       record {
@@ -203,7 +203,7 @@ module _ (plan : Plan) (is_plan : IsPlan plan) (map : IsLawfulAddressMap plan.la
       subst (λ sd. (s.flights sd wide).turn ≡ Asked at.number ask) both.1 at.turn_is in
       let sent = was_sent p wide (story_at p wide past) (s.flights AtPorts wide).turn at.number ask there
       (s.flights AtMasters wide).turn (s.crossings wide) (all_stand p is_plan both.0 past watched lawful wide) in
-      let whole : IsWholeAs plan wide sent.sent (found wide flights) =
+      let whole : IsWholeAs plan wide sent.sent.ask (found wide flights) =
       subst (λ t. IsKeptAs plan wide t (found wide flights)) sent.turn_is
       (subst (λ sd. IsKeptAs plan wide (s.flights sd wide).turn (found wide flights)) both.2 (kept.turns wide)) in
       record {

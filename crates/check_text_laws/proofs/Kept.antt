@@ -3,6 +3,7 @@ use Rattle.std.proofs.Common.{◌≡◌, ◌∙◌, ⊎_elim, ℕ, Bool, true, f
 use Rattle.std.specs.Prelude.{◌==◌, ◌&&◌, IsSomeAnd}
 use Rattle.tl_types.specs.Request.{Request}
 use Rattle.check_cells.specs.Pattern.{Pattern}
+use Rattle.check_cells.specs.Sent.{Sent}
 use Rattle.check_beats.specs.Form.{SameFields}
 use Rattle.check_beats.specs.Message.{op_of}
 use Rattle.check_beats.specs.State.{AskBegun, Under, ask_of, ends_ask, ends_reply, first_ask}
@@ -50,7 +51,7 @@ pub record IsBegunAs (plan : Plan) (wide : ℕ) (first : AskHead) (kept : Option
 abbrev pub IsKeptAs : Plan → ℕ → Turn → Option InFlight → Type 0
 IsKeptAs plan wide Idle kept = kept ≡ None
 IsKeptAs plan wide (Asking number) kept = Unit {0}
-IsKeptAs plan wide (Asked number ask) kept = IsWholeAs plan wide ask kept
+IsKeptAs plan wide (Asked number sent) kept = IsWholeAs plan wide sent.ask kept
 
 pub record AreKept (plan : Plan) (s : State) (side : LinkSide) (flights : List InFlight) : Type 0 where
   pub turns : (wide : ℕ) → IsKeptAs plan wide (s.flights side wide).turn (found wide flights)
@@ -58,8 +59,8 @@ pub record AreKept (plan : Plan) (s : State) (side : LinkSide) (flights : List I
       → (s.links (side_of link) (link_number link)).asking ≡ Some b
       → IsBegunAs plan (wide_of plan link b.first.source) b.first (found (wide_of plan link b.first.source) flights)
 
-asked_or_asking : (m n : ℕ) (ask : Request) → Asked m ask ≡ Asking n → ⊥
-asked_or_asking m n ask same = subst IsAsked same tt
+asked_or_asking : (m n : ℕ) (sent : Sent) → Asked m sent ≡ Asking n → ⊥
+asked_or_asking m n sent same = subst IsAsked same tt
   where
     IsAsked : Turn → Type 0
     IsAsked Idle = ⊥
@@ -260,7 +261,7 @@ module _ (plan : Plan) (s : State) (busy : AsksFly plan s) (flights : List InFli
   -- a reply answers what is in flight
   pub reply_answers : (beat : ReplyHead)
       → IsAllowedReply plan.layout link (scene_of plan s link (D beat)) beat known lanes
-      → (ask : Request)
+      → (ask : Sent)
       × ((s.flights (side_of link) (wide_of plan link beat.source)).turn ≡ Asked (link_number link) ask)
   reply_answers beat allowed =
       let is = asked_at (link_number link) (s.flights (side_of link) (wide_of p link beat.source)).turn _ allowed.answers in

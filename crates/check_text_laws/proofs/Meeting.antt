@@ -15,7 +15,7 @@ use Rattle.check_rows.specs.Row.{SeenRow}
 use Rattle.check_bins.specs.declared.bin.Bin.{Bin}
 use Rattle.check_bins.specs.declared.bin.Bin.TheVariants as bin
 use Rattle.check_bins.specs.declared.bin.CountedChannel.TheVariants as channel
-use Rattle.check_coverage.specs.Bins.{after_bins, ask_bins, bins, bins_by, bins_of, contested_bins, contests, first_bins, gap_bins, is_of_port, lane_bins, last_bins, mask_bins, meets, of_found, operation_of, bin_pair, place_bins, writes}
+use Rattle.check_coverage.specs.Bins.{after_bins, ask_bins, ask_part_bins, bins, bins_by, bins_of, contested_bins, contests, first_bins, is_of_port, lane_bins, last_bins, mask_bins, meets, of_found, operation_of, bin_pair, place_bins, writes}
 use Rattle.check_coverage.specs.Flights.{InFlight, end_of, flights_after, in_flight, is_counted, is_of, is_unaligned, ends_an_ask, ends_a_reply, wide_at}
 use Rattle.check_coverage.specs.Latest.{is_last_ask, latest_at}
 use Rattle.check_coverage.specs.Times.{times_at}
@@ -127,10 +127,10 @@ module _ (plan : Plan) (port bus own : ℕ) (flights : List InFlight) (time : �
       where
         last : how_often contested (last_bins plan bus own next beat end) ≡ 0
         last =
-            let gaps = of_found (found own next) (gap_bins plan.layout.rules channel.A time times.asked) in
-            never_first contested (last_bins plan bus own next beat end) gaps
+            let parts = of_found (found own next) (ask_part_bins plan.layout.rules time times.asked beat.corrupt) in
+            never_first contested (last_bins plan bus own next beat end) parts
             (never_last contested (first_bins plan own flights time times.answered beat)
-            (last_bins plan bus own next beat end ++ gaps) none)
+            (last_bins plan bus own next beat end ++ parts) none)
 
         all : how_often contested (ask_bins plan bus next beat one) ≡ 0
         all =

@@ -2,6 +2,7 @@
 use Rattle.std.proofs.Common.{◌≡◌, ◌∙◌, ℕ, ◌+◌, ◌-◌, ◌≤◌, ◌%◌, ◌^◌, Bool, true, false, if◌then◌else◌, List, [], ◌∷◌, ◌++◌, length, Option, Some, None, refl, ap, sym, subst, arith}
 use Rattle.std.specs.Prelude.{◌==◌, ◌&&◌, nat_lt, is_some}
 use Rattle.std.specs.List.{list_any}
+use Rattle.check_beats.specs.Message.{is_spoiled}
 use Rattle.check_beats.specs.Rules.{clocks_in}
 use Rattle.check_beats.specs.declared.rules.LinkRules.{LinkRules}
 use Rattle.check_beats.specs.State.{ends_reply}
@@ -19,7 +20,7 @@ use Rattle.check_flight.specs.Flight.{Turn}
 use Rattle.check_flight.specs.Flight.Turn.{Idle, Asking, Asked}
 use Rattle.check_flight.specs.declared.answer.Answer.{Answer}
 use Rattle.check_cells.specs.Pattern.{Pattern}
-use Rattle.tl_types.specs.Request.{Request}
+use Rattle.check_cells.specs.Sent.{Sent}
 use Rattle.check_sides.specs.Groups.{past_at, plan_at, shared_past}
 use Rattle.check_sides.specs.Lawful.{IsLawful}
 use Rattle.check_sides.specs.Plan.{Plan, bus_of}
@@ -27,7 +28,7 @@ use Rattle.check_rows.specs.Row.{SeenRow, beats_of}
 use Rattle.check_bins.specs.declared.bin.Bin.{Bin}
 use Rattle.check_bins.specs.declared.bin.Bin.TheVariants as bin
 use Rattle.check_coverage.specs.declared.ranges.RangePlace.{RangePlace}
-use Rattle.check_coverage.specs.Bins.{access_of, after_bins, after_by, again, ask_bins, begin_bins, bins, bins_by, bins_of, cause_of, contested_bins, contests, end_bins, first_bins, gap_bins, lane_bins, last_bins, latency_bins, mask_bins, of_found, is_rival, older, overlap, bin_pair, overtook_at, overtook_bins, place_bins, refused_bins, reply_bins, reply_times_bins, step_of}
+use Rattle.check_coverage.specs.Bins.{access_of, after_bins, after_by, again, ask_bins, ask_part_bins, begin_bins, bins, bins_by, bins_of, cause_of, contested_bins, contests, corrupt_bins, end_bins, first_bins, gap_bins, lane_bins, last_bins, latency_bins, mask_bins, of_found, is_rival, older, overlap, bin_pair, operation_of, overtook_at, overtook_bins, place_bins, refused_bins, reply_bins, reply_part_bins, reply_times_bins, step_of}
 use Rattle.check_coverage.specs.Flights.{InFlight, begun, end_of, flights_after, in_flight, is_counted, is_of, ends_an_ask, ends_a_reply, wide_at}
 use Rattle.check_coverage.specs.Latest.{is_last_ask, latest_at}
 use Rattle.check_coverage.specs.Times.{times_at}
@@ -179,16 +180,16 @@ abbrev EndsOwn : Beat → Ended → Type 0
 EndsOwn (A beat) end = ends_a_reply end ≡ false
 EndsOwn (D beat) end = ends_an_ask end ≡ false
 
-ends_no_reply : (ask : Option Request) → ends_a_reply (ended_by (seen_ask ask)) ≡ false
+ends_no_reply : (sent : Option Sent) → ends_a_reply (ended_by (seen_ask sent)) ≡ false
 ends_no_reply None = refl
-ends_no_reply (Some ask) = refl
+ends_no_reply (Some sent) = refl
 
 ends_no_ask : (turn : Turn) (reply : Pattern) (must : Option Answer)
     → ends_an_ask (ended_by (seen_reply turn reply must)) ≡ false
 ends_no_ask Idle reply must = refl
 ends_no_ask (Asking n) reply must = refl
-ends_no_ask (Asked n ask) reply None = refl
-ends_no_ask (Asked n ask) reply (Some answer) = refl
+ends_no_ask (Asked n sent) reply None = refl
+ends_no_ask (Asked n sent) reply (Some answer) = refl
 
 ends_own : (layout : Layout) (link : Link) (here : Scene) (beat : Beat) (known : ℕ) (lanes : List ℕ)
     → EndsOwn beat (ended_by (seen layout link here beat known lanes))
@@ -230,6 +231,11 @@ times_none k rules time times flight =
     both_none k (latency_bins rules time times flight) (gap_bins rules channel.D time times.replied flight)
     (latency_none k rules time times flight) (gap_none k rules channel.D time times.replied flight)
 
+corrupt_none : (k is_corrupt is_reply : Bool) (flight : InFlight)
+    → how_many (kind k) (corrupt_bins is_corrupt is_reply flight) ≡ 0
+corrupt_none k is_corrupt is_reply flight =
+    if_none k is_corrupt (bin.Corrupt (bin_pair flight) (operation_of flight) is_reply) (refl, refl)
+
 found_none : (k : Bool) (o : Option InFlight) (bins : InFlight → List Bin)
     → ((flight : InFlight) → how_many (kind k) (bins flight) ≡ 0) → how_many (kind k) (of_found o bins) ≡ 0
 found_none k None bins none = refl
@@ -257,16 +263,18 @@ module _ (plan : Plan) (bus wide : ℕ) (flights : List InFlight) (time : ℕ) (
       → how_many (kind k) (bins_by plan bus wide flights time times (A beat) end) ≡ both_one k (ends_an_ask end)
   ask_kinds k beat =
       let next = flights_after plan bus wide flights (A beat) end in
-      let gap = gap_bins plan.layout.rules channel.A time times.asked in
+      let part = ask_part_bins plan.layout.rules time times.asked beat.corrupt in
       let sum = how_many-append (kind k) (first_bins plan wide flights time times.answered beat)
-      (last_bins plan bus wide next beat end ++ of_found (found wide next) gap) in
-      let more = how_many-append (kind k) (last_bins plan bus wide next beat end) (of_found (found wide next) gap) in
+      (last_bins plan bus wide next beat end ++ of_found (found wide next) part) in
+      let more = how_many-append (kind k) (last_bins plan bus wide next beat end) (of_found (found wide next) part) in
       let none = first_none k plan wide flights time times.answered beat in
-      let gaps = found_none k (found wide next) gap (gap_none k plan.layout.rules channel.A time times.asked) in
+      let parts = found_none k (found wide next) part (λ flight.
+      both_none k (gap_bins plan.layout.rules channel.A time times.asked flight) (corrupt_bins beat.corrupt false flight)
+      (gap_none k plan.layout.rules channel.A time times.asked flight) (corrupt_none k beat.corrupt false flight)) in
       let mine = own_found plan wide beat flights bus end in
       let last : how_many (kind k) (last_bins plan bus wide next beat end) ≡ both_one k (ends_an_ask end) =
       last_one k (ends_an_ask end) next beat mine.0 mine.1 in
-      omega (arith, sum, more, none, gaps, last)
+      omega (arith, sum, more, none, parts, last)
     where
       last_one : (k b : Bool) (next : List InFlight) (beat : AskHead) (f : InFlight) → found wide next ≡ Some f
           → how_many (kind k) (if b then of_found (found wide next) (ask_bins plan bus next beat) else [])
@@ -279,20 +287,21 @@ module _ (plan : Plan) (bus wide : ℕ) (flights : List InFlight) (time : ℕ) (
       last_one true false next beat f is = refl
       last_one false false next beat f is = refl
 
-  -- what a beat of channel D adds by its time is of neither kind
-  waits_none : (k : Bool)
-      → how_many (kind k) (of_found (found wide flights) (reply_times_bins plan.layout.rules time times)) ≡ 0
-  waits_none k =
-      found_none k (found wide flights) (reply_times_bins plan.layout.rules time times)
-      (times_none k plan.layout.rules time times)
+  -- what each beat of channel D adds is of neither kind
+  parts_none : (k is_corrupt : Bool)
+      → how_many (kind k) (of_found (found wide flights) (reply_part_bins plan.layout.rules time times is_corrupt)) ≡ 0
+  parts_none k is_corrupt =
+      found_none k (found wide flights) (reply_part_bins plan.layout.rules time times is_corrupt)
+      (λ flight. both_none k (reply_times_bins plan.layout.rules time times flight) (corrupt_bins is_corrupt true flight)
+      (times_none k plan.layout.rules time times flight) (corrupt_none k is_corrupt true flight))
 
   asked_by : (beat : Beat) → EndsOwn beat end
       → how_many is_asked (bins_by plan bus wide flights time times beat end) ≡ one_if (ends_an_ask end)
   asked_by (A beat) own = ask_kinds true beat
   asked_by (D beat) own =
       both_none true (end_bins bus wide flights beat end)
-      (of_found (found wide flights) (reply_times_bins plan.layout.rules time times))
-      (none (ends_a_reply end) (found wide flights)) (waits_none true)
+      (of_found (found wide flights) (reply_part_bins plan.layout.rules time times (is_spoiled beat)))
+      (none (ends_a_reply end) (found wide flights)) (parts_none true (is_spoiled beat))
       ∙ ap one_if (sym own)
     where
       none : (b : Bool) (o : Option InFlight)
@@ -310,9 +319,9 @@ module _ (plan : Plan) (bus wide : ℕ) (flights : List InFlight) (time : ℕ) (
       → how_many is_answered (bins_by plan bus wide flights time times beat end) ≡ one_if (ends_a_reply end)
   answered_by (A beat) own has = ask_kinds false beat ∙ ap one_if (sym own)
   answered_by (D beat) own has =
-      let waits = of_found (found wide flights) (reply_times_bins plan.layout.rules time times) in
-      let sum = how_many-append is_answered (end_bins bus wide flights beat end) waits in
-      let none = waits_none false in
+      let parts = of_found (found wide flights) (reply_part_bins plan.layout.rules time times (is_spoiled beat)) in
+      let sum = how_many-append is_answered (end_bins bus wide flights beat end) parts in
+      let none = parts_none false (is_spoiled beat) in
       let end_one : how_many is_answered (end_bins bus wide flights beat end) ≡ one_if (ends_a_reply end) =
       one (ends_a_reply end) in
       omega (arith, sum, none, end_one)

@@ -208,7 +208,7 @@ module _ (plan : Plan) (before : List SeenRow) (row : SeenRow) where
             let asked = reply_answers plan s busy flights x.link x.known x.lanes kept (bus_of plan.layout x.link)
             reply allowed in
             let own = wide_of p x.link reply.source in
-            let whole : IsWholeAs plan own asked.0 (found own flights) =
+            let whole : IsWholeAs plan own asked.0.ask (found own flights) =
             subst (λ t. IsKeptAs plan own t (found own flights)) asked.1
             (kept.turns own) in
             (whole.flight, whole.is)

@@ -12,6 +12,7 @@ use Rattle.tl_types.specs.declared.operation.Hint.TheVariants.{PrefetchRead, Pre
 use Rattle.tl_map.specs.Map.{IsLawfulAddressMap}
 use Rattle.check_beats.specs.Message.{arith_of, logic_of, op_of}
 use Rattle.check_beats.specs.declared.beat.AskHead.{AskHead}
+use Rattle.check_cells.specs.Sent.{Sent}
 use Rattle.check_contests.specs.Laws.{AreUncontested}
 use Rattle.check_contests.specs.Writes.{writes as writes_at}
 use Rattle.check_memory.specs.Partial.{Partial, first_of, permits, placed, start_in, start_of}
@@ -150,16 +151,16 @@ module _ (plan : Plan) (is_plan : IsPlan plan) (map : IsLawfulAddressMap plan.la
   -- two requests that are open at a memory
   pair_apart : (rows : List SeenRow) → AreWatched p.layout (past_of rows) → IsLawful plan (beats_of rows)
       → how_often (bin.Contested port) (bins plan rows) ≡ 0 → (memory : Partial) → slave ≡ Memory memory
-      → (wide other : ℕ) (ask with : Request) → wide ≢ other
+      → (wide other : ℕ) (ask with : Sent) → wide ≢ other
       → IsOpen (moments p port (past_of rows)) wide ask → IsOpen (moments p port (past_of rows)) other with
-      → AreUncontested memory ask with
+      → AreUncontested memory ask.ask with.ask
   pair_apart rows watched lawful none memory is wide other ask with apart is_open its_open =
-      let heads = λ (w : ℕ) (r : Request) (o : IsOpen (moments p port (past_of rows)) w r).
+      let heads = λ (w : ℕ) (r : Sent) (o : IsOpen (moments p port (past_of rows)) w r).
       head plan is_plan map (past_of rows) watched (shared_part plan (beats_of rows) lawful)
       (in_flight plan rows) (are_kept plan rows lawful) port w r o in
       let first = heads wide ask is_open in
       let second = heads other with its_open in
-      uncontested memory port ask with (found wide (in_flight plan rows)) (found other (in_flight plan rows)) first second
+      uncontested memory port ask.ask with.ask (found wide (in_flight plan rows)) (found other (in_flight plan rows)) first second
       (ap (λ s. meets (mirrors_of s) first.flight.first second.flight.first) (sym is)
       ∙ all_apart plan port rows none wide other first.flight second.flight (apart_by wide other apart) first.is second.is
       first.whole second.whole first.port_is second.port_is)

@@ -2,6 +2,7 @@
 use Rattle.std.proofs.Common.{◌≡◌, ◌∙◌, ℕ, Bool, true, false, if◌then◌else◌, List, ◌∷◌, Option, Some, None, refl, ap, sym, subst}
 use Rattle.std.specs.Prelude.{◌↔◌}
 use Rattle.tl_types.specs.Request.{Request}
+use Rattle.check_cells.specs.Sent.{Sent}
 use Rattle.tl_map.specs.Owner.{IsWideSource}
 use Rattle.check_beats.specs.Form.{IsFirstReplyFormFault}
 use Rattle.check_beats.specs.State.{AskBegun, first_ask, first_reply, ends_reply}
@@ -59,7 +60,7 @@ others_stay plan past x wide own side other none = go (is_of plan x side other) 
 
 -- ---- a beat of a request
 
-asking_or_asked : (n : ℕ) (ask : Option Request) → turn_by n ask ≡ Idle → ⊥
+asking_or_asked : (n : ℕ) (sent : Option Sent) → turn_by n sent ≡ Idle → ⊥
 asking_or_asked n None is = idle_or_asking n (sym is)
 asking_or_asked n (Some ask) is = idle_or_asked n ask (sym is)
 

@@ -3,6 +3,7 @@ use Rattle.std.proofs.Common.{◌≡◌, ◌∙◌, ℕ, Bool, true, false, if�
 use Rattle.std.specs.Prelude.{IsSomeAnd, IsTrue}
 use Rattle.tl_types.specs.Request.{Request}
 use Rattle.check_cells.specs.Pattern.{Pattern}
+use Rattle.check_cells.specs.Sent.{Sent}
 use Rattle.check_beats.specs.State.{Under, ask_of, ends_ask, ends_reply}
 use Rattle.check_beats.specs.declared.beat.AskHead.{AskHead}
 use Rattle.check_beats.specs.declared.beat.ReplyHead.{ReplyHead}
@@ -21,14 +22,14 @@ use Rattle.check_watch.specs.Scene.{captured, ended_by, is_given, must_by, seen_
 use Rattle.check_watch.specs.declared.seen.Seen.TheVariants.{Part, WholeAsk}
 use Rattle.check_watch.specs.View.{KeepsGroup, GroupView, under_in}
 
-ask_whole : (b : Bool) (ask : Request) → seen_ask (if b then Some ask else None) ≡ (if b then WholeAsk else Part)
-ask_whole true ask = refl
-ask_whole false ask = refl
+ask_whole : (b : Bool) (sent : Sent) → seen_ask (if b then Some sent else None) ≡ (if b then WholeAsk else Part)
+ask_whole true sent = refl
+ask_whole false sent = refl
 
-ask_told : (b : Bool) (ask : Request)
-    → ended_by (seen_ask (if b then Some ask else None)) ≡ (if b then ends.Ask else ends.Part)
-ask_told true ask = refl
-ask_told false ask = refl
+ask_told : (b : Bool) (sent : Sent)
+    → ended_by (seen_ask (if b then Some sent else None)) ≡ (if b then ends.Ask else ends.Part)
+ask_told true sent = refl
+ask_told false sent = refl
 
 reply_told : (number : ℕ) (turn : Turn) (P : Request → Type 0) (reply : Pattern) (due : Option Answer)
     (Q : Answer → Type 0) → OfAsked number turn P → IsSomeAnd due Q → ended_by (seen_reply turn reply due) ≡ ends.Reply

@@ -3,11 +3,12 @@ use Rattle.std.proofs.Common.{◌≡◌, ◌∙◌, ℕ, ◌⊎◌, inl, inr, Bo
 use Rattle.std.specs.Prelude.{◌==◌, ◌&&◌}
 use Rattle.std.proofs.lemmas.Bool.{eqb-false}
 use Rattle.tl_types.specs.Request.{Request}
+use Rattle.check_cells.specs.Sent.{Sent}
 use Rattle.check_beats.specs.Form.{Continues, SameFields, SameReplyFields}
-use Rattle.check_beats.specs.State.{Under, AskBegun, ReplyBegun, first_ask, first_reply, ends_ask, ends_reply, ask_of, ask_after, reply_after, asked_beats, asked_bytes, replied_beats, replied_bytes, replied_spoiled}
+use Rattle.check_beats.specs.State.{Under, AskBegun, ReplyBegun, first_ask, first_reply, ends_ask, ends_reply, ask_of, ask_after, reply_after, asked_beats, asked_bytes, asked_spoiled, replied_beats, replied_bytes, replied_spoiled}
 use Rattle.check_beats.specs.declared.beat.AskHead.{AskHead}
 use Rattle.check_beats.specs.declared.beat.ReplyHead.{ReplyHead}
-use Rattle.check_beats.specs.Message.{ask_part, seen_cells as seen_bytes, is_spoiled}
+use Rattle.check_beats.specs.Message.{ask_part, spoiled_ask_part, seen_cells as seen_bytes, is_spoiled}
 use Rattle.check_flight.specs.Flight.{Turn, Flight, idle}
 use Rattle.check_flight.specs.Flight.Turn.{Idle, Asking, Asked}
 use Rattle.check_watch.specs.declared.beat.Beat.{Beat}
@@ -78,7 +79,7 @@ idle_or_asking k is = subst IsIdle is tt
     IsIdle (Asking k) = ⊥
     IsIdle (Asked k ask) = ⊥
 
-pub idle_or_asked : (k : ℕ) (ask : Request) → Idle ≡ Asked k ask → ⊥
+pub idle_or_asked : (k : ℕ) (ask : Sent) → Idle ≡ Asked k ask → ⊥
 idle_or_asked k ask is = subst IsIdle is tt
   where
     IsIdle : Turn → Type 0
@@ -86,7 +87,7 @@ idle_or_asked k ask is = subst IsIdle is tt
     IsIdle (Asking k) = ⊥
     IsIdle (Asked k ask) = ⊥
 
-asked_or_asking : (m n : ℕ) (ask : Request) → Asked m ask ≡ Asking n → ⊥
+asked_or_asking : (m n : ℕ) (ask : Sent) → Asked m ask ≡ Asking n → ⊥
 asked_or_asking m n ask is = subst IsAsked is tt
   where
     IsAsked : Turn → Type 0
@@ -100,7 +101,7 @@ number_in (Asking k) = k
 number_in (Asked k ask) = k
 
 pub asked_at : (n : ℕ) (turn : Turn) (P : Request → Type 0) → OfAsked n turn P
-    → (ask : Request) × (turn ≡ Asked n ask)
+    → (ask : Sent) × (turn ≡ Asked n ask)
 asked_at n Idle P of = absurd of
 asked_at n (Asking m) P of = absurd of
 asked_at n (Asked m ask) P of = (ask, ap (λ k. Asked k ask) of.0)
@@ -127,7 +128,7 @@ abbrev RepliesFly : Plan → State → Type 0
 RepliesFly plan s =
     (link : Link) (begun : ReplyBegun)
     → (s.links (side_of link) (link_number link)).replying ≡ Some begun
-    → (ask : Request)
+    → (ask : Sent)
     × ((s.flights (side_of link) (wide_of plan link begun.first.source)).turn ≡ Asked (link_number link) ask)
 
 head_ask : (asking : Option AskBegun) (beat : AskHead) → Continues SameFields (first_ask asking) beat
@@ -215,16 +216,19 @@ module _ (plan : Plan) (s : State) (asks : AsksFly plan s) (replies : RepliesFly
             first = unwrap_or (first_ask before.asking) beat;
             beats = asked_beats before.asking + 1;
             bytes = asked_bytes before.asking ++ ask_part before.bus beat lanes;
+            spoiled = asked_spoiled before.asking ++ spoiled_ask_part before.bus beat;
           })) e) ∙ is))
       go false e is =
           let at : record {
             first = unwrap_or (first_ask before.asking) beat;
             beats = asked_beats before.asking + 1;
             bytes = asked_bytes before.asking ++ ask_part before.bus beat lanes;
+            spoiled = asked_spoiled before.asking ++ spoiled_ask_part before.bus beat;
           } ≡ begun = some_same _ begun (sym (ap (λ (b : Bool). if b then None else Some (record {
             first = unwrap_or (first_ask before.asking) beat;
             beats = asked_beats before.asking + 1;
             bytes = asked_bytes before.asking ++ ask_part before.bus beat lanes;
+            spoiled = asked_spoiled before.asking ++ spoiled_ask_part before.bus beat;
           })) e) ∙ is) in
           let source : begun.first.source ≡ beat.source =
           sym (ap (λ (b : AskBegun). b.first.source) at) ∙ head_ask before.asking beat allowed.fits.same in
@@ -275,7 +279,7 @@ module _ (plan : Plan) (s : State) (asks : AsksFly plan s) (replies : RepliesFly
       → RepliesFly plan (state_after plan s (ask_at link known lanes beat))
   ask_replies beat allowed at begun = go (is_link link (side_of at) (link_number at)) refl
     where
-      still : (s.links (side_of at) (link_number at)).replying ≡ Some begun → (ask : Request)
+      still : (s.links (side_of at) (link_number at)).replying ≡ Some begun → (ask : Sent)
           × (((state_after plan s (ask_at link known lanes beat)).flights (side_of at) (wide_of plan at begun.first.source)).turn
           ≡ Asked (link_number at) ask)
       still is = (
@@ -284,7 +288,7 @@ module _ (plan : Plan) (s : State) (asks : AsksFly plan s) (replies : RepliesFly
             (Asked (link_number at) was.0) was.1 none,
       )
         where
-          was : (ask : Request)
+          was : (ask : Sent)
               × ((s.flights (side_of at) (wide_of plan at begun.first.source)).turn ≡ Asked (link_number at) ask)
           was = replies at begun is
 
@@ -303,7 +307,7 @@ module _ (plan : Plan) (s : State) (asks : AsksFly plan s) (replies : RepliesFly
       go : (here : Bool) → is_link link (side_of at) (link_number at) ≡ here
           → (if here then under_after (s.links (side_of link) (link_number link)) (A beat) known lanes
           else s.links (side_of at) (link_number at)).replying ≡ Some begun
-          → (ask : Request)
+          → (ask : Sent)
           × (((state_after plan s (ask_at link known lanes beat)).flights (side_of at) (wide_of plan at begun.first.source)).turn
           ≡ Asked (link_number at) ask)
       go true here is =
@@ -315,7 +319,7 @@ module _ (plan : Plan) (s : State) (asks : AsksFly plan s) (replies : RepliesFly
   -- it answers a request in flight that has ended
   answered : (beat : ReplyHead) → IsAllowedReply plan.layout link
       (scene_of plan s link (D beat)) beat known lanes
-      → (ask : Request)
+      → (ask : Sent)
       × ((s.flights (side_of link) (wide_of plan link beat.source)).turn ≡ Asked (link_number link) ask)
   answered beat allowed =
       asked_at (link_number link) (s.flights (side_of link) (wide_of plan link beat.source)).turn _ allowed.answers
@@ -349,7 +353,7 @@ module _ (plan : Plan) (s : State) (asks : AsksFly plan s) (replies : RepliesFly
       (scene_of plan s link (D beat)) beat known lanes
       → (begun : ReplyBegun)
       → (under_after (s.links (side_of link) (link_number link)) (D beat) known lanes).replying ≡ Some begun
-      → (ask : Request)
+      → (ask : Sent)
       × (((state_after plan s (reply_at link known lanes beat)).flights (side_of link)
       (wide_of plan link begun.first.source)).turn ≡ Asked (link_number link) ask)
   own_replies beat allowed begun = go (ends_reply before.bus before.replying beat) refl
@@ -357,13 +361,13 @@ module _ (plan : Plan) (s : State) (asks : AsksFly plan s) (replies : RepliesFly
       before : Under
       before = s.links (side_of link) (link_number link)
 
-      found : (ask : Request)
+      found : (ask : Sent)
           × ((s.flights (side_of link) (wide_of plan link beat.source)).turn ≡ Asked (link_number link) ask)
       found = answered beat allowed
 
       go : (ends : Bool) → ends_reply before.bus before.replying beat ≡ ends
           → (reply_after before.bus before.replying beat known lanes) ≡ Some begun
-          → (ask : Request)
+          → (ask : Sent)
           × (((state_after plan s (reply_at link known lanes beat)).flights (side_of link)
           (wide_of plan link begun.first.source)).turn ≡ Asked (link_number link) ask)
       go true e is =
@@ -402,19 +406,19 @@ module _ (plan : Plan) (s : State) (asks : AsksFly plan s) (replies : RepliesFly
       → RepliesFly plan (state_after plan s (reply_at link known lanes beat))
   reply_replies beat allowed at begun = go (is_link link (side_of at) (link_number at)) refl
     where
-      found : (ask : Request)
+      found : (ask : Sent)
           × ((s.flights (side_of link) (wide_of plan link beat.source)).turn ≡ Asked (link_number link) ask)
       found = answered beat allowed
 
       go : (here : Bool) → is_link link (side_of at) (link_number at) ≡ here
           → (if here then under_after (s.links (side_of link) (link_number link)) (D beat) known lanes
           else s.links (side_of at) (link_number at)).replying ≡ Some begun
-          → (ask : Request)
+          → (ask : Sent)
           × (((state_after plan s (reply_at link known lanes beat)).flights (side_of at) (wide_of plan at begun.first.source)).turn
           ≡ Asked (link_number at) ask)
       go true here is =
           let P : Link → Type 0 =
-          λ l. (ask : Request)
+          λ l. (ask : Sent)
           × (((state_after plan s (reply_at link known lanes beat)).flights (side_of l) (wide_of plan l begun.first.source)).turn
           ≡ Asked (link_number l) ask) in
           subst P (same_link link at here) (own_replies beat allowed begun is)
@@ -424,7 +428,7 @@ module _ (plan : Plan) (s : State) (asks : AsksFly plan s) (replies : RepliesFly
             (Asked (link_number at) was.0) was.1 none,
       )
         where
-          was : (ask : Request)
+          was : (ask : Sent)
               × ((s.flights (side_of at) (wide_of plan at begun.first.source)).turn ≡ Asked (link_number at) ask)
           was = replies at begun is
 

@@ -2,7 +2,7 @@
 use Rattle.std.proofs.Common.{◌≡◌, ◌∙◌, ℕ, ◌<◌, Bool, true, false, if◌then◌else◌, List, ◌∷◌, length, Option, Some, None, slice_get, unwrap_or, refl, ap, sym, subst, eqb-true, length-set}
 use Rattle.std.specs.Prelude.{slice_set, ◌==◌, ◌&&◌, Result, Ok, Err, OnOk, IfErr}
 use Rattle.std.proofs.lemmas.Bool.{eqb-false}
-use Rattle.tl_types.specs.Request.{Request}
+use Rattle.check_cells.specs.Sent.{Sent}
 use Rattle.tl_types.proofs.Lists.{slice_get-set_same, slice_get-set_other}
 use Rattle.check_cells.specs.Pattern.{Pattern}
 use Rattle.check_beats.specs.State.{Under, nothing_under, ends_ask, ends_reply}
@@ -53,14 +53,14 @@ stays {X} f k j = go (k == j) refl
     go true is = ap f (sym (eqb-true k j is))
     go false is = refl
 
-slaves_accept : (slaves : List PortSlave) (port wide p : ℕ) (ask : Option Request) → port < length slaves
+slaves_accept : (slaves : List PortSlave) (port wide p : ℕ) (ask : Option Sent) → port < length slaves
     → slave_at (slaves_accepting slaves port wide ask) p ≡
     (if port == p then accepting (slave_at slaves port) wide ask else slave_at slaves p)
 slaves_accept slaves port wide p None within = stays (λ k. slave_at slaves k) port p
 slaves_accept slaves port wide p (Some ask) within =
     set_at no_slave slaves port p (accepting (slave_at slaves port) wide (Some ask)) within
 
-slaves_answer : (slaves : List PortSlave) (port wide p : ℕ) (ask : Option Request) → port < length slaves
+slaves_answer : (slaves : List PortSlave) (port wide p : ℕ) (ask : Option Sent) → port < length slaves
     → slave_at (slaves_answering slaves port wide ask) p ≡
     (if port == p then answering (slave_at slaves port) wide ask else slave_at slaves p)
 slaves_answer slaves port wide p None within = stays (λ k. slave_at slaves k) port p

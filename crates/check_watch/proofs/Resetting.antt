@@ -1,9 +1,10 @@
 -- What a reset leaves: of one request that is cut short after another, and of the whole system.
 use Rattle.std.proofs.Common.{◌≡◌, ◌∙◌, ◌⊎◌, inl, inr, ⊎_elim, ℕ, zero, suc, ◌+◌, ◌<◌, ◌≤◌, ◌↔◌, Bool, true, false, List, [], ◌∷◌, ◌++◌, length, map, take, set, get_or, Option, Some, None, refl, sym, ap, subst, arith, length-set}
-use Rattle.std.specs.Prelude.{unwrap_or, Result, Ok, Err, OnOk}
+use Rattle.std.specs.Prelude.{option_map, unwrap_or, Result, Ok, Err, OnOk}
 use Rattle.std.proofs.lemmas.Bool.{cases_lt, true≢false}
 use Rattle.std.proofs.lemmas.List.{length-map}
 use Rattle.tl_types.specs.Request.{Request}
+use Rattle.check_cells.specs.Sent.{Sent}
 use Rattle.check_memory.specs.declared.slave.Slave.{Slave}
 use Rattle.check_contests.proofs.Leaving.{none_left_slave, cut_left_slave, both_left_slave, alike_left_slave}
 use Rattle.tl_map.specs.Owner.{IsOwned}
@@ -11,7 +12,7 @@ use Rattle.check_beats.specs.declared.bus.Bus.{Bus}
 use Rattle.check_beats.specs.State.{Under, ask_so_far, nothing_under, replying_source}
 use Rattle.check_flight.specs.Crossing.{Crossing}
 use Rattle.check_flight.specs.Crossing.Crossing.{Waiting}
-use Rattle.check_flight.specs.Flight.{Flight, Turn, IsAskedAt, asked, idle}
+use Rattle.check_flight.specs.Flight.{Flight, Turn, IsAskedAt, IsEndedAsk, asked, idle}
 use Rattle.check_flight.specs.Flight.Turn.{Idle, Asking, Asked}
 use Rattle.check_flight.specs.PortSlave.{PortSlave, once_cut, once_reset}
 use Rattle.check_flight.specs.Side.{SideView, bus_at, flight_at, side_reset, under_at}
@@ -210,6 +211,30 @@ on_ok (Err e) f is = is
 some_same : {A : Type 0} (a b : A) → Some a ≡ Some b → a ≡ b
 some_same a b is = ap (λ o. unwrap_or o a) is
 
+-- a request that has ended at a link is the one that is told, and is told
+pub ask_here : (number : ℕ) (ask : Request) (turn : Turn) → IsAskedAt number turn
+    → option_map (λ (sent : Sent). sent.ask) (asked turn) ≡ Some ask → IsEndedAsk number ask turn
+ask_here number ask Idle at is = absurd at
+ask_here number ask (Asking link) at is = absurd at
+ask_here number ask (Asked link sent) at is = (at, some_same sent.ask ask is)
+
+pub ask_told : (number : ℕ) (ask : Request) (turn : Turn) → IsEndedAsk number ask turn
+    → option_map (λ (sent : Sent). sent.ask) (asked turn) ≡ Some ask
+ask_told number ask Idle of = absurd of
+ask_told number ask (Asking link) of = absurd of
+ask_told number ask (Asked link sent) of = ap (λ r. Some r) of.1
+
+-- it has ended there, and at one link alone
+pub ask_at : (number : ℕ) (ask : Request) (turn : Turn) → IsEndedAsk number ask turn → IsAskedAt number turn
+ask_at number ask Idle of = of
+ask_at number ask (Asking link) of = of
+ask_at number ask (Asked link sent) of = of.0
+
+pub one_number : (one other : ℕ) (turn : Turn) → IsAskedAt one turn → IsAskedAt other turn → one ≡ other
+one_number one other Idle at also = absurd at
+one_number one other (Asking link) at also = absurd at
+one_number one other (Asked link sent) at also = sym at ∙ also
+
 module _ (plan : Plan) (state : State) (link : Link) (slaves left : List PortSlave) where
   pub under_way : (ask : Request) → ask_so_far (state.links (side_of link) (link_number link)).asking ≡ Some ask
       → AreLeft (Alone plan link ask) slaves left → AreLeft (IsCutUnderWay plan state link) slaves left
@@ -226,7 +251,8 @@ module _ (plan : Plan) (state : State) (link : Link) (slaves left : List PortSla
       some_none : (ask : Request) → Some ask ≡ None → ⊥
       some_none ask is = cc
 
-  pub open_cut : (wide : ℕ) (ask : Request) → asked (state.flights (side_of link) wide).turn ≡ Some ask
+  pub open_cut : (wide : ℕ) (ask : Request)
+      → option_map (λ (sent : Sent). sent.ask) (asked (state.flights (side_of link) wide).turn) ≡ Some ask
       → IsAskedAt (link_number link) (state.flights (side_of link) wide).turn
       → (IsBeingAnswered plan.layout state link wide → ⊥)
       → AreLeft (Alone plan link ask) slaves left → AreLeft (IsCutOpen plan state link wide) slaves left
@@ -235,18 +261,16 @@ module _ (plan : Plan) (state : State) (link : Link) (slaves left : List PortSla
       (λ port other is. (
         is.0,
         (
-          turn_is (state.flights (side_of link) wide).turn other at
+          ask_here (link_number link) other (state.flights (side_of link) wide).turn at
               (here ∙ ap (λ r. Some r) (sym is.1)),
           unanswered,
         ),
       ))
-      (λ port other is. (is.0, some_same other ask (sym (ap (λ t. asked t) is.1.0) ∙ here)))
-    where
-      turn_is : (turn : Turn) (other : Request) → IsAskedAt (link_number link) turn → asked turn ≡ Some other
-          → turn ≡ Asked (link_number link) other
-      turn_is Idle other at is = absurd at
-      turn_is (Asking number) other at is = absurd at
-      turn_is (Asked number ask) other at is = ap (λ n. Asked n ask) at ∙ ap (λ r. Asked (link_number link) r) (some_same ask other is)
+      (λ port other is. (
+        is.0,
+        some_same other ask
+            (sym (ask_told (link_number link) other (state.flights (side_of link) wide).turn is.1.0) ∙ here),
+      ))
 
   pub none_open : (wide : ℕ) → (HasLink plan.layout link → ⊥) ⊎ IsBeingAnswered plan.layout state link wide
       → AreLeft (IsCutOpen plan state link wide) slaves slaves
@@ -268,7 +292,7 @@ answered_in_plan plan view link wide suits is =
 pub unasked : (number : ℕ) (turn : Turn) → IsAskedAt number turn → asked turn ≡ None → ⊥
 unasked number Idle at is = at
 unasked number (Asking link) at is = at
-unasked number (Asked link ask) at is = cc
+unasked number (Asked link sent) at is = cc
 
 -- what has ended of a wide source on one side, whichever link it is
 module _ (plan : Plan) (state : State) (wide : ℕ) (slaves left : List PortSlave) (at : ℕ → Link) (turn : Turn)
@@ -280,11 +304,14 @@ module _ (plan : Plan) (state : State) (wide : ℕ) (slaves left : List PortSlav
       slaves left (λ port ask is. (number, is))
       (λ port ask is. subst (λ n. IsCutOpen plan state (at n) wide port ask) (same is.0 ask is.1.1.0) is.1)
     where
-      asked_here : (n : ℕ) (ask : Request) (t : Turn) → IsAskedAt number t → t ≡ Asked n ask → n ≡ number
-      asked_here n ask t at is = subst (λ (u : Turn). IsAskedAt number u) is at
-
-      same : (n : ℕ) (ask : Request) → (state.flights (side_of (at n)) wide).turn ≡ Asked (link_number (at n)) ask → n ≡ number
-      same n ask is = sym (numbers n) ∙ asked_here (link_number (at n)) ask turn here (sym (turns n) ∙ is)
+      same : (n : ℕ) (ask : Request) → IsEndedAsk (link_number (at n)) ask (state.flights (side_of (at n)) wide).turn
+          → n ≡ number
+      same n ask is =
+          sym (numbers n)
+          ∙ one_number (link_number (at n)) number turn
+          (subst (λ (t : Turn). IsAskedAt (link_number (at n)) t) (turns n)
+          (ask_at (link_number (at n)) ask (state.flights (side_of (at n)) wide).turn is))
+          here
 
   pub no_link : ((number : ℕ) → IsAskedAt number turn → ⊥)
       → AreLeft (λ port ask. (n : ℕ) × IsCutOpen plan state (at n) wide port ask) slaves slaves
@@ -292,9 +319,12 @@ module _ (plan : Plan) (state : State) (wide : ℕ) (slaves left : List PortSlav
       none_left (λ port ask. (n : ℕ) × IsCutOpen plan state (at n) wide port ask) slaves
       (λ port ask is. none is.0 (there is.0 ask is.1.1.0))
     where
-      there : (n : ℕ) (ask : Request) → (state.flights (side_of (at n)) wide).turn ≡ Asked (link_number (at n)) ask
+      there : (n : ℕ) (ask : Request) → IsEndedAsk (link_number (at n)) ask (state.flights (side_of (at n)) wide).turn
           → IsAskedAt n turn
-      there n ask is = subst (λ (t : Turn). IsAskedAt n t) (sym is ∙ turns n) (numbers n)
+      there n ask is =
+          subst (λ (m : ℕ). IsAskedAt m turn) (numbers n)
+          (subst (λ (t : Turn). IsAskedAt (link_number (at n)) t) (turns n)
+          (ask_at (link_number (at n)) ask (state.flights (side_of (at n)) wide).turn is))
 
 -- ---- a step that changes slaves alone
 
@@ -341,14 +371,14 @@ either_side plan state wide slaves mid left first second =
 
 -- a wide source of which a request has ended is one that is kept
 pub wide_there : (flights : List Flight) (wide number : ℕ) (ask : Request)
-    → (flight_at flights wide).turn ≡ Asked number ask → wide < length flights
-wide_there [] wide number ask is = cc
+    → IsEndedAsk number ask (flight_at flights wide).turn → wide < length flights
+wide_there [] wide number ask is = absurd is
 wide_there (first ∷ flights) zero number ask is = omega arith
 wide_there (first ∷ flights) (suc wide) number ask is =
     let below : wide < length flights = wide_there flights wide number ask is in omega (arith, below)
 
 pub wide_kept : (view : GroupView) → IsSized view → (link : Link) (wide number : ℕ) (ask : Request)
-    → (flight_in view link wide).turn ≡ Asked number ask → wide < wides_in view
+    → IsEndedAsk number ask (flight_in view link wide).turn → wide < wides_in view
 wide_kept view sized (Master m) wide number ask is =
     omega (arith, wide_there view.masters.flights wide number ask is, sized.at_masters)
 wide_kept view sized (Port p) wide number ask is =
@@ -396,7 +426,7 @@ same_cut plan a b same port ask is = (is.0, ⊎_elim (λ at. inl (at.0, under is
     opened link wide at = (
       at.0,
       (
-        ap (λ (f : Flight). f.turn) (sym (same.flights (side_of link) wide)) ∙ at.1.0,
+        subst (λ (f : Flight). IsEndedAsk (link_number link) ask f.turn) (same.flights (side_of link) wide) at.1.0,
         λ answered. at.1.1 (
           answered.0,
           ap (λ (u : Under). replying_source u.replying) (same.links (side_of link) (link_number link)) ∙ answered.1,

@@ -3,13 +3,13 @@ use Rattle.std.specs.Prelude.{Result, Ok, Err, OnErr, OnOk}
 use Rattle.std.proofs.Common.{◌≡◌, ◌∙◌, ◌<◌, ℕ, List, length, Option, Some, None, get_or, ap, sym, refl}
 use Rattle.std.proofs.lemmas.Option.{slice_get-get_or}
 use Rattle.std.specs.Prelude.{slice_set, unwrap_or}
-use Rattle.tl_types.specs.Request.{Request}
+use Rattle.check_cells.specs.Sent.{Sent}
 use Rattle.check_flight.specs.PortSlave.{PortSlave, answering}
 use Rattle.check_flight.proofs.Served.{set_own}
 use Rattle.check_watch.specs.Past.{no_slave, slave_at}
 use Rattle.check_watch.specs.View.{slaves_answering}
 
-pub slaves_answered : (slaves : List PortSlave) (port wide : ℕ) (ask : Option Request)
+pub slaves_answered : (slaves : List PortSlave) (port wide : ℕ) (ask : Option Sent)
     → slice_set slaves port (answering (slave_at slaves port) wide ask) ≡ slaves_answering slaves port wide ask
 slaves_answered slaves port wide None = set_own no_slave slaves port
 slaves_answered slaves port wide (Some ask) = refl

@@ -5,13 +5,14 @@ use Rattle.tl_types.specs.Operation.{reply_op_of}
 use Rattle.tl_types.specs.Request.{Request}
 use Rattle.tl_types.specs.Wire.{reply_opcode_of}
 use Rattle.check_cells.specs.Pattern.{Pattern, FitsCaptured}
+use Rattle.check_cells.specs.Sent.{Sent}
 use Rattle.check_beats.specs.Form.{FitsAsk, FitsReply, IsKnown, IsKnownReply}
-use Rattle.check_beats.specs.Rules.{IsAlignedBy, IsMarkedBy}
+use Rattle.check_beats.specs.Rules.{IsAlignedBy, IsAskMarkedBy, IsMarkedBy}
 use Rattle.check_beats.specs.State.{first_ask, first_reply, ends_ask, ends_reply, ask_of}
 use Rattle.check_beats.specs.declared.beat.AskHead.{AskHead}
 use Rattle.check_beats.specs.declared.beat.ReplyHead.{ReplyHead}
 use Rattle.check_flight.specs.declared.answer.Answer.{Answer}
-use Rattle.check_flight.specs.Crossing.{Crossing, given, IsSameReply}
+use Rattle.check_flight.specs.Crossing.{Crossing, given, IsSameReply, IsSameSent}
 use Rattle.check_flight.specs.Crossing.Crossing.{Waiting}
 use Rattle.check_flight.specs.Flight.{Turn}
 use Rattle.check_flight.specs.Flight.Turn.{Idle, Asking, Asked}
@@ -29,17 +30,18 @@ abbrev pub IsPlaced : Layout → Link → AskHead → Type 0
 IsPlaced layout (Master m) beat = Unit {0}
 IsPlaced layout (Port p) beat = RoutesWide layout beat.source beat.address beat.size p
 
--- the request in flight has ended, and is this one but for the source
-abbrev pub IsAskedAs : Turn → Request → Type 0
-IsAskedAs Idle ask = ⊥
-IsAskedAs (Asking number) ask = ⊥
-IsAskedAs (Asked number sent) ask = record sent { source = ask.source } ≡ ask
+-- the request in flight of a master has ended, and is the one that was seen at the link of a port, in cuts of the wider of the
+-- two buses
+abbrev pub IsAskedAs : Layout → ℕ → Turn → Sent → Type 0
+IsAskedAs layout port Idle seen = ⊥
+IsAskedAs layout port (Asking number) seen = ⊥
+IsAskedAs layout port (Asked number sent) seen = IsSameSent (wider_bus layout (Master number) port) sent seen
 
 -- a request at a port's link, if both sides are watched: the master that owns its source has it in flight, ended,
 -- and it has not crossed before
-abbrev pub IsSent : Layout → Link → Turn → Crossing → Request → Type 0
-IsSent layout (Master m) sent crossing ask = Unit {0}
-IsSent layout (Port p) sent crossing ask = layout.links ≡ Both → IsAskedAs sent ask × (crossing ≡ Waiting)
+abbrev pub IsSent : Layout → Link → Turn → Crossing → Sent → Type 0
+IsSent layout (Master m) sent crossing seen = Unit {0}
+IsSent layout (Port p) sent crossing seen = layout.links ≡ Both → IsAskedAs layout p sent seen × (crossing ≡ Waiting)
 
 -- requests at a link are sent at another first
 abbrev pub is_second : Layout → Link → Bool
@@ -63,10 +65,11 @@ EndsSent layout link scene beat lanes =
 -- a beat of a request is lawful
 pub record IsAllowedAsk (layout : Layout) (link : Link) (scene : Scene) (beat : AskHead) (known : ℕ) (lanes : List ℕ)
     : Type 0 where
-  -- it is one of the message under way, its address is a multiple of its size if that is asked, and each lane that carries
-  -- a byte is known
+  -- it is one of the message under way, its address is a multiple of its size if that is asked, it is marked corrupt only if
+  -- that is allowed, and each lane that carries a byte is known
   pub fits : FitsAsk scene.under.bus (first_ask scene.under.asking) beat
   pub aligned : IsAlignedBy layout.rules beat
+  pub marked : IsAskMarkedBy layout.rules beat
   pub known_lanes : IsKnown beat known
   pub source : HasSource layout link beat.source
   pub free : BeginsFree scene
@@ -79,7 +82,7 @@ pub record IsAllowedAsk (layout : Layout) (link : Link) (scene : Scene) (beat : 
 abbrev pub OfAsked : ℕ → Turn → (Request → Type 0) → Type 0
 OfAsked number Idle P = ⊥
 OfAsked number (Asking at) P = ⊥
-OfAsked number (Asked at ask) P = (at ≡ number) × P ask
+OfAsked number (Asked at sent) P = (at ≡ number) × P sent.ask
 
 -- each lane that carries a byte of the reply is known, if the slave may leave none unknown. Of a denied reply no lane is
 -- looked at.

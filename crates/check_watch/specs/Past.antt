@@ -46,7 +46,7 @@ reset_state plan = record {
 abbrev pub port_in : Plan → ℕ → Turn → ℕ
 port_in plan master Idle = 0
 port_in plan master (Asking number) = 0
-port_in plan master (Asked number ask) = route_of plan master ask.address ask.size
+port_in plan master (Asked number sent) = route_of plan master sent.ask.address sent.ask.size
 
 -- the port that the request goes to whose beat this is, or that a reply answers
 abbrev pub port_of : Plan → Link → Turn → Beat → ℕ

@@ -7,7 +7,7 @@ use Rattle.tl_map.specs.Owner.{IsWideSource}
 use Rattle.check_beats.specs.State.{ask_so_far, replying_source}
 use Rattle.check_memory.specs.declared.slave.Slave.{Slave}
 use Rattle.check_contests.specs.Cut.{IsLeftSlave}
-use Rattle.check_flight.specs.Flight.Turn.{Asked}
+use Rattle.check_flight.specs.Flight.{IsEndedAsk}
 use Rattle.check_flight.specs.PortSlave.{PortSlave, once_reset}
 use Rattle.check_watch.specs.declared.beat.Link.{Link}
 use Rattle.check_watch.specs.declared.beat.Link.TheVariants.{Master, Port}
@@ -46,7 +46,7 @@ IsBeingAnswered layout state link wide =
 -- the request of a wide source has ended at a link, and its reply has not begun there
 abbrev pub IsOpen : Layout → State → Link → ℕ → Request → Type 0
 IsOpen layout state link wide ask =
-    ((state.flights (side_of link) wide).turn ≡ Asked (link_number link) ask) × (IsBeingAnswered layout state link wide → ⊥)
+    IsEndedAsk (link_number link) ask (state.flights (side_of link) wide).turn × (IsBeingAnswered layout state link wide → ⊥)
 
 -- at the slave of a port: a request that has begun at a link and not ended
 abbrev pub IsCutUnderWay : Plan → State → Link → ℕ → Request → Type 0

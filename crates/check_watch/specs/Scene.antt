@@ -2,8 +2,8 @@
 -- "Beats and bursts" and "TL-UL and TL-UH operations" of the TileLink specification; when a request takes effect is the
 -- system's own affair.
 use Rattle.std.specs.Prelude.{ℕ, Bool, true, false, ◌&&◌, if◌then◌else◌, List, Option, Some, None, IsTrue, IsSomeAnd}
-use Rattle.tl_types.specs.Request.{Request}
 use Rattle.check_cells.specs.Pattern.{Pattern}
+use Rattle.check_cells.specs.Sent.{Sent}
 use Rattle.check_beats.specs.State.{Under, AskBegun, ReplyBegun, ends_ask, ends_reply, ask_of, reply_of}
 use Rattle.check_beats.specs.declared.beat.AskHead.{AskHead}
 use Rattle.check_beats.specs.declared.beat.ReplyHead.{ReplyHead}
@@ -39,7 +39,7 @@ pub record Scene : Type 0 where
 -- ---- messages
 
 -- the request that a beat ends, if it ends one
-abbrev pub ask_by : Under → AskHead → List ℕ → Option Request
+abbrev pub ask_by : Under → AskHead → List ℕ → Option Sent
 ask_by under beat lanes =
     if ends_ask under.bus under.asking beat then Some (ask_of under.bus under.asking beat lanes) else None
 
@@ -62,7 +62,7 @@ begins under (D beat) = begins_reply under.replying
 abbrev pub address_in : Turn → ℕ
 address_in Idle = 0
 address_in (Asking number) = 0
-address_in (Asked number ask) = ask.address
+address_in (Asked number sent) = sent.ask.address
 
 -- the reply that a beat ends, as it was captured
 abbrev pub captured : Under → Turn → ReplyHead → ℕ → List ℕ → Pattern
@@ -83,28 +83,28 @@ takes_effect layout (Port p) port = true
 takes_effect layout (Master m) port = if crosses_at_port layout port then false else true
 
 -- the request, if there is one and this holds
-abbrev pub ask_if : Bool → Option Request → Option Request
-ask_if true ask = ask
-ask_if false ask = None
+abbrev pub ask_if : Bool → Option Sent → Option Sent
+ask_if true sent = sent
+ask_if false sent = None
 
 -- the request that the slave accepts, with the beat that ends it
-abbrev pub accepted : Layout → Link → Scene → Beat → List ℕ → Option Request
+abbrev pub accepted : Layout → Link → Scene → Beat → List ℕ → Option Sent
 accepted layout link scene (A beat) lanes =
     ask_if (takes_effect layout link scene.port) (ask_by scene.under beat lanes)
 accepted layout link scene (D beat) lanes = None
 
 -- the request of this port that the slave answers, with the first beat of its reply
-abbrev pub answered : Layout → Link → ℕ → Option ReplyBegun → Turn → Option Request
+abbrev pub answered : Layout → Link → ℕ → Option ReplyBegun → Turn → Option Sent
 answered layout link port begun turn = ask_if (takes_effect layout link port && begins_reply begun) (asked turn)
 
 -- the slave may need memory with a beat, by what the beat finds: to accept the request that it ends, or to answer the one
 -- whose reply it begins
 abbrev pub SlaveMayNeed : Layout → Link → Scene → Beat → List ℕ → Type 0
 SlaveMayNeed layout link scene (A beat) lanes =
-    IsSomeAnd (accepted layout link scene (A beat) lanes) (λ ask. IsTrue (may_need_to_accept scene.slave ask))
+    IsSomeAnd (accepted layout link scene (A beat) lanes) (λ sent. IsTrue (may_need_to_accept scene.slave sent))
 SlaveMayNeed layout link scene (D beat) lanes =
     IsSomeAnd (answered layout link scene.port scene.under.replying scene.flight.turn)
-    (λ ask. IsTrue (may_need_to_answer scene.slave ask))
+    (λ sent. IsTrue (may_need_to_answer scene.slave sent))
 
 -- ---- what a beat finds, once the slave has answered the request whose reply begins with it
 
@@ -113,18 +113,18 @@ SlaveMayNeed layout link scene (D beat) lanes =
 abbrev pub once_answered : Layout → Link → Scene → Beat → Scene
 once_answered layout link scene (A beat) = scene
 once_answered layout link scene (D beat) =
-    let ask = answered layout link scene.port scene.under.replying scene.flight.turn in
+    let sent = answered layout link scene.port scene.under.replying scene.flight.turn in
     record scene {
-      flight = flight_due scene.flight (due_answering scene.port scene.slave scene.wide ask);
-      slave = answering scene.slave scene.wide ask;
+      flight = flight_due scene.flight (due_answering scene.port scene.slave scene.wide sent);
+      slave = answering scene.slave scene.wide sent;
     }
 
 -- ---- what is in flight
 
 -- a source is in flight from the first beat of its request to the last beat of its reply
-abbrev pub turn_by : ℕ → Option Request → Turn
+abbrev pub turn_by : ℕ → Option Sent → Turn
 turn_by number None = Asking number
-turn_by number (Some ask) = Asked number ask
+turn_by number (Some sent) = Asked number sent
 
 -- what is in flight of the beat's source on its side after the beat; the last beat of a reply leaves nothing.
 abbrev pub flight_after : Layout → Link → Scene → Beat → List ℕ → Flight
@@ -169,20 +169,20 @@ must_by false crossing due = due
 
 -- the entry of a reply that was captured: its request, the reply, and the port with the request's place there, which
 -- stand in what was due.
-abbrev pub seen_entry : Request → Pattern → Answer → SeenEntry
-seen_entry ask reply answer = record { ask = ask; reply = reply; port = answer.port; index = answer.index }
+abbrev pub seen_entry : Sent → Pattern → Answer → SeenEntry
+seen_entry sent reply answer = record { sent = sent; reply = reply; port = answer.port; index = answer.index }
 
 -- the reply to what is in flight, if this is due
 abbrev pub seen_reply : Turn → Pattern → Option Answer → Seen
-seen_reply (Asked number ask) reply (Some answer) = WholeReply (seen_entry ask reply answer)
-seen_reply (Asked number ask) reply None = Part
+seen_reply (Asked number sent) reply (Some answer) = WholeReply (seen_entry sent reply answer)
+seen_reply (Asked number sent) reply None = Part
 seen_reply (Asking number) reply answer = Part
 seen_reply Idle reply answer = Part
 
 -- a request that has ended is a whole one; if there is none, the beat was a part of one.
-abbrev pub seen_ask : Option Request → Seen
+abbrev pub seen_ask : Option Sent → Seen
 seen_ask None = Part
-seen_ask (Some ask) = WholeAsk
+seen_ask (Some sent) = WholeAsk
 
 -- what the beat ends: a part of a message ends none, a request, or a reply, told with its request
 abbrev pub seen : Layout → Link → Scene → Beat → ℕ → List ℕ → Seen

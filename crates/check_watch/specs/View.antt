@@ -1,8 +1,8 @@
 -- What a judge keeps of the beats so far. It is this project's own.
 use Rattle.std.specs.Prelude.{◌≡◌, ℕ, ◌+◌, ◌<◌, Bool, true, false, ◌&&◌, if◌then◌else◌, List, length, Option, Some, None, slice_get, slice_set, unwrap_or, IsTrue, IsSomeAnd}
-use Rattle.tl_types.specs.Request.{Request}
 use Rattle.tl_map.specs.Owner.{IsOwned}
 use Rattle.check_cells.specs.Pattern.{Pattern}
+use Rattle.check_cells.specs.Sent.{Sent}
 use Rattle.check_beats.specs.Form.{FitsAsk, FitsReply}
 use Rattle.check_beats.specs.State.{Under, first_ask, first_reply, ends_ask, ends_reply}
 use Rattle.check_beats.specs.declared.beat.AskHead.{AskHead}
@@ -96,7 +96,7 @@ is_answering_in view link port =
     takes_effect view.layout link port && begins_reply (under_in view link).replying
 
 -- the request in flight of a wide source that it answers then
-abbrev pub answered_in : GroupView → Link → ℕ → ℕ → Option Request
+abbrev pub answered_in : GroupView → Link → ℕ → ℕ → Option Sent
 answered_in view link wide port =
     answered view.layout link port (under_in view link).replying (flight_in view link wide).turn
 
@@ -112,7 +112,7 @@ due_in view link wide port = due_by (flight_in view link wide).due (late_answer 
 -- the port's slave may need memory to answer it
 abbrev pub MayNeedToAnswer : GroupView → Link → ℕ → ℕ → Type 0
 MayNeedToAnswer view link wide port =
-    IsSomeAnd (answered_in view link wide port) (λ ask. IsTrue (may_need_to_answer (slave_at view.slaves port) ask))
+    IsSomeAnd (answered_in view link wide port) (λ sent. IsTrue (may_need_to_answer (slave_at view.slaves port) sent))
 
 -- the reply that a beat ends to what is in flight of a wide source, as it was captured
 abbrev pub captured_in : GroupView → Link → ℕ → ReplyHead → ℕ → List ℕ → Pattern
@@ -161,16 +161,16 @@ with_side view (Master m) side = record view { masters = side }
 with_side view (Port p) side = record view { ports = side }
 
 -- the slave of a port accepts this request of a wide source, if there is one
-abbrev pub slaves_accepting : List PortSlave → ℕ → ℕ → Option Request → List PortSlave
+abbrev pub slaves_accepting : List PortSlave → ℕ → ℕ → Option Sent → List PortSlave
 slaves_accepting slaves port wide None = slaves
-slaves_accepting slaves port wide (Some ask) =
-    slice_set slaves port (accepting (slave_at slaves port) wide (Some ask))
+slaves_accepting slaves port wide (Some sent) =
+    slice_set slaves port (accepting (slave_at slaves port) wide (Some sent))
 
 -- it answers this one, if there is one
-abbrev pub slaves_answering : List PortSlave → ℕ → ℕ → Option Request → List PortSlave
+abbrev pub slaves_answering : List PortSlave → ℕ → ℕ → Option Sent → List PortSlave
 slaves_answering slaves port wide None = slaves
-slaves_answering slaves port wide (Some ask) =
-    slice_set slaves port (answering (slave_at slaves port) wide (Some ask))
+slaves_answering slaves port wide (Some sent) =
+    slice_set slaves port (answering (slave_at slaves port) wide (Some sent))
 
 -- a port takes a request, if it ends
 abbrev pub crossings_taken : List Crossing → ℕ → Bool → List Crossing
@@ -193,36 +193,36 @@ crossings_replied crossings (Master m) wide due reply = crossings
 crossings_replied crossings (Port p) wide due reply = crossings_given crossings wide due reply
 
 -- of a request that ends at a link, the one that its port's slave accepts: it, or none
-abbrev pub accepted_in : GroupView → Link → ℕ → Option Request → Option Request
-accepted_in view link port ask = ask_if (takes_effect view.layout link port) ask
+abbrev pub accepted_in : GroupView → Link → ℕ → Option Sent → Option Sent
+accepted_in view link port sent = ask_if (takes_effect view.layout link port) sent
 
 -- the slave may need memory to accept it
-abbrev pub MayNeedToAccept : GroupView → Link → ℕ → Option Request → Type 0
-MayNeedToAccept view link port ask =
-    IsSomeAnd (accepted_in view link port ask) (λ ask. IsTrue (may_need_to_accept (slave_at view.slaves port) ask))
+abbrev pub MayNeedToAccept : GroupView → Link → ℕ → Option Sent → Type 0
+MayNeedToAccept view link port sent =
+    IsSomeAnd (accepted_in view link port sent) (λ sent. IsTrue (may_need_to_accept (slave_at view.slaves port) sent))
 
 -- what is in flight of a source after a beat of its request at a link: the request, if it ends with the beat, and what
 -- its reply has to fit, if that is known then.
-abbrev pub asked_flight : GroupView → Link → ℕ → Option Request → Flight
-asked_flight view link port ask = record {
-  turn = turn_by (link_number link) ask;
-  due = due_accepting port (slave_at view.slaves port) (accepted_in view link port ask);
+abbrev pub asked_flight : GroupView → Link → ℕ → Option Sent → Flight
+asked_flight view link port sent = record {
+  turn = turn_by (link_number link) sent;
+  due = due_accepting port (slave_at view.slaves port) (accepted_in view link port sent);
 }
 
 -- this is under way at a link, and this is in flight there, from then on, and the port's slave accepts this request
-abbrev pub with_message : GroupView → Link → ℕ → ℕ → Under → Flight → Option Request → GroupView
-with_message view link wide port under flight ask =
+abbrev pub with_message : GroupView → Link → ℕ → ℕ → Under → Flight → Option Sent → GroupView
+with_message view link wide port under flight sent =
     record (with_side view link (side_with (own_side view link) (link_number link) under wide flight)) {
-      slaves = slaves_accepting view.slaves port wide ask;
+      slaves = slaves_accepting view.slaves port wide sent;
     }
 
 -- a beat of a request crosses
 abbrev pub with_ask : GroupView → Link → ℕ → ℕ → AskHead → List ℕ → GroupView
 with_ask view link wide port beat lanes =
     let under = under_in view link in
-    let ask = ask_by under beat lanes in
+    let sent = ask_by under beat lanes in
     record (with_message view link wide port (ask_crossed under beat lanes)
-    (asked_flight view link port ask) (accepted_in view link port ask)) {
+    (asked_flight view link port sent) (accepted_in view link port sent)) {
       crossings = crossings_asked view.crossings link wide (ends_ask under.bus under.asking beat);
     }
 

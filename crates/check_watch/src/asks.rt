@@ -16,8 +16,8 @@ use crate::beat::Link;
 use crate::fault::Reason;
 use crate::watch::GroupWatch;
 use check_beats::{AskHead, UnderWay};
-use check_flight::{Flight, FlightPlace};
-use tl_types::Ask;
+use check_cells::Sent;
+use check_flight::{Flight, FlightPlace, is_same_sent};
 
 /// The number of a link on its side.
 pub fn link_number(link: Link) -> usize
@@ -28,34 +28,27 @@ pub fn link_number(link: Link) -> usize
     }
 }
 
-/// Whether two requests are the same but for their sources.
-fn is_same_but_source(sent: &Ask, ask: &Ask) -> bool
-    ensures { IsTrue result ↔ (record sent.now { source = ask.now.source } ≡ ask.now) }
+/// Whether the request in flight of a master has ended, and is the one that was seen at the link of a port.
+fn is_asked_as(watch: &GroupWatch, flight: &Flight, port: usize, seen: &Sent) -> bool
+    ensures { IsTrue result ↔ IsAskedAs watch.now.layout port flight.now.turn seen.now }
 {
-    sent.op() == ask.op()
-        && sent.size() == ask.size()
-        && sent.address() == ask.address()
-        && sent.bytes().is_same(ask.bytes())
-}
-
-/// Whether the request in flight has ended, and is this one but for the source.
-fn is_asked_as(flight: &Flight, ask: &Ask) -> bool
-    ensures { IsTrue result ↔ IsAskedAs flight.now.turn ask.now }
-{
-    match flight.asked() {
-        Some(sent) => is_same_but_source(sent, ask),
-        None => false,
-    }
+    let Some(master) = flight.asked_at() else {
+        return false;
+    };
+    let Some(sent) = flight.asked() else {
+        return false;
+    };
+    is_same_sent(sent, seen, watch.crossing_bus(master, port))
 }
 
 /// Whether a master has sent a request that crosses to a port, and it has not crossed before.
-fn is_sent(watch: &GroupWatch, wide: usize, ask: &Ask) -> bool
+fn is_sent(watch: &GroupWatch, wide: usize, port: usize, seen: &Sent) -> bool
     requires { wide < wides_in watch.now }
     ensures { IsTrue result
-        ↔ (IsAskedAs (flight_at watch.now.masters.flights wide).turn ask.now
+        ↔ (IsAskedAs watch.now.layout port (flight_at watch.now.masters.flights wide).turn seen.now
         × (crossing_at watch.now.crossings wide ≡ Waiting)) }
 {
-    is_asked_as(watch.sent(wide), ask) && watch.crossing(wide).is_waiting()
+    is_asked_as(watch, watch.sent(wide), port, seen) && watch.crossing(wide).is_waiting()
 }
 
 /// Whether requests at a link are to be sent at another first: at a port's, if both sides are watched.
@@ -105,6 +98,7 @@ fn begins_placed(watch: &GroupWatch, link: Link, beat: &AskHead) -> bool
 fn is_whole_sent(
     watch: &GroupWatch,
     wide: usize,
+    port: usize,
     under: &UnderWay,
     beat: &AskHead,
     lanes: &[u8],
@@ -114,13 +108,13 @@ fn is_whole_sent(
     requires ends { IsTrue (ends_ask under.now.bus under.now.asking beat.now) }
     requires lanes { under.now.bus ≤ length lanes.now }
     ensures { IsTrue result
-        ↔ (IsAskedAs (flight_at watch.now.masters.flights wide).turn
+        ↔ (IsAskedAs watch.now.layout port (flight_at watch.now.masters.flights wide).turn
         (ask_of under.now.bus under.now.asking beat.now lanes.now)
         × (crossing_at watch.now.crossings wide ≡ Waiting)) }
 {
-    let mut ask = Ask::blank();
-    under.ask_into(beat, lanes, &mut ask);
-    is_sent(watch, wide, &ask)
+    let mut seen = Sent::blank();
+    under.ask_into(beat, lanes, &mut seen);
+    is_sent(watch, wide, port, &seen)
 }
 
 /// Whether a master has sent the request that a beat ends, if it ends one.
@@ -138,7 +132,7 @@ fn ends_sent(watch: &GroupWatch, link: Link, wide: usize, beat: &AskHead, lanes:
     let under = watch.link(link);
     !is_second(watch, link)
         || !under.ends_ask(beat)
-        || is_whole_sent(watch, wide, under, beat, lanes)
+        || is_whole_sent(watch, wide, link_number(link), under, beat, lanes)
 }
 
 /// Judges a beat of a request: its place, or the first reason why it is not lawful.

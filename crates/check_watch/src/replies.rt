@@ -49,9 +49,10 @@ pub fn answer_reason(
     if !flight.is_at(number) {
         return Some(Reason::NoRequest);
     }
-    let Some(ask) = flight.asked() else {
+    let Some(sent) = flight.asked() else {
         return Some(Reason::EarlyReply);
     };
+    let ask = sent.ask();
     if beat.size != ask.size() {
         return Some(Reason::WrongSize);
     }
@@ -247,7 +248,7 @@ pub fn seen_reply(
     if !watch.link(link).ends_reply(beat) {
         return Seen::Part;
     }
-    let Some(ask) = watch.flight(link, place.wide).asked() else {
+    let Some(sent) = watch.flight(link, place.wide).asked() else {
         return Seen::Part;
     };
     let mut room = Answer::blank();
@@ -256,7 +257,7 @@ pub fn seen_reply(
             let mut reply = Pattern::blank();
             watch.capture(link, place.wide, beat, known, lanes, &mut reply);
             Seen::WholeReply(SeenEntry {
-                ask: ask.copy(),
+                sent: sent.copy(),
                 reply,
                 port: answer.port,
                 index: answer.index,

@@ -1,5 +1,5 @@
 //! A reset of the whole system.
-ghost use Rattle.std.specs.Prelude.{◌≡◌, ◌↔◌, ◌<◌, ◌+◌, ℕ, List, [], length, map, OnOk, IsTrue};
+ghost use Rattle.std.specs.Prelude.{◌≡◌, ◌↔◌, ◌<◌, ◌+◌, ℕ, List, [], length, map, option_map, OnOk, IsTrue};
 ghost use Rattle.check_flight.specs.Crossing.Crossing.{Waiting};
 ghost use Rattle.check_flight.specs.Flight.{IsAskedAt, asked};
 ghost use Rattle.check_flight.specs.PortSlave.{PortSlave, once_reset};
@@ -84,10 +84,10 @@ impl GroupWatch {
     /// The request of a wide source that has ended at a link.
     fn asked_so_far(&self, link: Link, wide: usize) -> Option<AskSoFar>
         requires { wide < wides_in self.now }
-        ensures { result ≡ asked (flight_in self.now link wide).turn }
+        ensures { result ≡ option_map (λ sent. sent.ask) (asked (flight_in self.now link wide).turn) }
     {
         match self.flight(link, wide).asked() {
-            Some(ask) => Some(AskSoFar::whole(ask)),
+            Some(sent) => Some(AskSoFar::whole(sent.ask())),
             None => None,
         }
     }

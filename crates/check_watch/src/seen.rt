@@ -2,13 +2,13 @@
 ghost use Rattle.std.specs.Prelude.{◌≡◌, if◌then◌else◌};
 ghost use Rattle.check_watch.specs.Scene.{ended_by};
 
-use check_cells::Pattern;
-use tl_types::Ask;
+use check_cells::{Pattern, Sent};
 
 /// A request with the reply that was captured, its port, and its place in the port's list.
 #[derive(Debug, Drop)]
 pub struct SeenEntry {
-    pub ask: Ask,
+    /// The request as it crossed.
+    pub sent: Sent,
     pub reply: Pattern,
     pub port: usize,
     pub index: usize,

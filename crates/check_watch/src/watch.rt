@@ -85,6 +85,18 @@ fn owned(sources: &SourceOwners, source: u16) -> Option<u16>
     }
 }
 
+/// How many bytes a bus has: one, if there is none of that number.
+fn bytes_at(buses: &[Bus], number: usize) -> usize
+    ensures value { result ≡ bus_at buses.now number }
+    ensures some { 0 < result }
+    ensures in_limit { result ≤ MAX_LANES }
+{
+    match buses.get(number) {
+        Some(bus) => bus.bytes(),
+        None => 1,
+    }
+}
+
 /// No request has come across of so many wide sources.
 fn fresh_crossings(alloc: Global, count: usize) -> Result<Vec<Crossing>, AllocError>
     ensures counted { IfOk result (λ crossings. length crossings.items ≡ count) }
@@ -208,16 +220,14 @@ impl GroupWatch {
         self.link(link).bus()
     }
 
-    /// How many bytes the bus of a port's link has: one, if the port has no link.
-    fn port_bus(&self, port: usize) -> usize
-        ensures value { result ≡ bus_at self.now.layout.port_buses port }
+    /// How many bytes the wider one has of the buses of a master's link and of a port's.
+    pub(crate) fn crossing_bus(&self, master: usize, port: usize) -> usize
+        ensures value { result ≡ wider_bus self.now.layout (Link.Master master) port }
         ensures some { 0 < result }
         ensures in_limit { result ≤ MAX_LANES }
     {
-        match self.wiring.port_buses.get(port) {
-            Some(bus) => bus.bytes(),
-            None => 1,
-        }
+        let masters = bytes_at(&self.wiring.master_buses, master);
+        masters.max(bytes_at(&self.wiring.port_buses, port))
     }
 
     /// How many bytes the wider one has of the bus of a link and of that of a port's link.
@@ -227,7 +237,8 @@ impl GroupWatch {
         ensures some { 0 < result }
         ensures in_limit { result ≤ MAX_LANES }
     {
-        self.bus(link).bytes().max(self.port_bus(port))
+        let ports = bytes_at(&self.wiring.port_buses, port);
+        self.bus(link).bytes().max(ports)
     }
 
     /// When requests of a port take effect.
@@ -352,7 +363,7 @@ impl GroupWatch {
     {
         self.sized();
         match (self.flight(link, wide).asked(), link) {
-            (Some(ask), _) => self.port(link, ask.address(), ask.size()),
+            (Some(sent), _) => self.port(link, sent.ask().address(), sent.ask().size()),
             (None, Link::Port(port)) => port,
             (None, Link::Master(_)) => 0,
         }
@@ -433,8 +444,8 @@ impl GroupWatch {
             return flight.due();
         }
         match flight.asked() {
-            Some(ask) => {
-                if self.slave(port).due_into(port, wide, ask, room) {
+            Some(sent) => {
+                if self.slave(port).due_into(port, wide, sent, room) {
                     Some(room)
                 } else {
                     flight.due()
@@ -482,7 +493,7 @@ impl GroupWatch {
         ensures { reply.new ≡ captured_in self.now link wide beat.now known lanes.now }
     {
         let address = match self.flight(link, wide).asked() {
-            Some(ask) => ask.address(),
+            Some(sent) => sent.ask().address(),
             None => 0,
         };
         self.link(link)

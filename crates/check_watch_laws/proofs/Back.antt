@@ -1,7 +1,7 @@
 -- Beats that keep the rules at each moment are lawful.
 use Rattle.std.proofs.Common.{◌≡◌, ◌∙◌, ℕ, ◌%◌, ◌^◌, Bool, true, false, List, [], ◌∷◌, take, refl, ap, sym, subst}
 use Rattle.std.specs.Prelude.{◌&&◌}
-use Rattle.tl_types.specs.Request.{Request}
+use Rattle.check_cells.specs.Sent.{Sent}
 use Rattle.check_cells.specs.Pattern.{Pattern}
 use Rattle.check_beats.specs.Form.{FitsAsk, FitsReply}
 use Rattle.check_beats.specs.State.{Under, first_ask, first_reply, ends_ask, ends_reply, ask_of, reply_of}
@@ -58,7 +58,7 @@ module _ (plan : Plan) (is_plan : IsPlan plan) (past : List Sighting) (watched :
 
   -- ---- a beat of a request
 
-  abbrev ask_now : Link → AskHead → Request
+  abbrev ask_now : Link → AskHead → Sent
   ask_now at beat = ask_of (bus_of plan.layout at) (asking_at plan.layout at past) beat
       (take (bus_of plan.layout at) lanes)
 
@@ -82,13 +82,14 @@ module _ (plan : Plan) (is_plan : IsPlan plan) (past : List Sighting) (watched :
       record {
         fits = subst (λ (u : Under). FitsAsk u.bus (first_ask u.asking) beat) (sym (under_is link)) fits;
         aligned = seen.0;
-        known_lanes = seen.1;
+        marked = seen.1;
+        known_lanes = seen.2;
         source = rules.messages.known.0;
         free = λ empty. free_back plan past lawful link known lanes beat heads fits.same
             (rules.messages.sources (side_of link) (wide_of plan link beat.source)) (sym asking_is ∙ empty);
         placed = λ empty. placed_back plan past link known lanes beat (heads link) rules.messages
             (sym asking_is ∙ empty);
-        sent = λ ends. subst (λ (r : Request). IsSent plan.layout link scene.sent scene.crossing r)
+        sent = λ ends. subst (λ (r : Sent). IsSent plan.layout link scene.sent scene.crossing r)
             (sym (ap (λ (u : Under). ask_of u.bus u.asking beat lanes) (under_is link)
             ∙ sym (ask_on_bus plan.layout link (asking_at plan.layout link past) beat lanes)))
             (sent_so link beat rules (ap (λ (u : Under). ends_ask u.bus u.asking beat) (sym (under_is link)) ∙ ends));
@@ -113,13 +114,13 @@ module _ (plan : Plan) (is_plan : IsPlan plan) (past : List Sighting) (watched :
       (known % 2 ^ bus_of plan.layout at) (take (bus_of plan.layout at) lanes)
 
   -- the reply that ends is the one that must come
-  abbrev IsWell : Link → ReplyHead → Request → Bool → Type 0
+  abbrev IsWell : Link → ReplyHead → Sent → Bool → Type 0
   IsWell at beat ask given =
       let scene = scene_of plan s at (D beat) in
-      IsMust given (wider_bus plan.layout at scene.port) scene.crossing scene.flight.due (got_now at beat ask.address)
+      IsMust given (wider_bus plan.layout at scene.port) scene.crossing scene.flight.due (got_now at beat ask.ask.address)
 
   -- from a port
-  given_so : (at : Link) (beat : ReplyHead) → KeepsRules plan (reply_at at known lanes beat ∷ past) → (ask : Request)
+  given_so : (at : Link) (beat : ReplyHead) → KeepsRules plan (reply_at at known lanes beat ∷ past) → (ask : Sent)
       → (s.flights (side_of at) (wide_of plan at beat.source)).turn ≡ Asked (link_number at) ask
       → ends_reply (bus_of plan.layout at) (replying_at plan.layout at past) beat ≡ true
       → is_given plan.layout at (scene_found plan s at (D beat)).port ≡ true → IsWell at beat ask true
@@ -134,15 +135,15 @@ module _ (plan : Plan) (is_plan : IsPlan plan) (past : List Sighting) (watched :
       (s.flights AtPorts wide).turn =
       subst (λ t. Stands plan wide (story_at plan wide past) t (s.crossings wide)
       (s.flights AtPorts wide).turn) in_flight (all_stand plan is_plan both.0 past watched lawful wide) in
-      let route_is : port_in plan m turn ≡ route_of plan m ask.address ask.size = ap (λ t. port_in plan m t) in_flight in
+      let route_is : port_in plan m turn ≡ route_of plan m ask.ask.address ask.ask.size = ap (λ t. port_in plan m t) in_flight in
       subst (λ p. IsMust true (wider_bus plan.layout (Master m) p) (s.crossings wide)
-      (scene_of plan s (Master m) (D beat)).flight.due (got_now (Master m) beat ask.address)) (sym route_is)
+      (scene_of plan s (Master m) (D beat)).flight.due (got_now (Master m) beat ask.ask.address)) (sym route_is)
       (given_back plan past lawful m known lanes beat ask in_flight ends out (rules.crossings both.0 wide)
       (s.crossings wide) (s.flights AtPorts wide).turn
-      (subst (λ b. IsOut plan wide (story_at plan wide past) b (goes_to plan wide m ask) ask (s.crossings wide)
+      (subst (λ b. IsOut plan wide (story_at plan wide past) b m (goes_to plan wide m ask) ask (s.crossings wide)
       (s.flights AtPorts wide).turn) out stands))
 
-  well : (beat : ReplyHead) → KeepsRules plan (reply_at link known lanes beat ∷ past) → (ask : Request)
+  well : (beat : ReplyHead) → KeepsRules plan (reply_at link known lanes beat ∷ past) → (ask : Sent)
       → (s.flights (side_of link) (wide_of plan link beat.source)).turn ≡ Asked (link_number link) ask
       → EndsWell plan.layout link (scene_of plan s link (D beat)) beat known lanes
   well beat rules ask in_flight ends_here =
@@ -151,10 +152,10 @@ module _ (plan : Plan) (is_plan : IsPlan plan) (past : List Sighting) (watched :
       let ends : ends_reply (bus_of plan.layout link) (replying_at plan.layout link past) beat ≡ true =
       ap (λ (u : Under). ends_reply u.bus u.replying beat) (sym (under_is link)) ∙ ends_here in
       let got_is : captured (s.links (side_of link) (link_number link))
-      (s.flights (side_of link) (wide_of plan link beat.source)).turn beat known lanes ≡ got_now link beat ask.address =
+      (s.flights (side_of link) (wide_of plan link beat.source)).turn beat known lanes ≡ got_now link beat ask.ask.address =
       ap (λ t. captured (s.links (side_of link) (link_number link)) t beat known lanes) in_flight
       ∙ ap (λ (u : Under). captured u (Asked (link_number link) ask) beat known lanes) (under_is link)
-      ∙ sym (reply_on_bus plan.layout link (replying_at plan.layout link past) ask.address beat known lanes) in
+      ∙ sym (reply_on_bus plan.layout link (replying_at plan.layout link past) ask.ask.address beat known lanes) in
       subst (λ (r : Pattern). IsMust (is_given plan.layout link found) (wider_bus plan.layout link found)
       scene.crossing scene.flight.due r) (sym got_is)
       (go (is_given plan.layout link found) refl ends)
@@ -180,14 +181,14 @@ module _ (plan : Plan) (is_plan : IsPlan plan) (past : List Sighting) (watched :
       (rules.messages.sources (side_of link) wide) in
       let next = next_is plan past link wide turn answering.ask
       (in_step plan past lawful (side_of link) wide) answering.in_flight in
-      let unknown : may_be_unknown scene.slave ≡ may_be_unknown (reset_of plan (port_for plan link answering.ask)) =
+      let unknown : may_be_unknown scene.slave ≡ may_be_unknown (reset_of plan (port_for plan link answering.ask.ask)) =
       slave_found plan s link (D beat) ∙ unknown_stays plan past scene.port
       ∙ ap (λ p. may_be_unknown (reset_of plan p)) (sym (reply_goes plan link turn (link_number link) beat answering.ask
       answering.in_flight)) in
       let bus : bus_of plan.layout link ≡ scene.under.bus = sym (ap (λ (u : Under). u.bus) (under_is link)) in
-      let lanes_known : HasKnownLanes scene.under.bus (may_be_unknown scene.slave) answering.ask beat known =
-      subst (λ n. HasKnownLanes n (may_be_unknown scene.slave) answering.ask beat known) bus
-      (subst (λ b. HasKnownLanes (bus_of plan.layout link) b answering.ask beat known) (sym unknown)
+      let lanes_known : HasKnownLanes scene.under.bus (may_be_unknown scene.slave) answering.ask.ask beat known =
+      subst (λ n. HasKnownLanes n (may_be_unknown scene.slave) answering.ask.ask beat known) bus
+      (subst (λ b. HasKnownLanes (bus_of plan.layout link) b answering.ask.ask beat known) (sym unknown)
       (seen.1 answering.ask next)) in
       record {
         fits = subst (λ (u : Under). FitsReply (first_reply u.replying) beat) (sym (under_is link)) fits;

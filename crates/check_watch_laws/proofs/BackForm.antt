@@ -1,7 +1,7 @@
 -- Beats of whole messages fit one after the other: the way back from what lawful beats say of messages.
 use Rattle.std.proofs.Common.{◌≡◌, ◌≢◌, ◌∙◌, ℕ, ◌≤◌, ◌%◌, ◌^◌, Bool, true, false, if◌then◌else◌, List, [], ◌∷◌, ◌++◌, length, Option, Some, None, slice_get, take, refl, ap, sym, subst, append-nil}
 use Rattle.std.specs.List.{AllByRecursion}
-use Rattle.tl_types.specs.Request.{Request}
+use Rattle.check_cells.specs.Sent.{Sent}
 use Rattle.tl_types.specs.declared.limits.TheConstants.{MAX_SIZE}
 use Rattle.check_cells.specs.Pattern.{Pattern}
 use Rattle.check_beats.specs.Form.{Continues, FitsAsk, FitsReply, IsLawfulMaskOnBus, SameFields, SameReplyFields}
@@ -39,7 +39,7 @@ slice_at [] y rest = refl
 slice_at (x ∷ xs) y rest = slice_at xs y rest
 
 -- a beat of a request that is spelled has the fields of the first one
-same_as_first : (n : ℕ) (ask : Request) (kept : Option AskBegun) (beats : List AskBeat) (b : AskBeat)
+same_as_first : (n : ℕ) (ask : Sent) (kept : Option AskBegun) (beats : List AskBeat) (b : AskBeat)
     (rest : List AskBeat) → AskHeads kept beats → IsSpelled n (ask, (beats ++ b ∷ []) ++ rest)
     → Continues SameFields (first_ask kept) b.head
 same_as_first n ask None beats b rest heads is = λ h at. absurd (cc)
@@ -57,7 +57,7 @@ same_as_first n ask (Some v) (f ∷ more) b rest heads is = λ h at.
     }
 
 -- it fits after those before it
-spelled_fits : (n : ℕ) (ask : Request) (kept : Option AskBegun) (beats : List AskBeat) (b : AskBeat)
+spelled_fits : (n : ℕ) (ask : Sent) (kept : Option AskBegun) (beats : List AskBeat) (b : AskBeat)
     (rest : List AskBeat) → AskHeads kept beats → IsSpelled n (ask, (beats ++ b ∷ []) ++ rest)
     → FitsAsk n (first_ask kept) b.head
 spelled_fits n ask kept beats b rest heads is =
@@ -65,12 +65,12 @@ spelled_fits n ask kept beats b rest heads is =
     let fields = here.fields in
     record {
       formed = record {
-        op = ask.op;
+        op = ask.ask.op;
         code = record { opcode_is = sym fields.opcode; param_is = sym fields.param };
-        in_limit = subst (λ k. k ≤ MAX_SIZE) (sym fields.size) is.0.in_limit;
-        mask = subst (λ k. IsLawfulMaskOnBus n ask.op k b.head.address b.head.mask) (sym fields.size)
-            (subst (λ a. IsLawfulMaskOnBus n ask.op ask.size a b.head.mask) (sym fields.address) here.mask);
-        clean = here.clean;
+        in_limit = subst (λ k. k ≤ MAX_SIZE) (sym fields.size) is.0.lawful.in_limit;
+        mask = subst (λ k. IsLawfulMaskOnBus n ask.ask.op k b.head.address b.head.mask) (sym fields.size)
+            (subst (λ a. IsLawfulMaskOnBus n ask.ask.op ask.ask.size a b.head.mask) (sym fields.address) here.mask);
+        flag = here.flag;
       };
       same = same_as_first n ask kept beats b rest heads is;
     }
@@ -131,7 +131,7 @@ module _ (layout : Layout) (past : List Sighting) (link : Link) (known : ℕ) (l
       b : AskBeat
       b = ask_beat (bus_of layout link) beat lanes
 
-      go : (ends : Bool) (ask : Request) → AllByRecursion (IsSpelled (bus_of layout link))
+      go : (ends : Bool) (ask : Sent) → AllByRecursion (IsSpelled (bus_of layout link))
           (if ends then ended_at layout link past
           ++ (ask, begun_at layout link past ++ ask_beat (bus_of layout link) beat lanes ∷ []) ∷ []
           else ended_at layout link past)

@@ -1,7 +1,7 @@
 -- Replies of slaves, and replies that cross, are those that must come: the way back from what lawful beats say of replies.
 use Rattle.std.proofs.Common.{◌≡◌, ◌∙◌, ℕ, ◌%◌, ◌^◌, max, true, false, if◌then◌else◌, List, [], ◌∷◌, ◌++◌, zip, take, Option, Some, None, refl, ap, sym, subst, append-nil}
 use Rattle.std.specs.Prelude.{◌==◌, ◌&&◌, IsSomeAnd}
-use Rattle.tl_types.specs.Request.{Request}
+use Rattle.check_cells.specs.Sent.{Sent}
 use Rattle.check_cells.specs.Pattern.{Pattern, FitsCaptured}
 use Rattle.check_beats.specs.State.{ends_reply, reply_of}
 use Rattle.check_beats.specs.declared.beat.ReplyHead.{ReplyHead}
@@ -21,7 +21,7 @@ use Rattle.check_watch.specs.Scene.{takes_effect, is_given}
 use Rattle.check_watch.proofs.InFlight.{reply_at}
 use Rattle.check_watch_laws.specs.Crossed.{AskSeen, ReplySeen, AreWatched, reply_beat, replying_at, begun_replies_at, asks, replies, exchanges}
 use Rattle.check_watch_laws.specs.Crossings.{answered_from_outside, IsGiven, AreGiven, MessagesCross}
-use Rattle.check_watch_laws.specs.Memories.{side_for, port_for, is_for, IsEntry, AreEntries, exchanges_at, entries_of}
+use Rattle.check_watch_laws.specs.Memories.{side_for, port_for, is_for, IsEntry, AreEntries, exchanges_at, entries_of, with_source}
 use Rattle.check_watch_laws.specs.Moments.{IsDueAt}
 use Rattle.check_watch_laws.proofs.BackTurns.{asks_with_reply, replies_with_reply}
 use Rattle.check_watch_laws.proofs.Crossing.{story_at}
@@ -40,9 +40,9 @@ use Rattle.check_watch_laws.proofs.Turns.{link_on, own_link, eqb_own, same_side-
 
 -- the entry of the last exchange is the one after those of the others
 last_entry_of : (wide : ℕ) (seen : List (AskSeen × ReplySeen)) (last : AskSeen × ReplySeen)
-    (front rest : List (Request × Pattern)) → AreMatched wide seen front
+    (front rest : List (Sent × Pattern)) → AreMatched wide seen front
     → AreEntries wide (seen ++ last ∷ []) (front ++ rest)
-    → (entry : Request × Pattern) × (more : List (Request × Pattern)) × (rest ≡ entry ∷ more)
+    → (entry : Sent × Pattern) × (more : List (Sent × Pattern)) × (rest ≡ entry ∷ more)
     × IsEntry wide last entry
 last_entry_of wide [] last [] [] all are = absurd are
 last_entry_of wide [] last [] (entry ∷ more) all are = (entry, more, refl, are.0)
@@ -73,34 +73,34 @@ effect_of : (layout : Layout) (link : Link) (port : ℕ) → is_given layout lin
 effect_of layout (Port p) port is = refl
 effect_of layout (Master m) port is = ap (λ b. if b then false else true) is
 
-abbrev first_entry : Request × Pattern → List (Request × Pattern) → Request × Pattern
+abbrev first_entry : Sent × Pattern → List (Sent × Pattern) → Sent × Pattern
 first_entry other [] = other
 first_entry other (entry ∷ more) = entry
 
 -- the reply that is owed is the entry
-owed_entry : (plan : Plan) (port wide n : ℕ) (link : Link) (ask : Request) (due : Option Answer)
-    (entry : Request × Pattern) (more : List (Request × Pattern)) (reply : ReplySeen) → n ≡ link_number link
-    → (port_for plan link ask == port) ≡ true
+owed_entry : (plan : Plan) (port wide n : ℕ) (link : Link) (ask : Sent) (due : Option Answer)
+    (entry : Sent × Pattern) (more : List (Sent × Pattern)) (reply : ReplySeen) → n ≡ link_number link
+    → (port_for plan link ask.ask == port) ≡ true
     → owed plan port wide (side_of link) (Asked n ask) due ≡ entry ∷ more → IsSourced (Asked n ask) due
-    → IsEntry wide (record { link = link; ask = ask }, reply) entry
-    → IsSomeAnd due (λ answer. FitsCaptured answer.reply (reply.reply ask.address))
+    → IsEntry wide (record { link = link; sent = ask }, reply) entry
+    → IsSomeAnd due (λ answer. FitsCaptured answer.reply (reply.reply ask.ask.address))
 owed_entry plan port wide n link ask None entry more reply number goes is sourced one = cc
 owed_entry plan port wide n link ask (Some answer) entry more reply number goes is sourced one =
     let there : link_on (side_of link) n ≡ link = ap (λ k. link_on (side_of link) k) number ∙ own_link link in
-    let own : Request × Pattern = (record ask { source = wide }, record answer.reply { source = wide }) in
-    let goes_so : (port_for plan (link_on (side_of link) n) ask == port) ≡ true =
-    ap (λ l. port_for plan l ask == port) there ∙ goes in
+    let own : Sent × Pattern = (with_source wide ask, record answer.reply { source = wide }) in
+    let goes_so : (port_for plan (link_on (side_of link) n) ask.ask == port) ≡ true =
+    ap (λ l. port_for plan l ask.ask == port) there ∙ goes in
     let lists : own ∷ [] ≡ entry ∷ more = sym (ap (λ b. if b then own ∷ [] else []) goes_so) ∙ is in
     let same : own ≡ entry = ap (first_entry own) lists in
-    let this : IsEntry wide (record { link = link; ask = ask }, reply) own =
-    subst (λ e. IsEntry wide (record { link = link; ask = ask }, reply) e) (sym same) one in
-    subst (λ k. FitsCaptured (record answer.reply { source = k }) (reply.reply ask.address)) (sym sourced) this.fits
+    let this : IsEntry wide (record { link = link; sent = ask }, reply) own =
+    subst (λ e. IsEntry wide (record { link = link; sent = ask }, reply) e) (sym same) one in
+    subst (λ k. FitsCaptured (record answer.reply { source = k }) (reply.reply ask.ask.address)) (sym sourced) this.fits
 
 -- ---- a reply that ends
 
 module _ (plan : Plan) (past : List Sighting) (watched : AreWatched plan.layout past) (lawful : IsLawfulGroup plan past)
     (link : Link) (known : ℕ) (lanes : List ℕ) (has : HasLink plan.layout link)
-    (seen_here : IsGroupLink plan.layout link) (beat : ReplyHead) (ask : Request)
+    (seen_here : IsGroupLink plan.layout link) (beat : ReplyHead) (ask : Sent)
     (in_flight : ((state plan past).flights (side_of link) (wide_of plan link beat.source)).turn ≡ Asked
     (link_number link) ask)
     (ends : ends_reply (bus_of plan.layout link) (replying_at plan.layout link past) beat ≡ true) where
@@ -130,14 +130,14 @@ module _ (plan : Plan) (past : List Sighting) (watched : AreWatched plan.layout 
   }
 
   abbrev last : AskSeen × ReplySeen
-  last = (record { link = link; ask = ask }, ended_now)
+  last = (record { link = link; sent = ask }, ended_now)
 
   step : InStep (side_of link) turn (asks plan (side_of link) own past) (replies plan (side_of link) own past)
   step = in_step plan past lawful (side_of link) own
 
-  asked_is : asks plan (side_of link) own past ≡ step.done ++ record { link = link; ask = ask } ∷ []
+  asked_is : asks plan (side_of link) own past ≡ step.done ++ record { link = link; sent = ask } ∷ []
   asked_is = step.asks_are ∙ ap (λ t. step.done ++ pending (side_of link) t) in_flight
-      ∙ ap (λ (l : Link). step.done ++ record { link = l; ask = ask } ∷ []) (own_link link)
+      ∙ ap (λ (l : Link). step.done ++ record { link = l; sent = ask } ∷ []) (own_link link)
 
   asks_are : asks plan (side_of link) own (reply_at link known lanes beat ∷ past) ≡ asks plan (side_of link) own past
       ++ []
@@ -150,9 +150,9 @@ module _ (plan : Plan) (past : List Sighting) (watched : AreWatched plan.layout 
 
   -- the reply of a slave
   pub memory_back : is_given plan.layout link found ≡ false
-      → ((port : ℕ) → (history : List (Request × Pattern))
+      → ((port : ℕ) → (history : List (Sent × Pattern))
       × IsDueAt plan (reply_at link known lanes beat ∷ past) port history)
-      → IsSomeAnd due (λ answer. FitsCaptured answer.reply (ended_now.reply ask.address))
+      → IsSomeAnd due (λ answer. FitsCaptured answer.reply (ended_now.reply ask.ask.address))
   memory_back given memories =
       let linked = links_are plan past in
       let steps = in_step plan past lawful in
@@ -163,10 +163,10 @@ module _ (plan : Plan) (past : List Sighting) (watched : AreWatched plan.layout 
       sym (takes plan.layout link found has seen_here (port_own plan link turn (D beat))) ∙ effect in
       let side : side_of link ≡ side_for plan.layout found =
       same_side-true (side_of link) (side_for plan.layout found) same in
-      let goes : port_for plan link ask ≡ found =
+      let goes : port_for plan link ask.ask ≡ found =
       goes_there plan s past linked steps dues replayed link known lanes has seen_here beat ask in_flight in
-      let goes_so : (port_for plan link ask == found) ≡ true = ap (λ n. n == found) goes ∙ eqb_own found in
-      let for_it : is_for plan found last.0 ≡ true = ap (λ b. b && (port_for plan link ask == found)) same ∙ goes_so in
+      let goes_so : (port_for plan link ask.ask == found) ≡ true = ap (λ n. n == found) goes ∙ eqb_own found in
+      let for_it : is_for plan found last.0 ≡ true = ap (λ b. b && (port_for plan link ask.ask == found)) same ∙ goes_so in
       let was = told_at plan s past found own own (side_for plan.layout found) (side_of link) side refl
       (are_told plan past watched lawful found own) in
       let told = memories found in
@@ -199,7 +199,7 @@ module _ (plan : Plan) (past : List Sighting) (watched : AreWatched plan.layout 
 
 -- the reply that a port gave
 module _ (plan : Plan) (past : List Sighting) (lawful : IsLawfulGroup plan past) (m known : ℕ) (lanes : List ℕ)
-    (beat : ReplyHead) (ask : Request)
+    (beat : ReplyHead) (ask : Sent)
     (in_flight : ((state plan past).flights AtMasters (plan.wide m beat.source)).turn ≡ Asked m ask)
     (ends : ends_reply (bus_of plan.layout (Master m)) (replying_at plan.layout (Master m) past) beat ≡ true)
     (out : is_out plan (plan.wide m beat.source) m ask ≡ true)
@@ -222,7 +222,7 @@ module _ (plan : Plan) (past : List Sighting) (lawful : IsLawfulGroup plan past)
   }
 
   abbrev one : AskSeen × ReplySeen
-  one = (record { link = Master m; ask = ask }, got_now)
+  one = (record { link = Master m; sent = ask }, got_now)
 
   abbrev before : List (AskSeen × ReplySeen)
   before = answered_from_outside plan (exchanges plan AtMasters wide past)
@@ -248,9 +248,9 @@ module _ (plan : Plan) (past : List Sighting) (lawful : IsLawfulGroup plan past)
   abbrev port : ℕ
   port = goes_to plan wide m ask
 
-  pub given_back : (far : Crossing) (there : Turn) → IsOut plan wide story true port ask far there
+  pub given_back : (far : Crossing) (there : Turn) → IsOut plan wide story true m port ask far there
       → IsSomeAnd (given_in far)
-      (λ answer. IsSameReply (wider_bus plan.layout (Master m) port) answer.reply (got_now.reply ask.address))
+      (λ answer. IsSameReply (wider_bus plan.layout (Master m) port) answer.reply (got_now.reply ask.ask.address))
   given_back Waiting there stands =
       absurd (not_all_given plan.layout wide before (exchanges plan AtPorts wide past) one stands.given given_now)
   given_back Crossed there stands =
@@ -259,7 +259,7 @@ module _ (plan : Plan) (past : List Sighting) (lawful : IsLawfulGroup plan past)
       let this : IsGiven plan.layout wide one stands.last =
       last_given plan.layout wide before stands.front one stands.last stands.given
       (subst (λ l. AreGiven plan.layout wide (before ++ one ∷ []) l) stands.split given_now) in
-      subst (λ (r : Pattern). IsSameReply (wider_bus plan.layout (Master m) port) r (got_now.reply ask.address))
+      subst (λ (r : Pattern). IsSameReply (wider_bus plan.layout (Master m) port) r (got_now.reply ask.ask.address))
       (sym stands.reply_is)
       (subst (λ (l : Link). IsSameReply (max (bus_of plan.layout (Master m)) (bus_of plan.layout l))
-      (stands.last.1.reply stands.last.0.ask.address) (got_now.reply ask.address)) stands.link_is this.reply)
+      (stands.last.1.reply stands.last.0.sent.ask.address) (got_now.reply ask.ask.address)) stands.link_is this.reply)

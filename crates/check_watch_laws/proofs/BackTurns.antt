@@ -3,6 +3,7 @@ use Rattle.std.proofs.Common.{◌≡◌, ◌∙◌, ℕ, suc, ◌+◌, ◌-◌, 
 use Rattle.std.specs.Prelude.{slice_range}
 use Rattle.std.specs.List.{AllByRecursion}
 use Rattle.tl_types.specs.Request.{Request}
+use Rattle.check_cells.specs.Sent.{Sent}
 use Rattle.check_beats.specs.Form.{Continues, SameFields, SameReplyFields}
 use Rattle.check_beats.specs.Laws.{begun, begun_reply}
 use Rattle.check_beats.specs.Spelling.{AskBeat, ReplyBeat}
@@ -94,7 +95,7 @@ module _ (plan : Plan) (past : List Sighting) (lawful : IsLawfulGroup plan past)
   abbrev ends_now : Bool
   ends_now = ends_ask (bus_of plan.layout link) (asking_at plan.layout link past) beat
 
-  abbrev ask_now : Request
+  abbrev ask_now : Sent
   ask_now = ask_of (bus_of plan.layout link) (asking_at plan.layout link past) beat
       (take (bus_of plan.layout link) lanes)
 
@@ -116,11 +117,11 @@ module _ (plan : Plan) (past : List Sighting) (lawful : IsLawfulGroup plan past)
       (asks plan (side_of link) own past) + (if ends then 1 else 0)
   now true is = ap (λ (l : List AskSeen). length l) (asks_with_ask plan past link known lanes beat)
       ∙ ap (λ b. length (asks plan (side_of link) own past
-      ++ (if b then record { link = link; ask = ask_now } ∷ [] else []))) is
-      ∙ length-append (asks plan (side_of link) own past) (record { link = link; ask = ask_now } ∷ [])
+      ++ (if b then record { link = link; sent = ask_now } ∷ [] else []))) is
+      ∙ length-append (asks plan (side_of link) own past) (record { link = link; sent = ask_now } ∷ [])
   now false is = ap (λ (l : List AskSeen). length l) (asks_with_ask plan past link known lanes beat)
       ∙ ap (λ b. length (asks plan (side_of link) own past
-      ++ (if b then record { link = link; ask = ask_now } ∷ [] else []))) is
+      ++ (if b then record { link = link; sent = ask_now } ∷ [] else []))) is
       ∙ ap (λ (l : List AskSeen). length l) (append-nil (asks plan (side_of link) own past)) ∙ omega arith
 
   answered_now : length (replies plan (side_of link) own (ask_at link known lanes beat ∷ past)) ≡ length
@@ -232,7 +233,7 @@ placed_back plan past (Port p) known lanes beat heads messages empty =
         let side = side_of (Port p) in
         let seen : AskSeen = record {
           link = Port p;
-          ask = ask_of (bus_of plan.layout (Port p)) (asking_at plan.layout (Port p) past) beat
+          sent = ask_of (bus_of plan.layout (Port p)) (asking_at plan.layout (Port p) past) beat
               (take (bus_of plan.layout (Port p)) lanes);
         } in
         let all : AllByRecursion (IsInPlace plan.layout wide) (asks plan side wide past ++ seen ∷ []) =
@@ -322,20 +323,20 @@ module _ (plan : Plan) (past : List Sighting) (lawful : IsLawfulGroup plan past)
 
   -- the request in flight that has ended, with what the beat answers
   pub record IsAnswering : Type 0 where
-    pub ask : Request
+    pub ask : Sent
     pub in_flight : at ≡ Asked (link_number link) ask
-    pub answers : IsReplyBeatTo ask beat
+    pub answers : IsReplyBeatTo ask.ask beat
 
   -- a pending request at this link is the one in flight
-  of_pending : (t : Turn) (ask : Request) → pending (side_of link) t ≡ record { link = link; ask = ask } ∷ []
+  of_pending : (t : Turn) (ask : Sent) → pending (side_of link) t ≡ record { link = link; sent = ask } ∷ []
       → t ≡ Asked (link_number link) ask
   of_pending Idle ask is = cc
   of_pending (Asking n) ask is = cc
   of_pending (Asked n other) ask is =
-      let seen = ap (first_seen (record { link = link; ask = ask })) is in
+      let seen = ap (first_seen (record { link = link; sent = ask })) is in
       let number : n ≡ link_number link =
       sym (number_on (side_of link) n) ∙ ap (λ (a : AskSeen). link_number a.link) seen in
-      ap (λ k. Asked k other) number ∙ ap (λ (a : AskSeen). Asked (link_number link) a.ask) seen
+      ap (λ k. Asked k other) number ∙ ap (λ (a : AskSeen). Asked (link_number link) a.sent) seen
 
   by_end : (ends : Bool) → ends_here ≡ ends → IsAnswering
   by_end false e =
@@ -351,7 +352,7 @@ module _ (plan : Plan) (past : List Sighting) (lawful : IsLawfulGroup plan past)
       } in
       let asked = turns.replies_asked link refl there in
       let side = side_of link in
-      let next : next_answered plan side mine past ≡ record { link = link; ask = asked.0 } ∷ [] =
+      let next : next_answered plan side mine past ≡ record { link = link; sent = asked.0 } ∷ [] =
       sym (ap (λ l. slice_range l (length (replies plan side mine (reply_at link known lanes beat ∷ past)))
       (suc (length (replies plan side mine (reply_at link known lanes beat ∷ past)))))
       (asks_with_reply plan past link known lanes beat)
@@ -363,7 +364,7 @@ module _ (plan : Plan) (past : List Sighting) (lawful : IsLawfulGroup plan past)
       record {
         ask = asked.0;
         in_flight = of_pending at asked.0 (sym (next_pending plan past side mine at kept) ∙ next);
-        answers = parts.4 asked.0 asked.2;
+        answers = parts.4 asked.0.ask asked.2;
       }
   by_end true e = go at refl
     where
@@ -389,7 +390,7 @@ module _ (plan : Plan) (past : List Sighting) (lawful : IsLawfulGroup plan past)
       go Idle is = absurd (omega (arith, enough, ap (λ t. length (pending (side_of link) t)) is))
       go (Asking n) is = absurd (omega (arith, enough, ap (λ t. length (pending (side_of link) t)) is))
       go (Asked n ask) is =
-          let last : AskSeen = record { link = link_on (side_of link) n; ask = ask } in
+          let last : AskSeen = record { link = link_on (side_of link) n; sent = ask } in
           let answered = replies plan (side_of link) mine past in
           let asked_is : asks plan (side_of link) mine (reply_at link known lanes beat ∷ past) ≡ kept.done ++ last ∷ [] =
           asks_with_reply plan past link known lanes beat ∙ kept.asks_are
@@ -405,7 +406,7 @@ module _ (plan : Plan) (past : List Sighting) (lawful : IsLawfulGroup plan past)
           record {
             ask = ask;
             in_flight = is ∙ ap (λ k. Asked k ask) number;
-            answers = last_of_all (λ (b : ReplyBeat). IsReplyBeatTo ask b.head) (begun_replies_at plan.layout link past)
+            answers = last_of_all (λ (b : ReplyBeat). IsReplyBeatTo ask.ask b.head) (begun_replies_at plan.layout link past)
                 last_beat one.beats;
           }
 

@@ -1,9 +1,9 @@
 -- A request that is in flight and has not ended is under way at its link.
 use Rattle.std.proofs.Common.{◌≡◌, ◌∙◌, ℕ, ◌+◌, Bool, true, false, if◌then◌else◌, List, [], ◌∷◌, ◌++◌, Option, Some, None, unwrap_or, refl, ap, sym, subst}
-use Rattle.tl_types.specs.Request.{Request}
+use Rattle.check_cells.specs.Sent.{Sent}
 use Rattle.check_beats.specs.Form.{Continues, SameFields}
-use Rattle.check_beats.specs.Message.{ask_part}
-use Rattle.check_beats.specs.State.{Under, AskBegun, first_ask, ends_ask, ends_reply, ask_of, asked_beats, asked_bytes}
+use Rattle.check_beats.specs.Message.{ask_part, spoiled_ask_part}
+use Rattle.check_beats.specs.State.{Under, AskBegun, first_ask, ends_ask, ends_reply, ask_of, asked_beats, asked_bytes, asked_spoiled}
 use Rattle.check_beats.specs.declared.beat.AskHead.{AskHead}
 use Rattle.check_beats.specs.declared.beat.ReplyHead.{ReplyHead}
 use Rattle.check_flight.specs.Flight.{Turn, idle}
@@ -31,7 +31,7 @@ abbrev pub AskingHasBegun : Plan → State → Type 0
 AskingHasBegun plan s =
     (side : LinkSide) (wide n : ℕ) → (s.flights side wide).turn ≡ Asking n → IsAsking plan s wide (link_on side n)
 
-asked_or_asking : (m n : ℕ) (ask : Request) → Asked m ask ≡ Asking n → ⊥
+asked_or_asking : (m n : ℕ) (ask : Sent) → Asked m ask ≡ Asking n → ⊥
 asked_or_asking m n ask is = subst Is is tt
   where
     Is : Turn → Type 0
@@ -61,6 +61,7 @@ module _ (plan : Plan) (s : State) (before : AskingHasBegun plan s) (link : Link
             first = unwrap_or (first_ask under.asking) beat;
             beats = asked_beats under.asking + 1;
             bytes = asked_bytes under.asking ++ ask_part under.bus beat lanes;
+            spoiled = asked_spoiled under.asking ++ spoiled_ask_part under.bus beat;
           } in (
             begun,
             ap (λ (h : Bool). (if h then under_after under (A beat) known lanes else under).asking) (own_is link)

@@ -2,14 +2,14 @@
 use Rattle.std.proofs.Common.{◌≡◌, ◌∙◌, ℕ, ◌%◌, ◌^◌, ◌⊎◌, inl, inr, Bool, true, false, if◌then◌else◌, List, [], ◌∷◌, ◌++◌, Some, None, length, take, refl, ap, sym, subst, arith, eqb-true, append-nil}
 use Rattle.std.specs.Prelude.{◌==◌, ◌&&◌}
 use Rattle.std.specs.List.{AllByRecursion}
-use Rattle.tl_types.specs.Request.{Request}
+use Rattle.check_cells.specs.Sent.{Sent}
 use Rattle.tl_map.specs.Owner.{IsOf, IsWideSource}
 use Rattle.tl_map.proofs.Kept.{one_owner}
 use Rattle.check_cells.specs.Pattern.{Pattern}
 use Rattle.check_beats.specs.State.{Under, ends_ask, ends_reply, ask_of, reply_of}
 use Rattle.check_beats.specs.declared.beat.AskHead.{AskHead}
 use Rattle.check_beats.specs.declared.beat.ReplyHead.{ReplyHead}
-use Rattle.check_flight.specs.Crossing.{Crossing}
+use Rattle.check_flight.specs.Crossing.{Crossing, IsSameSent}
 use Rattle.check_flight.specs.Crossing.Crossing.{Waiting, Crossed, Given}
 use Rattle.check_flight.specs.Flight.{Turn, Flight, idle}
 use Rattle.check_flight.specs.Flight.Turn.{Idle, Asking, Asked}
@@ -21,19 +21,19 @@ use Rattle.check_watch.specs.declared.links.Links.TheVariants.{Both}
 use Rattle.check_watch.specs.Allowed.{IsAskedAs, IsMust, IsAllowedAsk, IsAllowedReply}
 use Rattle.check_watch.specs.Lawful.{IsLawfulGroup, IsAllowed}
 use Rattle.check_watch.specs.Past.{State, port_in, scene_of, state, state_after}
-use Rattle.check_watch.specs.Plan.{Plan, IsPlan, Sighting, LinkSide, side_of, link_number, is_of, are_both, may_cross, bus_of, HasLink, HasSource, IsGroupLink, RoutesWide, route_of, wider_bus, seen_at}
+use Rattle.check_watch.specs.Plan.{Layout, Plan, IsPlan, Sighting, LinkSide, side_of, link_number, is_of, are_both, may_cross, bus_of, HasLink, HasSource, IsGroupLink, RoutesWide, route_of, wider_bus, seen_at}
 use Rattle.check_watch.specs.Plan.LinkSide.{AtMasters, AtPorts}
 use Rattle.check_watch.specs.Scene.{ask_by, turn_by, captured, flight_after, is_given, given_by}
 use Rattle.check_watch.proofs.InFlight.{ask_at, reply_at}
 use Rattle.check_watch.proofs.Judging.{route_is}
 use Rattle.check_watch_laws.specs.Crossed.{AskSeen, ReplySeen, AreWatched, reply_beat, asking_at, replying_at, begun_replies_at, ask_ended, reply_ended, asks, replies, exchanges}
-use Rattle.check_watch_laws.specs.Crossings.{IsOfMaster, answered_from_outside, sent_out, requests_of, AreGiven, MessagesCross}
+use Rattle.check_watch_laws.specs.Crossings.{IsOfMaster, answered_from_outside, sent_out, AreSeenAcross, AreGiven, MessagesCross}
 use Rattle.check_watch_laws.proofs.Buses.{ask_on_bus, reply_on_bus}
 use Rattle.check_watch_laws.proofs.Flights.{pending, InStep, nothing_pending, in_step}
 use Rattle.check_watch_laws.proofs.Links.{links_are}
 use Rattle.check_watch_laws.proofs.Placing.{beat_placed, asks_placed_so}
 use Rattle.check_watch_laws.proofs.Replying.{all_more}
-use Rattle.check_watch_laws.proofs.Standing.{Story, IsAtRest, IsOut, goes_to, is_out, Stands, IsGot, IsTheSent, IsItsGift, master_asks, master_gets, port_asks, port_gives, given_but_one}
+use Rattle.check_watch_laws.proofs.Standing.{Story, IsAtRest, IsOut, goes_to, is_out, Stands, IsGot, IsTheSent, IsItsGift, master_asks, master_gets, port_asks, port_gives, given_but_one, AllSeen, seen_but_one}
 use Rattle.check_watch_laws.proofs.Taking.{crosses_there}
 use Rattle.check_watch_laws.proofs.Turns.{asks_fly, open_before, asked_at}
 
@@ -74,12 +74,12 @@ asks_owned plan is (x ∷ past) lawful wide = go x.link x.beat lawful.1 (asks_ow
         by_source false = before
     go (Master m) (A beat) allowed before = by_source (plan.wide m beat.source == wide) refl
       where
-        by_end : (plan.wide m beat.source == wide) ≡ true → (ask : Request) → ask.source ≡ beat.source → (ends : Bool)
+        by_end : (plan.wide m beat.source == wide) ≡ true → (ask : Sent) → ask.ask.source ≡ beat.source → (ends : Bool)
             → AllByRecursion (IsOfMaster plan.layout wide)
-            (asks plan AtMasters wide past ++ (if ends then record { link = Master m; ask = ask } ∷ [] else []))
+            (asks plan AtMasters wide past ++ (if ends then record { link = Master m; sent = ask } ∷ [] else []))
         by_end so ask source false = none before
         by_end so ask source true = all_more (IsOfMaster plan.layout wide) (asks plan AtMasters wide past)
-            (record { link = Master m; ask = ask }) before (
+            (record { link = Master m; sent = ask }) before (
               m,
               refl,
               subst (λ n. IsWideSource plan.layout.owners m n wide) (sym source)
@@ -126,15 +126,11 @@ counted_free side turn asked answered step none =
     ap (λ (l : List AskSeen). length l) (step.asks_are ∙ ap (λ l. step.done ++ l) none ∙ append-nil step.done)
     ∙ sym step.counted
 
-asked_as : (turn : Turn) (ask : Request) → IsAskedAs turn ask → (n : ℕ) × (sent : Request) × (turn ≡ Asked n sent)
-    × (record sent { source = ask.source } ≡ ask)
-asked_as Idle ask is = absurd is
-asked_as (Asking n) ask is = absurd is
-asked_as (Asked n sent) ask is = (n, sent, refl, is)
-
-same_place : (sent ask : Request) (source : ℕ) → record sent { source = source } ≡ ask → (sent.address ≡ ask.address)
-    × (sent.size ≡ ask.size)
-same_place sent ask source is = (ap (λ (r : Request). r.address) is, ap (λ (r : Request). r.size) is)
+asked_as : (layout : Layout) (port : ℕ) (turn : Turn) (seen : Sent) → IsAskedAs layout port turn seen
+    → (n : ℕ) × (sent : Sent) × (turn ≡ Asked n sent) × IsSameSent (wider_bus layout (Master n) port) sent seen
+asked_as layout port Idle seen is = absurd is
+asked_as layout port (Asking n) seen is = absurd is
+asked_as layout port (Asked n sent) seen is = (n, sent, refl, is)
 
 turn_after : (ends : Bool) (flight : Flight)
     → (if ends then idle else flight).turn ≡ (if ends then Idle else flight.turn)
@@ -147,7 +143,7 @@ module _ (plan : Plan) (is_plan : IsPlan plan) (both : plan.layout.links ≡ Bot
   s = state plan past
 
   -- the request and the reply that a beat ends at a link, with the lanes of its bus
-  abbrev asked_here : Link → AskHead → Request
+  abbrev asked_here : Link → AskHead → Sent
   asked_here link beat = ask_of (bus_of plan.layout link) (asking_at plan.layout link past) beat
       (take (bus_of plan.layout link) lanes)
 
@@ -173,12 +169,12 @@ module _ (plan : Plan) (is_plan : IsPlan plan) (both : plan.layout.links ≡ Bot
       → ask_of (bus_of plan.layout link) (asking_at plan.layout link past) beat lanes ≡ asked_here link beat
   ask_is link beat = sym (ask_on_bus plan.layout link (asking_at plan.layout link past) beat lanes)
 
-  got_is : (link : Link) (beat : ReplyHead) (turn : Turn) (n : ℕ) (ask : Request) → turn ≡ Asked n ask
-      → captured (s.links (side_of link) (link_number link)) turn beat known lanes ≡ got_here link beat ask.address
+  got_is : (link : Link) (beat : ReplyHead) (turn : Turn) (n : ℕ) (ask : Sent) → turn ≡ Asked n ask
+      → captured (s.links (side_of link) (link_number link)) turn beat known lanes ≡ got_here link beat ask.ask.address
   got_is link beat turn n ask is =
       ap (λ t. captured (s.links (side_of link) (link_number link)) t beat known lanes) is
       ∙ ap (λ (u : Under). captured u (Asked n ask) beat known lanes) (links_are plan past link)
-      ∙ sym (reply_on_bus plan.layout link (replying_at plan.layout link past) ask.address beat known lanes)
+      ∙ sym (reply_on_bus plan.layout link (replying_at plan.layout link past) ask.ask.address beat known lanes)
 
   ends_is : (link : Link) (beat : ReplyHead)
       → ends_reply (s.links (side_of link) (link_number link)).bus
@@ -249,7 +245,7 @@ module _ (plan : Plan) (is_plan : IsPlan plan) (both : plan.layout.links ≡ Bot
     abbrev got_reply : ReplySeen
     got_reply = reply_here (Master m) beat
 
-    got_answers : (ask : Request) × ((s.flights AtMasters getter).turn ≡ Asked m ask)
+    got_answers : (ask : Sent) × ((s.flights AtMasters getter).turn ≡ Asked m ask)
     got_answers =
         let found = asked_at m (s.flights AtMasters getter).turn _ allowed.answers in
         (found.0, found.1)
@@ -258,24 +254,24 @@ module _ (plan : Plan) (is_plan : IsPlan plan) (both : plan.layout.links ≡ Bot
         (replies plan AtMasters getter past)
     got_step = in_step plan past lawful AtMasters getter
 
-    got_asked : asks plan AtMasters getter past ≡ got_step.done ++ record { link = Master m; ask = got_answers.0 } ∷ []
+    got_asked : asks plan AtMasters getter past ≡ got_step.done ++ record { link = Master m; sent = got_answers.0 } ∷ []
     got_asked = got_step.asks_are ∙ ap (λ t. got_step.done ++ pending AtMasters t) got_answers.1
 
     -- its source is that of the request, since both have this wide source
-    got_own : beat.source ≡ got_answers.0.source
+    got_own : beat.source ≡ got_answers.0.ask.source
     got_own =
         let owned = last_of_all (IsOfMaster plan.layout getter) got_step.done
-        (record { link = Master m; ask = got_answers.0 })
+        (record { link = Master m; sent = got_answers.0 })
         (subst (λ l. AllByRecursion (IsOfMaster plan.layout getter) l) got_asked
         (asks_owned plan is_plan past lawful getter)) in
-        (one_owner plan.layout.owners is_plan.owners m beat.source owned.0 got_answers.0.source getter
+        (one_owner plan.layout.owners is_plan.owners m beat.source owned.0 got_answers.0.ask.source getter
         (wide_here plan is_plan m beat.source allowed.source) owned.2).1
 
     got : ends_reply_here (Master m) beat ≡ true → is_out plan getter m got_answers.0 ≡ true
         → IsGot plan getter m got_answers.0 got_reply (s.crossings getter)
     got ends out =
         let route_is : port_in plan m
-        (s.flights AtMasters getter).turn ≡ route_of plan m got_answers.0.address got_answers.0.size =
+        (s.flights AtMasters getter).turn ≡ route_of plan m got_answers.0.ask.address got_answers.0.ask.size =
         ap (λ t. port_in plan m t) got_answers.1 in
         let given : is_given plan.layout (Master m) (port_in plan m (s.flights AtMasters getter).turn) ≡ true =
         ap (λ l. are_both l && may_cross plan.layout (port_in plan m (s.flights AtMasters getter).turn)) both
@@ -283,7 +279,7 @@ module _ (plan : Plan) (is_plan : IsPlan plan) (both : plan.layout.links ≡ Bot
         let wider : ℕ = wider_bus plan.layout (Master m) (port_in plan m (s.flights AtMasters getter).turn) in
         record {
           must = subst (λ p. IsMust true (wider_bus plan.layout (Master m) p) (s.crossings getter) got_flight.due
-              (got_here (Master m) beat got_answers.0.address)) route_is
+              (got_here (Master m) beat got_answers.0.ask.address)) route_is
               (subst (λ (r : Pattern). IsMust true wider (s.crossings getter) got_flight.due r)
               (got_is (Master m) beat (s.flights AtMasters getter).turn m got_answers.0 got_answers.1)
               (subst (λ g. IsMust g wider (s.crossings getter) got_flight.due
@@ -350,15 +346,15 @@ module _ (plan : Plan) (is_plan : IsPlan plan) (both : plan.layout.links ≡ Bot
     took_under = s.links AtPorts p
 
     -- the master whose request is in flight is the one that has the source
-    owner_sent : (number : ℕ) (sent : Request) → (s.flights AtMasters took).turn ≡ Asked number sent → (master : ℕ)
+    owner_sent : (number : ℕ) (sent : Sent) → (s.flights AtMasters took).turn ≡ Asked number sent → (master : ℕ)
         → IsOf plan.layout.owners master took → number ≡ master
     owner_sent number sent in_flight master owns =
         let step = in_step plan past lawful AtMasters took in
-        let owned = last_of_all (IsOfMaster plan.layout took) step.done (record { link = Master number; ask = sent })
+        let owned = last_of_all (IsOfMaster plan.layout took) step.done (record { link = Master number; sent = sent })
         (subst (λ l. AllByRecursion (IsOfMaster plan.layout took) l)
         (step.asks_are ∙ ap (λ t. step.done ++ pending AtMasters t) in_flight) (asks_owned plan is_plan past lawful took)) in
         ap link_number owned.1
-        ∙ is_plan.owners.apart owned.0 master took (record { of_one = (sent.source, owned.2); of_other = owns })
+        ∙ is_plan.owners.apart owned.0 master took (record { of_one = (sent.ask.source, owned.2); of_other = owns })
 
     -- the request that ends was sent
     the_sent : ends_ask_here (Port p) beat ≡ true
@@ -368,16 +364,16 @@ module _ (plan : Plan) (is_plan : IsPlan plan) (both : plan.layout.links ≡ Bot
         ap (λ (u : Under). ends_ask u.bus u.asking beat) (links_are plan past (Port p)) ∙ ends in
         let sent = allowed.sent ends_too both in
         let ask = asked_here (Port p) beat in
-        let asked : IsAskedAs (s.flights AtMasters took).turn ask =
-        subst (λ (r : Request). IsAskedAs (s.flights AtMasters took).turn r)
+        let asked : IsAskedAs plan.layout p (s.flights AtMasters took).turn ask =
+        subst (λ (r : Sent). IsAskedAs plan.layout p (s.flights AtMasters took).turn r)
         (ap (λ (u : Under). ask_of u.bus u.asking beat lanes) (links_are plan past (Port p)) ∙ ask_is (Port p) beat)
         sent.0 in
-        let found = asked_as (s.flights AtMasters took).turn ask asked in
+        let found = asked_as plan.layout p (s.flights AtMasters took).turn ask asked in
         let placed : RoutesWide plan.layout took beat.address beat.size p =
         beat_placed plan s (asks_placed_so plan past lawful) (Port p) known lanes beat allowed in
-        let place = same_place found.1 ask ask.source found.3 in
-        let route : route_of plan found.0 found.1.address found.1.size ≡ p =
-        (λ i. route_of plan (owner_sent found.0 found.1 found.2 placed.master placed.owns i) (place.0 i) (place.1 i))
+        let route : route_of plan found.0 found.1.ask.address found.1.ask.size ≡ p =
+        (λ i. route_of plan (owner_sent found.0 found.1 found.2 placed.master placed.owns i) (sym found.3.address i)
+        (sym found.3.size i))
         ∙ route_is plan is_plan placed.master beat.address beat.size p placed.routes in
         record {
           number = found.0;
@@ -413,7 +409,7 @@ module _ (plan : Plan) (is_plan : IsPlan plan) (both : plan.layout.links ≡ Bot
         (subst (λ r. Stands plan took took_now (s.flights AtMasters took).turn
         (if ends then Crossed else s.crossings took) (turn_by p (if ends then Some r else None)))
         (sym (ask_is (Port p) beat))
-        (port_asks plan took (story_at plan took past) (Port p) p (asked_here (Port p) beat)
+        (port_asks plan took (story_at plan took past) p (asked_here (Port p) beat)
         (s.flights AtMasters took).turn (s.crossings took) (s.flights AtPorts took).turn none counted (before took)
         ends the_sent))
 
@@ -457,7 +453,7 @@ module _ (plan : Plan) (is_plan : IsPlan plan) (both : plan.layout.links ≡ Bot
     abbrev gift_ends : Bool
     gift_ends = ends_reply (s.links AtPorts p).bus (s.links AtPorts p).replying beat
 
-    gift_answers : (ask : Request) × ((s.flights AtPorts giver).turn ≡ Asked p ask)
+    gift_answers : (ask : Sent) × ((s.flights AtPorts giver).turn ≡ Asked p ask)
     gift_answers =
         let found = asked_at p (s.flights AtPorts giver).turn _ allowed.answers in
         (found.0, found.1)
@@ -466,7 +462,7 @@ module _ (plan : Plan) (is_plan : IsPlan plan) (both : plan.layout.links ≡ Bot
         (replies plan AtPorts giver past)
     gift_step = in_step plan past lawful AtPorts giver
 
-    gift_asked : asks plan AtPorts giver past ≡ gift_step.done ++ record { link = Port p; ask = gift_answers.0 } ∷ []
+    gift_asked : asks plan AtPorts giver past ≡ gift_step.done ++ record { link = Port p; sent = gift_answers.0 } ∷ []
     gift_asked = gift_step.asks_are ∙ ap (λ t. gift_step.done ++ pending AtPorts t) gift_answers.1
 
     gift : ends_reply_here (Port p) beat ≡ true
@@ -526,7 +522,7 @@ module _ (plan : Plan) (is_plan : IsPlan plan) (both : plan.layout.links ≡ Bot
 
 pub all_stand : (plan : Plan) → IsPlan plan → plan.layout.links ≡ Both → (past : List Sighting)
     → AreWatched plan.layout past → IsLawfulGroup plan past → AllStand plan (state plan past) past
-all_stand plan is both [] watched lawful = λ wide. record { same = refl; free = refl; given = tt }
+all_stand plan is both [] watched lawful = λ wide. record { same = tt; free = refl; given = tt }
 all_stand plan is both (x ∷ past) watched lawful =
     go x.link x.beat watched.0.link watched.0.watched lawful.1 (all_stand plan is both past watched.1 lawful.0)
   where
@@ -555,14 +551,15 @@ module _ (plan : Plan) (past : List Sighting) (wide : ℕ)
       → MessagesCross plan past wide
   crossing_by turn crossing there stands = go turn crossing stands
     where
-      full : sent_out plan wide (asks plan AtMasters wide past) ≡ requests_of (asks plan AtPorts wide past)
+      full : AllSeen plan.layout wide (sent_out plan (asks plan AtMasters wide past)) (asks plan AtPorts wide past)
           → AreGiven plan.layout wide (answered_from_outside plan (exchanges plan AtMasters wide past))
           (exchanges plan AtPorts wide past) → MessagesCross plan past wide
       full same given = record {
         owned = owned;
-        waiting = [];
-        requests = same ∙ sym (append-nil (requests_of (asks plan AtPorts wide past)));
-        one_waits = omega arith;
+        requests = subst (λ l. AreSeenAcross plan.layout wide l (asks plan AtPorts wide past))
+            (append-nil (sent_out plan (asks plan AtMasters wide past)))
+            (seen_but_one plan.layout wide (sent_out plan (asks plan AtMasters wide past)) (asks plan AtPorts wide past) [] same
+            (omega arith));
         given = given;
       }
 
@@ -577,23 +574,23 @@ module _ (plan : Plan) (past : List Sighting) (wide : ℕ)
           (given_but_one plan.layout wide (answered_from_outside plan (exchanges plan AtMasters wide past))
           (exchanges plan AtPorts wide past) [] stands.given (omega arith)))
 
-      out : (out : Bool) (port : ℕ) (ask : Request) (crossing : Crossing)
-          → IsOut plan wide story out port ask crossing there → MessagesCross plan past wide
-      out false port ask crossing stands = rest stands
-      out true port ask Waiting stands = record {
+      out : (out : Bool) (n port : ℕ) (ask : Sent) (crossing : Crossing)
+          → IsOut plan wide story out n port ask crossing there → MessagesCross plan past wide
+      out false n port ask crossing stands = rest stands
+      out true n port ask Waiting stands = record {
         owned = owned;
-        waiting = record ask { source = wide } ∷ [];
-        requests = stands.same;
-        one_waits = omega arith;
+        requests = subst (λ l. AreSeenAcross plan.layout wide l (asks plan AtPorts wide past)) (sym stands.split)
+            (seen_but_one plan.layout wide stands.front (asks plan AtPorts wide past)
+            (record { link = Master n; sent = ask } ∷ []) stands.same (omega arith));
         given = none (exchanges plan AtPorts wide past)
             (given_but_one plan.layout wide (answered_from_outside plan (exchanges plan AtMasters wide past))
             (exchanges plan AtPorts wide past) [] stands.given (omega arith));
       }
-      out true port ask Crossed stands =
+      out true n port ask Crossed stands =
           full stands.same (none (exchanges plan AtPorts wide past)
           (given_but_one plan.layout wide (answered_from_outside plan (exchanges plan AtMasters wide past))
           (exchanges plan AtPorts wide past) [] stands.given (omega arith)))
-      out true port ask (Given answer) stands = full stands.same
+      out true n port ask (Given answer) stands = full stands.same
           (subst (λ l. AreGiven plan.layout wide (answered_from_outside plan (exchanges plan AtMasters wide past)) l)
           (sym stands.split)
           (given_but_one plan.layout wide (answered_from_outside plan (exchanges plan AtMasters wide past)) stands.front
@@ -603,7 +600,7 @@ module _ (plan : Plan) (past : List Sighting) (wide : ℕ)
           → MessagesCross plan past wide
       go Idle crossing stands = rest stands
       go (Asking n) crossing stands = rest stands
-      go (Asked n ask) crossing stands = out (is_out plan wide n ask) (goes_to plan wide n ask) ask crossing stands
+      go (Asked n ask) crossing stands = out (is_out plan wide n ask) n (goes_to plan wide n ask) ask crossing stands
 
 pub crossing : (plan : Plan) (past : List Sighting) → IsPlan plan → plan.layout.links ≡ Both
     → AreWatched plan.layout past → IsLawfulGroup plan past → (wide : ℕ) → MessagesCross plan past wide

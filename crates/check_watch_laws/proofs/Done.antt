@@ -1,7 +1,7 @@
 -- What each port's slave holds is what the moments leave at which it accepts and answers requests.
 use Rattle.std.proofs.Common.{◌≡◌, ◌∙◌, ℕ, Bool, true, false, if◌then◌else◌, List, [], ◌∷◌, ◌++◌, Option, Some, None, refl, ap, sym, eqb-true, append-nil}
 use Rattle.std.specs.Prelude.{◌==◌, ◌&&◌}
-use Rattle.tl_types.specs.Request.{Request}
+use Rattle.check_cells.specs.Sent.{Sent}
 use Rattle.check_beats.specs.State.{Under, ends_ask, ask_of}
 use Rattle.check_beats.specs.declared.beat.AskHead.{AskHead}
 use Rattle.check_beats.specs.declared.beat.ReplyHead.{ReplyHead}
@@ -34,39 +34,39 @@ pub port_own : (plan : Plan) (link : Link) (turn : Turn) (beat : Beat) (p : ℕ)
 port_own plan (Master m) turn beat p is = cc
 port_own plan (Port q) turn beat p is = ap (λ l. link_number l) is
 
-pub ask_goes : (plan : Plan) (link : Link) (turn : Turn) (beat : AskHead) (ask : Request) → ask.address ≡ beat.address
-    → ask.size ≡ beat.size → port_for plan link ask ≡ port_of plan link turn (A beat)
+pub ask_goes : (plan : Plan) (link : Link) (turn : Turn) (beat : AskHead) (ask : Sent) → ask.ask.address ≡ beat.address
+    → ask.ask.size ≡ beat.size → port_for plan link ask.ask ≡ port_of plan link turn (A beat)
 ask_goes plan (Master m) turn beat ask address size = rw (address, size) refl
 ask_goes plan (Port p) turn beat ask address size = refl
 
-pub reply_goes : (plan : Plan) (link : Link) (turn : Turn) (n : ℕ) (beat : ReplyHead) (ask : Request)
-    → turn ≡ Asked n ask → port_for plan link ask ≡ port_of plan link turn (D beat)
+pub reply_goes : (plan : Plan) (link : Link) (turn : Turn) (n : ℕ) (beat : ReplyHead) (ask : Sent)
+    → turn ≡ Asked n ask → port_for plan link ask.ask ≡ port_of plan link turn (D beat)
 reply_goes plan link turn n beat ask is = go link ∙ ap (λ t. port_of plan link t (D beat)) (sym is)
   where
-    go : (l : Link) → port_for plan l ask ≡ port_of plan l (Asked n ask) (D beat)
+    go : (l : Link) → port_for plan l ask.ask ≡ port_of plan l (Asked n ask) (D beat)
     go (Master m) = refl
     go (Port p) = refl
 
 -- the request that a beat ends goes to the port that the beat finds
 pub ended_goes : (plan : Plan) (link : Link) (turn : Turn) (under : Under) (lanes : List ℕ) (beat : AskHead)
-    (ask : Request) → ask_by under beat lanes ≡ Some ask → port_for plan link ask ≡ port_of plan link turn (A beat)
+    (ask : Sent) → ask_by under beat lanes ≡ Some ask → port_for plan link ask.ask ≡ port_of plan link turn (A beat)
 ended_goes plan link turn under lanes beat ask =
     there (ask_of under.bus under.asking beat lanes) refl refl (ends_ask under.bus under.asking beat)
   where
-    there : (of : Request) → of.address ≡ beat.address → of.size ≡ beat.size → (ends : Bool)
-        → (if ends then Some of else None) ≡ Some ask → port_for plan link ask ≡ port_of plan link turn (A beat)
+    there : (of : Sent) → of.ask.address ≡ beat.address → of.ask.size ≡ beat.size → (ends : Bool)
+        → (if ends then Some of else None) ≡ Some ask → port_for plan link ask.ask ≡ port_of plan link turn (A beat)
     there of address size true e =
         let is_ask : of ≡ ask = cc in
         ask_goes plan link turn beat ask
-        (ap (λ (r : Request). r.address) (sym is_ask) ∙ address) (ap (λ (r : Request). r.size) (sym is_ask) ∙ size)
+        (ap (λ (r : Sent). r.ask.address) (sym is_ask) ∙ address) (ap (λ (r : Sent). r.ask.size) (sym is_ask) ∙ size)
     there of address size false e = cc
 
 -- ---- the request that is accepted or answered with a beat
 
-abbrev pub accepts_now : Plan → State → Link → List ℕ → AskHead → Option Request
+abbrev pub accepts_now : Plan → State → Link → List ℕ → AskHead → Option Sent
 accepts_now plan s link lanes beat = accepted plan.layout link (scene_found plan s link (A beat)) (A beat) lanes
 
-abbrev pub answers_now : Plan → State → Link → ReplyHead → Option Request
+abbrev pub answers_now : Plan → State → Link → ReplyHead → Option Sent
 answers_now plan s link beat =
     let found = scene_found plan s link (D beat) in
     answered plan.layout link found.port found.under.replying found.flight.turn
@@ -101,7 +101,7 @@ module _ (plan : Plan) (s : State) (past : List Sighting) (linked : LinksAre pla
       (ended_goes plan link turn under lanes beat)
       ∙ ap (λ (u : Under). if found == port then Taken u else []) (sym (linked link))
 
-  pub reply_does : AreInStep plan s past → (beat : ReplyHead) (ask : Request)
+  pub reply_does : AreInStep plan s past → (beat : ReplyHead) (ask : Sent)
       → (s.flights (side_of link) (wide_of plan link beat.source)).turn ≡ Asked (link_number link) ask → (port : ℕ)
       → moments_with plan port past (reply_at link known lanes beat) (D beat)
       ≡ (if (scene_found plan s link (D beat)).port == port then moment_if Answers (wide_of plan link beat.source)
@@ -111,7 +111,7 @@ module _ (plan : Plan) (s : State) (past : List Sighting) (linked : LinksAre pla
       let turn = (s.flights (side_of link) wide).turn in
       let found = (scene_found plan s link (D beat)).port in
       let under = under_by plan.layout link past in
-      let Taken : Under → Option Request → List RequestMoment = λ u o. moment_if Answers wide
+      let Taken : Under → Option Sent → List RequestMoment = λ u o. moment_if Answers wide
       (ask_if (takes_effect plan.layout link found && begins_reply u.replying) o) in
       reply_taken plan link wide port found has watched
       (port_own plan link turn (D beat)) past known lanes beat ask
@@ -124,7 +124,7 @@ module _ (plan : Plan) (s : State) (past : List Sighting) (linked : LinksAre pla
 
 -- what a slave sees with a beat is what it does
 slave_done : (act : Act) (slaves : ℕ → PortSlave) (reset : PortSlave) (before : List RequestMoment) (port found wide : ℕ)
-    (done : Option Request) → slaves port ≡ slave_after_all reset before
+    (done : Option Sent) → slaves port ≡ slave_after_all reset before
     → (if found == port then acting act (slaves found) wide done else slaves port) ≡ slave_after_all reset
     (before ++ (if found == port then moment_if act wide done else []))
 slave_done act slaves reset before port found wide done is = go (found == port) refl
@@ -137,12 +137,12 @@ slave_done act slaves reset before port found wide done is = go (found == port) 
         slave_is : slaves found ≡ slave_after_all reset before
         slave_is = ap (λ p. slaves p) (eqb-true found port here) ∙ is
 
-        there : (done : Option Request) → acting act (slaves found) wide done ≡ slave_after_all reset
+        there : (done : Option Sent) → acting act (slaves found) wide done ≡ slave_after_all reset
             (before ++ moment_if act wide done)
         there None = acting_none act (slaves found) wide ∙ slave_is
             ∙ ap (λ l. slave_after_all reset l) (sym (append-nil before))
         there (Some ask) = ap (λ m. acting act m wide (Some ask)) slave_is
-            ∙ sym (after_more reset before (record { act = act; wide = wide; ask = ask }))
+            ∙ sym (after_more reset before (record { act = act; wide = wide; sent = ask }))
     go false here = is ∙ ap (λ l. slave_after_all reset l) (sym (append-nil before))
 
 pub are_replayed : (plan : Plan) (past : List Sighting) → AreWatched plan.layout past → IsLawfulGroup plan past

@@ -2,7 +2,7 @@
 -- under way.
 use Rattle.std.proofs.Common.{◌≡◌, ◌∙◌, ℕ, ◌+◌, Bool, true, false, if◌then◌else◌, List, [], ◌∷◌, ◌++◌, replicate, Option, Some, None, unwrap_or, refl, ap, sym, subst}
 use Rattle.std.specs.Prelude.{◌&&◌}
-use Rattle.tl_types.specs.Request.{Request}
+use Rattle.check_cells.specs.Sent.{Sent}
 use Rattle.check_beats.specs.Message.{seen_cells as seen_bytes, is_spoiled}
 use Rattle.check_beats.specs.State.{Under, ReplyBegun, first_reply, ends_reply, replied_beats, replied_bytes, replied_spoiled}
 use Rattle.check_beats.specs.declared.beat.AskHead.{AskHead}
@@ -38,7 +38,7 @@ abbrev pub IsSourced : Turn → Option Answer → Type 0
 IsSourced Idle due = Unit {0}
 IsSourced (Asking n) due = Unit {0}
 IsSourced (Asked n ask) None = Unit {0}
-IsSourced (Asked n ask) (Some answer) = answer.reply.source ≡ ask.source
+IsSourced (Asked n ask) (Some answer) = answer.reply.source ≡ ask.ask.source
 
 -- a reply of this wide source is under way at the link
 abbrev pub IsReplying : Plan → State → ℕ → Link → Type 0
@@ -51,7 +51,7 @@ HasBegun plan s side wide Idle due = Unit {0}
 HasBegun plan s side wide (Asking n) due = Unit {0}
 HasBegun plan s side wide (Asked n ask) None = Unit {0}
 HasBegun plan s side wide (Asked n ask) (Some answer) =
-    is_due_at_reply (order_at plan (port_for plan (link_on side n) ask)) ≡ true
+    is_due_at_reply (order_at plan (port_for plan (link_on side n) ask.ask)) ≡ true
     → IsReplying plan s wide (link_on side n)
 
 pub record IsDue (plan : Plan) (s : State) (side : LinkSide) (wide : ℕ) (flight : Flight) : Type 0 where
@@ -63,31 +63,31 @@ AreDue plan s = (side : LinkSide) (wide : ℕ) → IsDue plan s side wide (s.fli
 
 -- ---- as a request ends
 
-accepted_sourced : (n port : ℕ) (slave : PortSlave) (ask : Request) (order : Order)
+accepted_sourced : (n port : ℕ) (slave : PortSlave) (ask : Sent) (order : Order)
     → IsSourced (Asked n ask) (due_accepted_by order port slave ask)
 accepted_sourced n port slave ask Accept = reply_source slave.kept ask
 accepted_sourced n port slave ask Reply = tt
 accepted_sourced n port slave ask Any = tt
 
-new_sourced : (n port : ℕ) (slave : PortSlave) (effect : Bool) (ended : Option Request)
+new_sourced : (n port : ℕ) (slave : PortSlave) (effect : Bool) (ended : Option Sent)
     → IsSourced (turn_by n ended) (due_accepting port slave (ask_if effect ended))
 new_sourced n port slave effect None = tt
 new_sourced n port slave true (Some ask) = accepted_sourced n port slave ask slave.order
 new_sourced n port slave false (Some ask) = tt
 
 -- if a reply is due as its request is accepted, it is so before the request is answered
-accepted_begun : (plan : Plan) (s : State) (side : LinkSide) (wide n port : ℕ) (slave : PortSlave) (ask : Request)
-    (order : Order) → order ≡ order_at plan (port_for plan (link_on side n) ask)
+accepted_begun : (plan : Plan) (s : State) (side : LinkSide) (wide n port : ℕ) (slave : PortSlave) (ask : Sent)
+    (order : Order) → order ≡ order_at plan (port_for plan (link_on side n) ask.ask)
     → HasBegun plan s side wide (Asked n ask) (due_accepted_by order port slave ask)
 accepted_begun plan s side wide n port slave ask Accept is =
-    λ late. absurd (true_or_false (is_due_at_reply (order_at plan (port_for plan (link_on side n) ask))) late
+    λ late. absurd (true_or_false (is_due_at_reply (order_at plan (port_for plan (link_on side n) ask.ask))) late
     (ap is_due_at_reply (sym is)))
 accepted_begun plan s side wide n port slave ask Reply is = tt
 accepted_begun plan s side wide n port slave ask Any is = tt
 
 new_begun : (plan : Plan) (s : State) (side : LinkSide) (wide n port : ℕ) (slave : PortSlave) (effect : Bool)
-    (ended : Option Request)
-    → ((ask : Request) → ended ≡ Some ask → slave.order ≡ order_at plan (port_for plan (link_on side n) ask))
+    (ended : Option Sent)
+    → ((ask : Sent) → ended ≡ Some ask → slave.order ≡ order_at plan (port_for plan (link_on side n) ask.ask))
     → HasBegun plan s side wide (turn_by n ended) (due_accepting port slave (ask_if effect ended))
 new_begun plan s side wide n port slave effect None is = tt
 new_begun plan s side wide n port slave true (Some ask) is =
@@ -96,7 +96,7 @@ new_begun plan s side wide n port slave false (Some ask) is = tt
 
 -- ---- as a reply begins or goes on
 
-answered_sourced : (port wide : ℕ) (slave : PortSlave) (n : ℕ) (ask : Request) (due : Option Answer) (order : Order)
+answered_sourced : (port wide : ℕ) (slave : PortSlave) (n : ℕ) (ask : Sent) (due : Option Answer) (order : Order)
     → IsSourced (Asked n ask) due → IsSourced (Asked n ask) (due_by due (due_answered_by order port slave wide ask))
 answered_sourced port wide slave n ask due Accept was = was
 answered_sourced port wide slave n ask due Reply was = reply_source slave.kept ask
@@ -106,7 +106,7 @@ answered_sourced port wide slave n ask due Any was = go (kept_of slave.contests 
     go None = was
     go (Some entry) = refl
 
-pub late_sourced : (port wide : ℕ) (slave : PortSlave) (effect : Bool) (n : ℕ) (ask : Request) (due : Option Answer)
+pub late_sourced : (port wide : ℕ) (slave : PortSlave) (effect : Bool) (n : ℕ) (ask : Sent) (due : Option Answer)
     → IsSourced (Asked n ask) due
     → IsSourced (Asked n ask) (due_by due (due_answering port slave wide (ask_if effect (Some ask))))
 late_sourced port wide slave true n ask due was = answered_sourced port wide slave n ask due slave.order was
@@ -118,7 +118,7 @@ side_on AtPorts n = refl
 
 -- the facts of a turn and what is due, in another state
 begun_by : (plan : Plan) (s later : State) (side : LinkSide) (wide : ℕ) (turn : Turn) (due : Option Answer)
-    → ((n : ℕ) (ask : Request) → turn ≡ Asked n ask → IsReplying plan s wide (link_on side n)
+    → ((n : ℕ) (ask : Sent) → turn ≡ Asked n ask → IsReplying plan s wide (link_on side n)
     → IsReplying plan later wide (link_on side n))
     → HasBegun plan s side wide turn due → HasBegun plan later side wide turn due
 begun_by plan s later side wide Idle due keeps was = tt
@@ -161,9 +161,9 @@ module _ (plan : Plan) (s : State) (same_order : (port : ℕ) → order_at plan 
           let on : link_on side (link_number link) ≡ link =
           ap (λ sd. link_on sd (link_number link)) (sym (of_is plan (ask_at link known lanes beat) side wide is).0)
           ∙ own_link link in
-          let goes_by : (ask : Request) → ended ≡ Some ask
-          → port_for plan (link_on side (link_number link)) ask ≡ found.port =
-          λ ask so. ap (λ l. port_for plan l ask) on
+          let goes_by : (ask : Sent) → ended ≡ Some ask
+          → port_for plan (link_on side (link_number link)) ask.ask ≡ found.port =
+          λ ask so. ap (λ l. port_for plan l ask.ask) on
           ∙ ended_goes plan link (s.flights (side_of link) (wide_of plan link beat.source)).turn found.under lanes beat ask
           so in
           record {
@@ -235,7 +235,7 @@ module _ (plan : Plan) (s : State) (same_order : (port : ℕ) → order_at plan 
     pub reply_due : AreDue plan (state_after plan s (reply_at link known lanes beat))
     reply_due side wide = go (is_of plan (reply_at link known lanes beat) side wide) refl
       where
-        begun_here : (ask : Request) (due : Option Answer) → ends_reply under.bus under.replying beat ≡ false
+        begun_here : (ask : Sent) (due : Option Answer) → ends_reply under.bus under.replying beat ≡ false
             → HasBegun plan after (side_of link) (wide_of plan link beat.source)
             (Asked (link_number link) ask) due
         begun_here ask None goes_on = tt

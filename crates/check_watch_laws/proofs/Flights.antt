@@ -1,6 +1,6 @@
 -- The requests and replies of a source are in step with what is in flight of it.
 use Rattle.std.proofs.Common.{◌≡◌, ◌∙◌, ℕ, ◌⊎◌, inl, inr, Bool, true, false, if◌then◌else◌, List, [], ◌∷◌, ◌++◌, length, take, Option, Some, None, refl, ap, sym, subst, arith, append-nil, length-append}
-use Rattle.tl_types.specs.Request.{Request}
+use Rattle.check_cells.specs.Sent.{Sent}
 use Rattle.check_beats.specs.State.{Under, ends_ask, ends_reply, ask_of}
 use Rattle.check_beats.specs.declared.beat.AskHead.{AskHead}
 use Rattle.check_beats.specs.declared.beat.ReplyHead.{ReplyHead}
@@ -24,7 +24,7 @@ use Rattle.check_watch_laws.proofs.Turns.{AsksFly, asks_fly, open_before, asked_
 abbrev pub pending : LinkSide → Turn → List AskSeen
 pending side Idle = []
 pending side (Asking n) = []
-pending side (Asked n ask) = record { link = link_on side n; ask = ask } ∷ []
+pending side (Asked n ask) = record { link = link_on side n; sent = ask } ∷ []
 
 -- all requests but the one in flight are answered
 pub record InStep (side : LinkSide) (turn : Turn) (asked : List AskSeen) (answered : List ReplySeen) : Type 0 where
@@ -42,12 +42,12 @@ none_pending side n turn (inl is) = ap (pending side) is
 none_pending side n turn (inr is) = ap (pending side) is
 
 -- what a request that ends at a link shows
-abbrev pub ask_list : Link → Option Request → List AskSeen
+abbrev pub ask_list : Link → Option Sent → List AskSeen
 ask_list link None = []
-ask_list link (Some ask) = record { link = link; ask = ask } ∷ []
+ask_list link (Some ask) = record { link = link; sent = ask } ∷ []
 
-as_list : (link : Link) (ask : Request) (ends : Bool)
-    → (if ends then record { link = link; ask = ask } ∷ [] else []) ≡ ask_list link (if ends then Some ask else None)
+as_list : (link : Link) (ask : Sent) (ends : Bool)
+    → (if ends then record { link = link; sent = ask } ∷ [] else []) ≡ ask_list link (if ends then Some ask else None)
 as_list link ask true = refl
 as_list link ask false = refl
 
@@ -62,7 +62,7 @@ ask_seen layout past link known lanes beat =
     ∙ ap (λ r. ask_list link (if ends_ask n before beat then Some r else None)) (ask_on_bus layout link before beat lanes)
 
 -- a beat of a request: nothing was in flight, and now is what it ends
-ask_steps : (link : Link) (turn : Turn) (ended : Option Request) (asked : List AskSeen) (answered : List ReplySeen)
+ask_steps : (link : Link) (turn : Turn) (ended : Option Sent) (asked : List AskSeen) (answered : List ReplySeen)
     → pending (side_of link) turn ≡ [] → InStep (side_of link) turn asked answered
     → InStep (side_of link) (turn_by (link_number link) ended) (asked ++ ask_list link ended) (answered ++ [])
 ask_steps link turn ended asked answered none step = go ended
@@ -73,18 +73,18 @@ ask_steps link turn ended asked answered none step = go ended
     same : length (answered ++ []) ≡ length step.done
     same = ap (λ (l : List ReplySeen). length l) (append-nil answered) ∙ step.counted
 
-    go : (o : Option Request) → InStep (side_of link) (turn_by (link_number link) o) (asked ++ ask_list link o)
+    go : (o : Option Sent) → InStep (side_of link) (turn_by (link_number link) o) (asked ++ ask_list link o)
         (answered ++ [])
     go (Some ask) = record {
       done = step.done;
-      asks_are = ap (λ (l : List AskSeen). l ++ record { link = link; ask = ask } ∷ []) before
-          ∙ ap (λ (l : Link). step.done ++ record { link = l; ask = ask } ∷ []) (sym (own_link link));
+      asks_are = ap (λ (l : List AskSeen). l ++ record { link = link; sent = ask } ∷ []) before
+          ∙ ap (λ (l : Link). step.done ++ record { link = l; sent = ask } ∷ []) (sym (own_link link));
       counted = same;
     }
     go None = record { done = step.done; asks_are = ap (λ (l : List AskSeen). l ++ []) before; counted = same }
 
 -- a beat of a reply: it ends what is in flight, or goes on
-reply_steps : (link : Link) (turn : Turn) (ask : Request) (reply : ReplySeen) (flight : Flight)
+reply_steps : (link : Link) (turn : Turn) (ask : Sent) (reply : ReplySeen) (flight : Flight)
     (asked : List AskSeen) (answered : List ReplySeen) → turn ≡ Asked (link_number link) ask → flight.turn ≡ turn
     → InStep (side_of link) turn asked answered
     → (ends : Bool) → InStep (side_of link) (if ends then idle else flight).turn (asked ++ [])

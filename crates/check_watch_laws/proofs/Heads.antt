@@ -3,9 +3,9 @@ use Rattle.std.proofs.Common.{arith, length, ◌≡◌, ◌∙◌, ℕ, ◌+◌,
 use Rattle.check_beats.specs.Bus.{bus_bytes, bus_log}
 use Rattle.check_beats.specs.Form.{SameFields, SameReplyFields}
 use Rattle.check_beats.specs.Laws.{AreFitting, asking, begun, AreFittingReplies, replying, begun_reply}
-use Rattle.check_beats.specs.Message.{ask_part, seen_cells as seen_bytes, is_spoiled}
+use Rattle.check_beats.specs.Message.{ask_part, spoiled_ask_part, seen_cells as seen_bytes, is_spoiled}
 use Rattle.check_beats.specs.Spelling.{AskBeat, ReplyBeat}
-use Rattle.check_beats.specs.State.{AskBegun, ReplyBegun, first_ask, first_reply, ends_ask, ends_reply, ask_after, reply_after, asked_beats, asked_bytes, replied_beats, replied_bytes, replied_spoiled}
+use Rattle.check_beats.specs.State.{AskBegun, ReplyBegun, first_ask, first_reply, ends_ask, ends_reply, ask_after, reply_after, asked_beats, asked_bytes, asked_spoiled, replied_beats, replied_bytes, replied_spoiled}
 use Rattle.check_beats.specs.declared.beat.AskHead.{AskHead}
 use Rattle.check_beats.specs.declared.beat.ReplyHead.{ReplyHead}
 use Rattle.check_beats.specs.declared.bus.Bus.{Bus}
@@ -48,6 +48,7 @@ first_after n kept beat lanes b = go (ends_ask n kept beat)
       first = unwrap_or (first_ask kept) beat;
       beats = asked_beats kept + 1;
       bytes = asked_bytes kept ++ ask_part n beat lanes;
+      spoiled = asked_spoiled kept ++ spoiled_ask_part n beat;
     })) ≡ Some b → unwrap_or (first_ask kept) beat ≡ b.first
     go true is = absurd (cc)
     go false is = ap (first_in beat) is

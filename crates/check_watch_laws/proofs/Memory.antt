@@ -1,7 +1,7 @@
 -- The captured replies of each source are those of its port's memory.
 use Rattle.std.proofs.Common.{◌≡◌, ◌∙◌, ℕ, Bool, true, false, if◌then◌else◌, List, [], ◌∷◌, ◌++◌, Option, Some, None, refl, ap, sym, subst, eqb-true, append-nil}
 use Rattle.std.specs.Prelude.{◌==◌, ◌&&◌}
-use Rattle.tl_types.specs.Request.{Request}
+use Rattle.check_cells.specs.Sent.{Sent}
 use Rattle.check_cells.specs.Pattern.{Pattern}
 use Rattle.check_flight.specs.declared.answer.Answer.{Answer}
 use Rattle.check_flight.specs.Flight.{Turn, Flight, asked, due_by}
@@ -13,7 +13,7 @@ use Rattle.check_watch.specs.Past.{State}
 use Rattle.check_watch.specs.Plan.{Plan, Sighting, LinkSide, side_of, link_number, same_side, HasLink, IsGroupLink}
 use Rattle.check_watch.specs.Scene.{ask_if, turn_by, takes_effect}
 use Rattle.check_watch_laws.specs.Crossed.{AskSeen, ReplySeen}
-use Rattle.check_watch_laws.specs.Memories.{side_for, port_for, reset_of, exchanges_at, entries_of}
+use Rattle.check_watch_laws.specs.Memories.{side_for, port_for, reset_of, exchanges_at, entries_of, with_source}
 use Rattle.check_watch_laws.specs.Moments.{Act, moments, entry_due, dues_of}
 use Rattle.check_watch_laws.specs.Moments.Act.{Accepts, Answers}
 use Rattle.check_watch_laws.proofs.Turns.{link_on, own_link, true_or_false}
@@ -21,22 +21,22 @@ use Rattle.check_watch_laws.proofs.Taking.{takes}
 use Rattle.check_watch_laws.proofs.Told.{gains, AreMatched}
 
 -- the entry of the request in flight, if its reply is due at this port
-abbrev pub owed : Plan → ℕ → ℕ → LinkSide → Turn → Option Answer → List (Request × Pattern)
+abbrev pub owed : Plan → ℕ → ℕ → LinkSide → Turn → Option Answer → List (Sent × Pattern)
 owed plan port wide side Idle due = []
 owed plan port wide side (Asking n) due = []
 owed plan port wide side (Asked n ask) None = []
 owed plan port wide side (Asked n ask) (Some answer) =
-    if port_for plan (link_on side n) ask == port then
-    (record ask { source = wide }, record answer.reply { source = wide }) ∷ [] else []
+    if port_for plan (link_on side n) ask.ask == port then
+    (with_source wide ask, record answer.reply { source = wide }) ∷ [] else []
 
 -- the entries of a source are those that were captured, and the one of the request in flight
 pub record IsTold (plan : Plan) (port wide : ℕ) (side : LinkSide) (flight : Flight) (seen : List (AskSeen × ReplySeen))
-    (entries : List (Request × Pattern)) : Type 0 where
-  pub front : List (Request × Pattern)
+    (entries : List (Sent × Pattern)) : Type 0 where
+  pub front : List (Sent × Pattern)
   pub entries_are : entries ≡ front ++ owed plan port wide side flight.turn flight.due
   pub matched : AreMatched wide seen front
 
-abbrev pub history_at : Plan → ℕ → List Sighting → List (Request × Pattern)
+abbrev pub history_at : Plan → ℕ → List Sighting → List (Sent × Pattern)
 history_at plan port past = dues_of port (reset_of plan port) (moments plan port past)
 
 abbrev pub AreTold : Plan → State → List Sighting → Type 0
@@ -46,23 +46,23 @@ AreTold plan s past =
 
 -- ---- a request whose reply is due
 
-no_entry : (here : Bool) → ◌≡◌ {A = List (Request × Pattern)} [] (if here then [] else [])
+no_entry : (here : Bool) → ◌≡◌ {A = List (Sent × Pattern)} [] (if here then [] else [])
 no_entry true = refl
 no_entry false = refl
 
 -- what is owed of a request in flight is its entry
-owed_entry : (plan : Plan) (port wide found : ℕ) (link : Link) (ask : Request) (due : Option Answer)
-    → port_for plan link ask ≡ found → owed plan port wide (side_of link) (Asked (link_number link) ask) due
+owed_entry : (plan : Plan) (port wide found : ℕ) (link : Link) (ask : Sent) (due : Option Answer)
+    → port_for plan link ask.ask ≡ found → owed plan port wide (side_of link) (Asked (link_number link) ask) due
     ≡ (if found == port then entry_due wide ask due else [])
 owed_entry plan port wide found link ask None goes = no_entry (found == port)
 owed_entry plan port wide found link ask (Some answer) goes =
-    ap (λ l. if port_for plan l ask == port then
-    (record ask { source = wide }, record answer.reply { source = wide }) ∷ [] else []) (own_link link)
-    ∙ ap (λ p. if p == port then (record ask { source = wide }, record answer.reply { source = wide }) ∷ [] else []) goes
+    ap (λ l. if port_for plan l ask.ask == port then
+    (with_source wide ask, record answer.reply { source = wide }) ∷ [] else []) (own_link link)
+    ∙ ap (λ p. if p == port then (with_source wide ask, record answer.reply { source = wide }) ∷ [] else []) goes
 
 -- the entry of a request whose reply is due as it is accepted
 pub new_owed : (plan : Plan) (port wide found : ℕ) (link : Link) (slave : PortSlave) (effect : Bool)
-    (ended : Option Request) → ((ask : Request) → ended ≡ Some ask → port_for plan link ask ≡ found)
+    (ended : Option Sent) → ((ask : Sent) → ended ≡ Some ask → port_for plan link ask.ask ≡ found)
     → owed plan port wide (side_of link) (turn_by (link_number link) ended)
     (due_accepting found slave (ask_if effect ended)) ≡
     (if found == port then gains Accepts found slave wide (ask_if effect ended) else [])
@@ -74,7 +74,7 @@ new_owed plan port wide found link slave false (Some ask) goes = no_entry (found
 
 -- the entry of a request whose reply is due as it is answered
 pub late_owed : (plan : Plan) (port wide found : ℕ) (link : Link) (slave : PortSlave) (effect : Bool) (turn : Turn)
-    (ask : Request) (due : Option Answer) → turn ≡ Asked (link_number link) ask → port_for plan link ask ≡ found
+    (ask : Sent) (due : Option Answer) → turn ≡ Asked (link_number link) ask → port_for plan link ask.ask ≡ found
     → ((answer : Answer) → due_answering found slave wide (ask_if effect (Some ask)) ≡ Some answer → due ≡ None)
     → owed plan port wide (side_of link) turn due
     ++ (if found == port then gains Answers found slave wide (ask_if effect (asked turn)) else [])
@@ -115,7 +115,7 @@ late_owed plan port wide found link slave effect turn ask due is goes fresh =
 -- ---- one beat more
 
 module _ (plan : Plan) (link : Link) (has : HasLink plan.layout link) (watched : IsGroupLink plan.layout link)
-    (found own : ℕ) (done : Option Request)
+    (found own : ℕ) (done : Option Sent)
     (at_port : (p : ℕ) → link ≡ Port p → found ≡ p)
     (unseen : takes_effect plan.layout link found ≡ false → done ≡ None) where
   -- what is seen of another source is no entry of this one
@@ -125,7 +125,7 @@ module _ (plan : Plan) (link : Link) (has : HasLink plan.layout link) (watched :
   other_entry act port wide there other =
       go (found == port) (own == wide) (takes_effect plan.layout link found) refl refl refl
     where
-      none : (o : Option Request) → o ≡ None → gains act port there own o ≡ []
+      none : (o : Option Sent) → o ≡ None → gains act port there own o ≡ []
       none o is = ap (λ e. gains act port there own e) is
 
       go : (here same seen : Bool) → (found == port) ≡ here → (own == wide) ≡ same

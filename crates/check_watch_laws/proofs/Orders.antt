@@ -1,9 +1,9 @@
 -- A slave whose order is known does its requests one by one: what its moments leave is what these requests leave, and
 -- what is due of its replies is what is expected of it there.
 use Rattle.std.proofs.Common.{◌≡◌, ◌≢◌, ◌∙◌, ℕ, Bool, true, false, if◌then◌else◌, List, [], ◌∷◌, ◌++◌, map, filter, Some, refl, ap, sym, subst, append_assoc}
-use Rattle.tl_types.specs.Request.{Request}
+use Rattle.check_cells.specs.Sent.{Sent}
 use Rattle.check_cells.specs.Pattern.{Pattern}
-use Rattle.check_memory.specs.Slave.{expected_of}
+use Rattle.check_contests.specs.Sent.{expected_of_sent}
 use Rattle.check_flight.specs.declared.order.Order.{Order}
 use Rattle.check_flight.specs.declared.order.Order.TheVariants.{Accept, Reply, Any}
 use Rattle.check_flight.specs.PortSlave.{PortSlave, accepted_by, answered_by, due_accepted_by, due_answered_by, served_by}
@@ -11,7 +11,7 @@ use Rattle.check_watch.specs.declared.beat.Beat.{Beat}
 use Rattle.check_watch.specs.declared.beat.Beat.TheVariants.{A, D}
 use Rattle.check_watch.specs.Plan.{Plan, Sighting, source_of, wide_of}
 use Rattle.check_watch_laws.specs.Crossed.{AskSeen, ask_ended}
-use Rattle.check_watch_laws.specs.Memories.{is_for, order_at, ask_answered, ask_done, widened, asks_done, replay_slave, reset_of, IsDoneAt, IsSlaveHistory}
+use Rattle.check_watch_laws.specs.Memories.{is_for, order_at, ask_answered, ask_done, widened, asks_done, replay_slave, reset_of, IsDoneAt, IsSlaveHistory, with_source}
 use Rattle.check_watch_laws.specs.Moments.{Act, RequestMoment, moment_of, moments_with, moments, due_acting, slave_then, slave_after_all, entry_due, dues_of, IsDueAt}
 use Rattle.check_watch_laws.specs.Moments.Act.{Accepts, Answers}
 use Rattle.check_watch_laws.specs.Rules.{KeepsRules}
@@ -29,11 +29,11 @@ does Reply Accepts = false
 does Reply Answers = true
 does Any act = false
 
-abbrev done_then : Order → RequestMoment → List Request
-done_then order moment = if does order moment.act then record moment.ask { source = moment.wide } ∷ [] else []
+abbrev done_then : Order → RequestMoment → List Sent
+done_then order moment = if does order moment.act then with_source moment.wide moment.sent ∷ [] else []
 
 -- the requests that it has done after these moments
-abbrev done_in : Order → List RequestMoment → List Request
+abbrev done_in : Order → List RequestMoment → List Sent
 done_in order [] = []
 done_in order (moment ∷ moments) = done_then order moment ++ done_in order moments
 
@@ -98,24 +98,24 @@ served_then : (order : Order) (slave : PortSlave) (moment : RequestMoment) → o
     → slave_then slave moment ≡ replay_slave slave (done_then order moment)
 served_then order slave moment known is = go moment.act
   where
-    accepts : (o : Order) → o ≢ Any → accepted_by o slave moment.wide moment.ask
+    accepts : (o : Order) → o ≢ Any → accepted_by o slave moment.wide moment.sent
         ≡ replay_slave slave (done_then o (record moment { act = Accepts }))
-    accepts Accept known = sym (same_after slave moment.ask moment.wide)
+    accepts Accept known = sym (same_after slave moment.sent moment.wide)
     accepts Reply known = refl
     accepts Any known = absurd (known refl)
 
-    answers : (o : Order) → o ≢ Any → answered_by o slave moment.wide moment.ask
+    answers : (o : Order) → o ≢ Any → answered_by o slave moment.wide moment.sent
         ≡ replay_slave slave (done_then o (record moment { act = Answers }))
     answers Accept known = refl
-    answers Reply known = sym (same_after slave moment.ask moment.wide)
+    answers Reply known = sym (same_after slave moment.sent moment.wide)
     answers Any known = absurd (known refl)
 
     go : (act : Act) → slave_then slave (record moment { act = act })
         ≡ replay_slave slave (done_then order (record moment { act = act }))
-    go Accepts = ap (λ o. accepted_by o slave moment.wide moment.ask) is ∙ accepts order known
-    go Answers = ap (λ o. answered_by o slave moment.wide moment.ask) is ∙ answers order known
+    go Accepts = ap (λ o. accepted_by o slave moment.wide moment.sent) is ∙ accepts order known
+    go Answers = ap (λ o. answered_by o slave moment.wide moment.sent) is ∙ answers order known
 
-replay_append : (slave : PortSlave) (before later : List Request)
+replay_append : (slave : PortSlave) (before later : List Sent)
     → replay_slave slave (before ++ later) ≡ replay_slave (replay_slave slave before) later
 replay_append slave [] later = refl
 replay_append slave (ask ∷ before) later = replay_append (served_by slave ask) before later
@@ -125,7 +125,7 @@ all_served : (order : Order) (slave : PortSlave) (moments : List RequestMoment) 
 all_served order slave [] known is = refl
 all_served order slave (moment ∷ moments) known is =
     all_served order (slave_then slave moment) moments known
-    ((act_stays moment.act slave moment.wide (Some moment.ask)).order ∙ is)
+    ((act_stays moment.act slave moment.wide (Some moment.sent)).order ∙ is)
     ∙ ap (λ s. replay_slave s (done_in order moments)) (served_then order slave moment known is)
     ∙ sym (replay_append slave (done_then order moment) (done_in order moments))
 
@@ -140,34 +140,34 @@ slave_is_replayed plan port past known =
 
 -- what is due of replies then is what is expected of the slave
 due_then : (order : Order) (port : ℕ) (slave : PortSlave) (moment : RequestMoment) → order ≢ Any → slave.order ≡ order
-    → entry_due moment.wide moment.ask (due_acting moment.act port slave moment.wide (Some moment.ask))
+    → entry_due moment.wide moment.sent (due_acting moment.act port slave moment.wide (Some moment.sent))
     ≡ told slave (done_then order moment)
 due_then order port slave moment known is = go moment.act
   where
-    expected : (record moment.ask { source = moment.wide }, record (expected_of slave.kept moment.ask) { source = moment.wide })
-        ∷ [] ≡ told slave (record moment.ask { source = moment.wide } ∷ [])
-    expected = ap (λ (r : Pattern). (record moment.ask { source = moment.wide }, r) ∷ [])
-        (sym (reply_with slave.kept moment.ask moment.wide))
-        ∙ sym (told_one slave (record moment.ask { source = moment.wide }))
+    expected : (with_source moment.wide moment.sent, record (expected_of_sent slave.kept moment.sent) { source = moment.wide })
+        ∷ [] ≡ told slave (with_source moment.wide moment.sent ∷ [])
+    expected = ap (λ (r : Pattern). (with_source moment.wide moment.sent, r) ∷ [])
+        (sym (reply_with slave.kept moment.sent moment.wide))
+        ∙ sym (told_one slave (with_source moment.wide moment.sent))
 
-    accepts : (o : Order) → o ≢ Any → entry_due moment.wide moment.ask (due_accepted_by o port slave moment.ask)
+    accepts : (o : Order) → o ≢ Any → entry_due moment.wide moment.sent (due_accepted_by o port slave moment.sent)
         ≡ told slave (done_then o (record moment { act = Accepts }))
     accepts Accept known = expected
     accepts Reply known = sym (told_none slave)
     accepts Any known = absurd (known refl)
 
     answers : (o : Order) → o ≢ Any
-        → entry_due moment.wide moment.ask (due_answered_by o port slave moment.wide moment.ask)
+        → entry_due moment.wide moment.sent (due_answered_by o port slave moment.wide moment.sent)
         ≡ told slave (done_then o (record moment { act = Answers }))
     answers Accept known = sym (told_none slave)
     answers Reply known = expected
     answers Any known = absurd (known refl)
 
-    go : (act : Act) → entry_due moment.wide moment.ask (due_acting act port slave moment.wide (Some moment.ask))
+    go : (act : Act) → entry_due moment.wide moment.sent (due_acting act port slave moment.wide (Some moment.sent))
         ≡ told slave (done_then order (record moment { act = act }))
-    go Accepts = ap (λ o. entry_due moment.wide moment.ask (due_accepted_by o port slave moment.ask)) is
+    go Accepts = ap (λ o. entry_due moment.wide moment.sent (due_accepted_by o port slave moment.sent)) is
         ∙ accepts order known
-    go Answers = ap (λ o. entry_due moment.wide moment.ask (due_answered_by o port slave moment.wide moment.ask)) is
+    go Answers = ap (λ o. entry_due moment.wide moment.sent (due_answered_by o port slave moment.wide moment.sent)) is
         ∙ answers order known
 
 all_due : (order : Order) (port : ℕ) (slave : PortSlave) (moments : List RequestMoment) → order ≢ Any → slave.order ≡ order
@@ -178,7 +178,7 @@ all_due order port slave (moment ∷ moments) known is =
     dues_cons port slave moment moments
     ∙ ap (λ l. l ++ dues_of port later moments) (due_then order port slave moment known is)
     ∙ ap (λ l. told slave (done_then order moment) ++ l)
-    (all_due order port later moments known ((act_stays moment.act slave moment.wide (Some moment.ask)).order ∙ is)
+    (all_due order port later moments known ((act_stays moment.act slave moment.wide (Some moment.sent)).order ∙ is)
     ∙ ap (λ s. told s (done_in order moments)) (served_then order slave moment known is))
     ∙ sym (told_append slave (done_then order moment) (done_in order moments))
 
@@ -192,19 +192,19 @@ dues_are_told plan port past known =
 -- ---- both ways
 
 -- what is due is what the slave has done
-pub done_of_due : (plan : Plan) (past : List Sighting) (port : ℕ) (history : List (Request × Pattern))
+pub done_of_due : (plan : Plan) (past : List Sighting) (port : ℕ) (history : List (Sent × Pattern))
     → order_at plan port ≢ Any → IsDueAt plan past port history → IsDoneAt plan past port history
 done_of_due plan past port history known due =
     let reset = reset_of plan port in
     let is : history ≡ told reset (asks_done plan port past) = due.dues ∙ dues_are_told plan port past known in
     record {
-      order = ap (λ (l : List (Request × Pattern)). map (λ (entry : Request × Pattern). entry.0) l) is
+      order = ap (λ (l : List (Sent × Pattern)). map (λ (entry : Sent × Pattern). entry.0) l) is
           ∙ asks_told reset (asks_done plan port past);
       lawful = subst (λ l. IsSlaveHistory reset l) (sym is) (told_lawful reset (asks_done plan port past));
       captured = due.captured;
     }
 
-pub due_of_done : (plan : Plan) (past : List Sighting) (port : ℕ) (history : List (Request × Pattern))
+pub due_of_done : (plan : Plan) (past : List Sighting) (port : ℕ) (history : List (Sent × Pattern))
     → order_at plan port ≢ Any → IsDoneAt plan past port history → IsDueAt plan past port history
 due_of_done plan past port history known done =
     let reset = reset_of plan port in
@@ -216,16 +216,16 @@ due_of_done plan past port history known done =
 
 -- what the rules say of the port's replies, by its order
 pub due_by_rules : (plan : Plan) (past : List Sighting) (port : ℕ) → KeepsRules plan past
-    → (history : List (Request × Pattern)) × IsDueAt plan past port history
+    → (history : List (Sent × Pattern)) × IsDueAt plan past port history
 due_by_rules plan past port rules = go (order_at plan port) refl
   where
-    done : order_at plan port ≢ Any → (history : List (Request × Pattern)) × IsDueAt plan past port history
+    done : order_at plan port ≢ Any → (history : List (Sent × Pattern)) × IsDueAt plan past port history
     done known =
         let at = rules.memories port known in
         (at.0, due_of_done plan past port at.0 known at.1)
 
     go : (order : Order) → order_at plan port ≡ order
-        → (history : List (Request × Pattern)) × IsDueAt plan past port history
+        → (history : List (Sent × Pattern)) × IsDueAt plan past port history
     go Accept is = done (λ any. let both : Accept ≡ Any = sym is ∙ any in cc)
     go Reply is = done (λ any. let both : Reply ≡ Any = sym is ∙ any in cc)
     go Any is = rules.any_orders port is

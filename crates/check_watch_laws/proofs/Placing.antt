@@ -1,7 +1,7 @@
 -- Each beat is of a source that the system has, and each request at a port's link is one of the port.
 use Rattle.std.proofs.Common.{◌≡◌, ◌∙◌, ℕ, Bool, true, false, if◌then◌else◌, List, [], ◌∷◌, ◌++◌, Option, Some, None, unwrap_or, take, refl, ap, sym, subst, append-nil}
 use Rattle.std.specs.List.{AllByRecursion}
-use Rattle.tl_types.specs.Request.{Request}
+use Rattle.check_cells.specs.Sent.{Sent}
 use Rattle.check_beats.specs.Form.{SameFields}
 use Rattle.check_beats.specs.State.{AskBegun, first_ask, ask_of, ends_ask}
 use Rattle.check_beats.specs.declared.beat.AskHead.{AskHead}
@@ -103,9 +103,9 @@ asks_placed_so plan (x ∷ past) lawful = go (asks_placed_so plan past lawful.0)
 
 -- ---- whole requests
 
-in_place : (plan : Plan) (link : Link) (wide : ℕ) (beat : AskHead) (ask : Request) → wide_of plan link beat.source ≡ wide
-    → ask.address ≡ beat.address → ask.size ≡ beat.size → IsPlaced plan.layout link beat
-    → IsInPlace plan.layout wide (record { link = link; ask = ask })
+in_place : (plan : Plan) (link : Link) (wide : ℕ) (beat : AskHead) (ask : Sent) → wide_of plan link beat.source ≡ wide
+    → ask.ask.address ≡ beat.address → ask.ask.size ≡ beat.size → IsPlaced plan.layout link beat
+    → IsInPlace plan.layout wide (record { link = link; sent = ask })
 in_place plan link wide beat ask own address size placed port is =
     let here : RoutesWide plan.layout beat.source beat.address beat.size port =
     subst (λ l. IsPlaced plan.layout l beat) is placed in
@@ -133,12 +133,12 @@ asks_placed plan (x ∷ past) lawful side wide = go (asks_placed plan past lawfu
         (take (bus_of plan.layout x.link) x.lanes)) refl refl
         (ends_ask (bus_of plan.layout x.link) (asking_at plan.layout x.link past) beat)
       where
-        by_end : (ask : Request) → ask.address ≡ beat.address → ask.size ≡ beat.size → (ends : Bool)
+        by_end : (ask : Sent) → ask.ask.address ≡ beat.address → ask.ask.size ≡ beat.size → (ends : Bool)
             → AllByRecursion (IsInPlace plan.layout wide)
-            (asks plan side wide past ++ (if ends then record { link = x.link; ask = ask } ∷ [] else []))
+            (asks plan side wide past ++ (if ends then record { link = x.link; sent = ask } ∷ [] else []))
         by_end ask address size false = none before
         by_end ask address size true = all_more (IsInPlace plan.layout wide) (asks plan side wide past)
-            (record { link = x.link; ask = ask }) before
+            (record { link = x.link; sent = ask }) before
             (in_place plan x.link wide beat ask own address size
             (beat_placed plan (state plan past) (asks_placed_so plan past lawful.0) x.link x.known x.lanes beat allowed))
 

@@ -2,6 +2,7 @@
 use Rattle.std.proofs.Common.{◌≡◌, ◌∙◌, ℕ, Bool, true, false, if◌then◌else◌, List, [], ◌∷◌, ◌++◌, length, zip, Option, Some, None, slice_get, suc, refl, ap, sym, subst, append-nil}
 use Rattle.std.specs.List.{AllByRecursion}
 use Rattle.tl_types.specs.Request.{Request}
+use Rattle.check_cells.specs.Sent.{Sent}
 use Rattle.check_cells.specs.Pattern.{Pattern}
 use Rattle.check_beats.specs.Form.{Continues, SameReplyFields}
 use Rattle.check_beats.specs.Spelling.{ReplyBeat}
@@ -106,7 +107,7 @@ module _ (plan : Plan) (s : State) (past : List Sighting) (linked : LinksAre pla
     own = wide_of plan link beat.source
 
     -- the request that it answers
-    answers : (ask : Request) × ((s.flights (side_of link) own).turn ≡ Asked (link_number link) ask) × IsReplyBeatTo ask beat
+    answers : (ask : Sent) × ((s.flights (side_of link) own).turn ≡ Asked (link_number link) ask) × IsReplyBeatTo ask.ask beat
     answers =
         let found = asked_at (link_number link) (s.flights (side_of link) own).turn _ allowed.answers in
         (found.0, found.1, record { size = found.2.size; opcode = found.2.opcode })
@@ -114,10 +115,10 @@ module _ (plan : Plan) (s : State) (past : List Sighting) (linked : LinksAre pla
     abbrev message : List ReplyBeat
     message = begun_replies_at plan.layout link past ++ reply_beat (bus_of plan.layout link) beat known lanes ∷ []
 
-    whole : AllByRecursion (λ (b : ReplyBeat). IsReplyBeatTo answers.0 b.head) message
-    whole = all_more (λ (b : ReplyBeat). IsReplyBeatTo answers.0 b.head) (begun_replies_at plan.layout link past)
+    whole : AllByRecursion (λ (b : ReplyBeat). IsReplyBeatTo answers.0.ask b.head) message
+    whole = all_more (λ (b : ReplyBeat). IsReplyBeatTo answers.0.ask b.head) (begun_replies_at plan.layout link past)
         (reply_beat (bus_of plan.layout link) beat known lanes)
-        (begun_answers (replying_at plan.layout link past) (begun_replies_at plan.layout link past) beat answers.0
+        (begun_answers (replying_at plan.layout link past) (begun_replies_at plan.layout link past) beat answers.0.ask
         (heads link)
         (subst (λ (u : Under). Continues SameReplyFields (first_reply u.replying) beat) (linked link)
         allowed.fits.same) answers.2) answers.2
@@ -129,7 +130,7 @@ module _ (plan : Plan) (s : State) (past : List Sighting) (linked : LinksAre pla
     own_answered = go (ends_reply (bus_of plan.layout link) (replying_at plan.layout link past) beat) _ whole
       where
         go : (ends : Bool) (reply : ℕ → Pattern)
-            → AllByRecursion (λ (b : ReplyBeat). IsReplyBeatTo answers.0 b.head) message
+            → AllByRecursion (λ (b : ReplyBeat). IsReplyBeatTo answers.0.ask b.head) message
             → AllByRecursion IsAnswered (zip (asks plan (side_of link) own past ++ [])
             (replies plan (side_of link) own past ++
             (if ends then record { link = link; reply = reply; beats = message } ∷ [] else [])))
@@ -140,12 +141,12 @@ module _ (plan : Plan) (s : State) (past : List Sighting) (linked : LinksAre pla
             (before (side_of link) own)
         go true captured all =
             let step = steps (side_of link) own in
-            let last : AskSeen = record { link = link; ask = answers.0 } in
+            let last : AskSeen = record { link = link; sent = answers.0 } in
             let reply : ReplySeen = record { link = link; reply = captured; beats = message } in
             let answered = replies plan (side_of link) own past in
             let asked_is : asks plan (side_of link) own past ≡ step.done ++ last ∷ [] =
             step.asks_are ∙ ap (λ t. step.done ++ pending (side_of link) t) answers.1
-            ∙ ap (λ (l : Link). step.done ++ record { link = l; ask = answers.0 } ∷ []) (own_link link) in
+            ∙ ap (λ (l : Link). step.done ++ record { link = l; sent = answers.0 } ∷ []) (own_link link) in
             let was : AllByRecursion IsAnswered (zip step.done answered) =
             subst (λ l. AllByRecursion IsAnswered l)
             (ap (λ l. zip l answered) asked_is ∙ zip_past step.done (last ∷ []) answered (sym step.counted))

@@ -1,7 +1,7 @@
 -- What lawful beats say of slaves.
 use Rattle.std.proofs.Common.{◌≡◌, ◌≢◌, ◌∙◌, ℕ, ◌≤◌, Bool, true, false, if◌then◌else◌, List, [], ◌∷◌, length, Option, Some, None, refl, sym, subst, arith}
 use Rattle.std.specs.Prelude.{◌==◌}
-use Rattle.tl_types.specs.Request.{Request}
+use Rattle.check_cells.specs.Sent.{Sent}
 use Rattle.check_cells.specs.Pattern.{Pattern}
 use Rattle.check_flight.specs.declared.answer.Answer.{Answer}
 use Rattle.check_flight.specs.declared.order.Order.TheVariants.{Any}
@@ -11,7 +11,7 @@ use Rattle.check_watch.specs.Lawful.{IsLawfulGroup}
 use Rattle.check_watch.specs.Past.{state}
 use Rattle.check_watch.specs.Plan.{Plan, Sighting, LinkSide}
 use Rattle.check_watch_laws.specs.Crossed.{AreWatched}
-use Rattle.check_watch_laws.specs.Memories.{side_for, port_for, order_at, asks_done, replay_slave, reset_of, IsDoneAt, AreEntries, exchanges_at}
+use Rattle.check_watch_laws.specs.Memories.{side_for, port_for, order_at, asks_done, replay_slave, reset_of, IsDoneAt, AreEntries, exchanges_at, with_source}
 use Rattle.check_watch_laws.specs.Moments.{IsDueAt}
 use Rattle.check_watch_laws.proofs.Done.{are_replayed}
 use Rattle.check_watch_laws.proofs.Turns.{link_on}
@@ -25,15 +25,15 @@ few_owed : (plan : Plan) (port wide : ℕ) (side : LinkSide) (turn : Turn) (due 
 few_owed plan port wide side Idle due = omega arith
 few_owed plan port wide side (Asking n) due = omega arith
 few_owed plan port wide side (Asked n ask) None = omega arith
-few_owed plan port wide side (Asked n ask) (Some answer) = go (port_for plan (link_on side n) ask == port)
+few_owed plan port wide side (Asked n ask) (Some answer) = go (port_for plan (link_on side n) ask.ask == port)
   where
-    go : (here : Bool) → length {A = Request × Pattern}
-        (if here then (record ask { source = wide }, record answer.reply { source = wide }) ∷ [] else []) ≤ 1
+    go : (here : Bool) → length {A = Sent × Pattern}
+        (if here then (with_source wide ask, record answer.reply { source = wide }) ∷ [] else []) ≤ 1
     go true = omega arith
     go false = omega arith
 
 pub due_at : (plan : Plan) (past : List Sighting) → AreWatched plan.layout past → IsLawfulGroup plan past → (port : ℕ)
-    → (history : List (Request × Pattern)) × IsDueAt plan past port history
+    → (history : List (Sent × Pattern)) × IsDueAt plan past port history
 due_at plan past watched lawful port = (
   history_at plan port past,
   record {
@@ -50,7 +50,7 @@ due_at plan past watched lawful port = (
 )
 
 pub done_at : (plan : Plan) (past : List Sighting) → AreWatched plan.layout past → IsLawfulGroup plan past → (port : ℕ)
-    → order_at plan port ≢ Any → (history : List (Request × Pattern)) × IsDoneAt plan past port history
+    → order_at plan port ≢ Any → (history : List (Sent × Pattern)) × IsDoneAt plan past port history
 done_at plan past watched lawful port known =
     let due = due_at plan past watched lawful port in
     (due.0, done_of_due plan past port due.0 known due.1)

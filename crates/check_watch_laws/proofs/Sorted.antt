@@ -3,7 +3,7 @@ use Rattle.std.proofs.Common.{◌≡◌, ◌∙◌, ℕ, ◌%◌, ◌^◌, Bool,
 use Rattle.std.specs.Prelude.{◌==◌, ◌&&◌}
 use Rattle.std.proofs.lemmas.List.{map-append}
 use Rattle.std.proofs.lemmas.List.Elements.{filter-append}
-use Rattle.tl_types.specs.Request.{Request}
+use Rattle.check_cells.specs.Sent.{Sent}
 use Rattle.check_cells.specs.Pattern.{Pattern}
 use Rattle.check_beats.specs.Form.{Continues, SameReplyFields}
 use Rattle.check_beats.specs.Laws.{ended_asks, ended_replies}
@@ -29,8 +29,8 @@ asks_more : (link : Link) (seen more : List AskSeen)
     → asks_at link (seen ++ more) ≡ asks_at link seen ++ asks_at link more
 asks_more link seen more =
     let test : AskSeen → Bool = λ one. is_link one.link (side_of link) (link_number link) in
-    ap (λ l. map (λ (one : AskSeen). one.ask) l) (filter-append test seen more)
-    ∙ map-append (λ (one : AskSeen). one.ask) (filter test seen) (filter test more)
+    ap (λ l. map (λ (one : AskSeen). one.sent) l) (filter-append test seen more)
+    ∙ map-append (λ (one : AskSeen). one.sent) (filter test seen) (filter test more)
 
 -- what a beat adds that is at another link
 asks_other : (layout : Layout) (past : List Sighting) (link : Link) (x : Sighting) (beat : Beat)
@@ -40,8 +40,8 @@ asks_other layout past link x (A beat) is =
     go (ask_of (bus_of layout x.link) (asking_at layout x.link past) beat (take (bus_of layout x.link) x.lanes))
     (ends_ask (bus_of layout x.link) (asking_at layout x.link past) beat)
   where
-    go : (ask : Request) (ends : Bool) → asks_at link (if ends then record { link = x.link; ask = ask } ∷ [] else []) ≡ []
-    go ask true = ap (λ b. map (λ (one : AskSeen). one.ask) (if b then record { link = x.link; ask = ask } ∷ [] else []))
+    go : (ask : Sent) (ends : Bool) → asks_at link (if ends then record { link = x.link; sent = ask } ∷ [] else []) ≡ []
+    go ask true = ap (λ b. map (λ (one : AskSeen). one.sent) (if b then record { link = x.link; sent = ask } ∷ [] else []))
         is
     go ask false = refl
 
@@ -53,11 +53,11 @@ asks_own : (plan : Plan) (past : List Sighting) (x : Sighting) (wide : ℕ) (bea
     ++ (if wide_of plan x.link (source_of beat) == wide then asks_at x.link (ask_ended plan.layout past x beat) else [])
 asks_own plan past x wide beat = by beat
   where
-    none : (b : Bool) → ◌≡◌ {A = List Request} (if b then [] else []) []
+    none : (b : Bool) → ◌≡◌ {A = List Sent} (if b then [] else []) []
     none true = refl
     none false = refl
 
-    before : List Request
+    before : List Sent
     before = asks_of_source plan x.link wide (ended_at plan.layout x.link past)
 
     nothing : (b : Bool) → before ≡ before ++ (if b then [] else [])
@@ -74,29 +74,29 @@ asks_own plan past x wide beat = by beat
         (take (bus_of plan.layout x.link) x.lanes)) refl
         (begun_at plan.layout x.link past ++ ask_beat (bus_of plan.layout x.link) beat x.lanes ∷ [])
       where
-        go : (ends : Bool) (ask : Request) → ask.source ≡ beat.source → (message : List AskBeat)
+        go : (ends : Bool) (ask : Sent) → ask.ask.source ≡ beat.source → (message : List AskBeat)
             → asks_of_source plan x.link wide (if ends then ended_at plan.layout x.link past ++ (ask, message) ∷ []
             else ended_at plan.layout x.link past)
             ≡ asks_of_source plan x.link wide (ended_at plan.layout x.link past)
             ++ (if wide_of plan x.link beat.source == wide then asks_at x.link
-            (if ends then record { link = x.link; ask = ask } ∷ [] else []) else [])
+            (if ends then record { link = x.link; sent = ask } ∷ [] else []) else [])
         go false ask is message = nothing (wide_of plan x.link beat.source == wide)
         go true ask is message =
-            let entry : Request × List AskBeat = (ask, message) in
+            let entry : Sent × List AskBeat = (ask, message) in
             let whole = ended_at plan.layout x.link past in
-            let test : Request × List AskBeat → Bool = λ one. wide_of plan x.link one.0.source == wide in
-            ap (λ l. map (λ (one : Request × List AskBeat). one.0) l) (filter-append test whole (entry ∷ []))
-            ∙ map-append (λ (one : Request × List AskBeat). one.0) (filter test whole)
-            (if wide_of plan x.link ask.source == wide then entry ∷ [] else [])
-            ∙ ap (λ l. before ++ l) (ap (λ n. map (λ (one : Request × List AskBeat). one.0)
+            let test : Sent × List AskBeat → Bool = λ one. wide_of plan x.link one.0.ask.source == wide in
+            ap (λ l. map (λ (one : Sent × List AskBeat). one.0) l) (filter-append test whole (entry ∷ []))
+            ∙ map-append (λ (one : Sent × List AskBeat). one.0) (filter test whole)
+            (if wide_of plan x.link ask.ask.source == wide then entry ∷ [] else [])
+            ∙ ap (λ l. before ++ l) (ap (λ n. map (λ (one : Sent × List AskBeat). one.0)
             (if wide_of plan x.link n == wide then entry ∷ [] else [])) is
             ∙ each (wide_of plan x.link beat.source == wide))
           where
-            each : (b : Bool) → map (λ (one : Request × List AskBeat). one.0)
+            each : (b : Bool) → map (λ (one : Sent × List AskBeat). one.0)
                 (if b then (ask, message) ∷ [] else [])
-                ≡ (if b then asks_at x.link (record { link = x.link; ask = ask } ∷ []) else [])
-            each true = ap (λ h. map (λ (one : AskSeen). one.ask)
-                (if h then record { link = x.link; ask = ask } ∷ [] else [])) (sym (own_is x.link))
+                ≡ (if b then asks_at x.link (record { link = x.link; sent = ask } ∷ []) else [])
+            each true = ap (λ h. map (λ (one : AskSeen). one.sent)
+                (if h then record { link = x.link; sent = ask } ∷ [] else [])) (sym (own_is x.link))
             each false = refl
 
 -- the list of a source after one beat more at its own link

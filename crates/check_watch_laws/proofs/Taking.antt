@@ -1,7 +1,7 @@
 -- The request that a port's slave accepts or answers with a beat is the one that it sees of its port.
 use Rattle.std.proofs.Common.{◌≡◌, ◌∙◌, ℕ, suc, ◌-◌, ◌<◌, Bool, true, false, if◌then◌else◌, List, [], ◌∷◌, length, map, filter, Option, Some, None, take, drop, refl, ap, sym, subst, arith, eqb-true, nltb→le, T, not}
 use Rattle.std.specs.Prelude.{◌==◌, ◌&&◌, nat_lt}
-use Rattle.tl_types.specs.Request.{Request}
+use Rattle.check_cells.specs.Sent.{Sent}
 use Rattle.check_beats.specs.declared.beat.AskHead.{AskHead}
 use Rattle.check_beats.specs.declared.beat.ReplyHead.{ReplyHead}
 use Rattle.check_flight.specs.Flight.{Turn}
@@ -72,9 +72,9 @@ takes layout (Port p) port has watched own =
 
 -- ---- the request of a port's slave
 
-abbrev pub moment_if : Act → ℕ → Option Request → List RequestMoment
+abbrev pub moment_if : Act → ℕ → Option Sent → List RequestMoment
 moment_if act wide None = []
-moment_if act wide (Some ask) = record { act = act; wide = wide; ask = ask } ∷ []
+moment_if act wide (Some ask) = record { act = act; wide = wide; sent = ask } ∷ []
 
 none_taken : (act : Act) (wide : ℕ) (here seen : Bool)
     → [] ≡ (if here then moment_if act wide (ask_if seen None) else [])
@@ -89,14 +89,14 @@ none_here act wide false = refl
 module _ (plan : Plan) (link : Link) (wide port found : ℕ) (has : HasLink plan.layout link)
     (watched : IsGroupLink plan.layout link) (own : (p : ℕ) → link ≡ Port p → found ≡ p) where
   -- a request that is seen is one of this port, if it goes there
-  taken : (act : Act) (ask : Request) → port_for plan link ask ≡ found
-      → map (moment_of act wide) (filter (is_for plan port) (record { link = link; ask = ask } ∷ [])) ≡
+  taken : (act : Act) (ask : Sent) → port_for plan link ask.ask ≡ found
+      → map (moment_of act wide) (filter (is_for plan port) (record { link = link; sent = ask } ∷ [])) ≡
       (if found == port then moment_if act wide (ask_if (takes_effect plan.layout link found) (Some ask)) else [])
   taken act ask goes = go (found == port) refl
     where
       -- by where it is seen and where it goes
       Done : Bool → Bool → List RequestMoment
-      Done seen here = map (moment_of act wide) (if seen && here then record { link = link; ask = ask } ∷ [] else [])
+      Done seen here = map (moment_of act wide) (if seen && here then record { link = link; sent = ask } ∷ [] else [])
 
       at : (seen : Bool) → Done seen true ≡ moment_if act wide (ask_if seen (Some ask))
       at true = refl
@@ -106,11 +106,11 @@ module _ (plan : Plan) (link : Link) (wide port found : ℕ) (has : HasLink plan
       past true = refl
       past false = refl
 
-      here_is : (port_for plan link ask == port) ≡ (found == port)
+      here_is : (port_for plan link ask.ask == port) ≡ (found == port)
       here_is = ap (λ n. n == port) goes
 
       go : (here : Bool) → (found == port) ≡ here
-          → Done (same_side (side_of link) (side_for plan.layout port)) (port_for plan link ask == port) ≡
+          → Done (same_side (side_of link) (side_for plan.layout port)) (port_for plan link ask.ask == port) ≡
           (if here then moment_if act wide (ask_if (takes_effect plan.layout link found) (Some ask)) else [])
       go true is =
           let there : found ≡ port = eqb-true found port is in
@@ -124,8 +124,8 @@ module _ (plan : Plan) (link : Link) (wide port found : ℕ) (has : HasLink plan
 
   -- with a beat of a request
   pub ask_taken : (past : List Sighting) (known : ℕ) (lanes : List ℕ) (beat : AskHead)
-      → ((ask : Request) → ask_by (under_by plan.layout link past) beat lanes ≡ Some ask
-      → port_for plan link ask ≡ found)
+      → ((ask : Sent) → ask_by (under_by plan.layout link past) beat lanes ≡ Some ask
+      → port_for plan link ask.ask ≡ found)
       → map (moment_of Accepts wide)
       (filter (is_for plan port) (ask_ended plan.layout past (ask_at link known lanes beat) (A beat)))
       ≡ (if found == port then moment_if Accepts wide (ask_if (takes_effect plan.layout link found)
@@ -134,7 +134,7 @@ module _ (plan : Plan) (link : Link) (wide port found : ℕ) (has : HasLink plan
       ap (λ l. map (moment_of Accepts wide) (filter (is_for plan port) l)) (ask_seen plan.layout past link known lanes beat)
       ∙ go (ask_by (under_by plan.layout link past) beat lanes) goes
     where
-      go : (o : Option Request) → ((ask : Request) → o ≡ Some ask → port_for plan link ask ≡ found)
+      go : (o : Option Sent) → ((ask : Sent) → o ≡ Some ask → port_for plan link ask.ask ≡ found)
           → map (moment_of Accepts wide) (filter (is_for plan port) (ask_list link o))
           ≡ (if found == port then moment_if Accepts wide (ask_if (takes_effect plan.layout link found) o) else [])
       go (Some ask) there = taken Accepts ask (there ask refl)
@@ -142,8 +142,8 @@ module _ (plan : Plan) (link : Link) (wide port found : ℕ) (has : HasLink plan
 
   -- with a beat of a reply
   pub reply_taken : (past : List Sighting) (known : ℕ) (lanes : List ℕ) (beat : ReplyHead)
-      (ask : Request) → port_for plan link ask ≡ found
-      → next_answered plan (side_of link) (wide_of plan link beat.source) past ≡ record { link = link; ask = ask } ∷ []
+      (ask : Sent) → port_for plan link ask.ask ≡ found
+      → next_answered plan (side_of link) (wide_of plan link beat.source) past ≡ record { link = link; sent = ask } ∷ []
       → map (moment_of Answers wide)
       (filter (is_for plan port) (ask_answered plan past (reply_at link known lanes beat) (D beat)))
       ≡ (if found == port then moment_if Answers wide (ask_if
@@ -170,15 +170,15 @@ module _ (plan : Plan) (link : Link) (wide port found : ℕ) (has : HasLink plan
       go false = off (takes_effect plan.layout link found)
 
 -- the request that the next reply of a source answers is the one in flight
-pub next_is : (plan : Plan) (past : List Sighting) (link : Link) (wide : ℕ) (turn : Turn) (ask : Request)
+pub next_is : (plan : Plan) (past : List Sighting) (link : Link) (wide : ℕ) (turn : Turn) (ask : Sent)
     → InStep (side_of link) turn (asks plan (side_of link) wide past) (replies plan (side_of link) wide past)
     → turn ≡ Asked (link_number link) ask → next_answered plan
-    (side_of link) wide past ≡ record { link = link; ask = ask } ∷ []
+    (side_of link) wide past ≡ record { link = link; sent = ask } ∷ []
 next_is plan past link wide turn ask step is =
     let n = length (replies plan (side_of link) wide past) in
     let one : suc n - n ≡ 1 = omega arith in
     ap (λ l. take (suc n - n) (drop n l)) step.asks_are
     ∙ ap (λ l. take (suc n - n) l) (drop_front step.done (pending (side_of link) turn) n step.counted)
     ∙ ap (λ t. take (suc n - n) (pending (side_of link) t)) is
-    ∙ ap (λ k. take k (record { link = link_on (side_of link) (link_number link); ask = ask } ∷ [])) one
-    ∙ ap (λ (l : Link). record { link = l; ask = ask } ∷ []) (own_link link)
+    ∙ ap (λ k. take k (record { link = link_on (side_of link) (link_number link); sent = ask } ∷ [])) one
+    ∙ ap (λ (l : Link). record { link = l; sent = ask } ∷ []) (own_link link)

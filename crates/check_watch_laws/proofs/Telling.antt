@@ -2,7 +2,7 @@
 use Rattle.std.proofs.Common.{◌≡◌, ◌∙◌, ℕ, ◌%◌, ◌^◌, Bool, true, false, if◌then◌else◌, List, [], ◌∷◌, ◌++◌, length, filter, zip, take, Option, Some, None, refl, ap, sym, subst, eqb-true, append-nil, append_assoc}
 use Rattle.std.specs.Prelude.{◌==◌, ◌&&◌, IsSomeAnd}
 use Rattle.std.proofs.lemmas.List.Elements.{filter-append}
-use Rattle.tl_types.specs.Request.{Request}
+use Rattle.check_cells.specs.Sent.{Sent}
 use Rattle.check_cells.specs.Pattern.{Pattern, FitsCaptured}
 use Rattle.check_beats.specs.Spelling.{ReplyBeat}
 use Rattle.check_beats.specs.State.{Under, ReplyBegun, ends_reply, reply_of}
@@ -26,7 +26,7 @@ use Rattle.check_watch.specs.Plan.{Plan, Layout, Sighting, LinkSide, side_of, li
 use Rattle.check_watch.specs.Scene.{ask_by, ask_if, takes_effect, begins_reply, is_given, captured, flight_after}
 use Rattle.check_watch.proofs.InFlight.{ask_at, reply_at, of_is}
 use Rattle.check_watch_laws.specs.Crossed.{AskSeen, ReplySeen, AreWatched, reply_beat, replying_at, begun_replies_at, ask_ended, reply_ended, asks, replies}
-use Rattle.check_watch_laws.specs.Memories.{side_for, port_for, is_for, order_at, reset_of, IsEntry, entries_of}
+use Rattle.check_watch_laws.specs.Memories.{side_for, port_for, is_for, order_at, reset_of, IsEntry, entries_of, with_source}
 use Rattle.check_watch_laws.specs.Moments.{moments, slave_after_all, dues_of}
 use Rattle.check_watch_laws.specs.Moments.Act.{Accepts, Answers}
 use Rattle.check_watch_laws.proofs.Buses.{reply_on_bus}
@@ -59,11 +59,11 @@ told_at plan s past port wide own side mine side_is wide_is was =
     (at_port plan port (asks plan sd w past) (replies plan sd w past)) (entries_of w (history_at plan port past)) in
     subst (λ sd. P sd own) (sym side_is) (subst (λ w. P side w) (sym wide_is) was)
 
-unseen_by : (seen : Bool) (ended : Option Request) → seen ≡ false → ask_if seen ended ≡ None
+unseen_by : (seen : Bool) (ended : Option Sent) → seen ≡ false → ask_if seen ended ≡ None
 unseen_by true ended is = cc
 unseen_by false ended is = refl
 
-unseen_late : (seen begins : Bool) (ended : Option Request) → seen ≡ false → ask_if (seen && begins) ended ≡ None
+unseen_late : (seen begins : Bool) (ended : Option Sent) → seen ≡ false → ask_if (seen && begins) ended ≡ None
 unseen_late true begins ended is = cc
 unseen_late false begins ended is = refl
 
@@ -87,7 +87,7 @@ module _ (plan : Plan) (s : State) (past : List Sighting) (linked : LinksAre pla
   abbrev found : ℕ
   found = (scene_found plan s link (A beat)).port
 
-  abbrev done : Option Request
+  abbrev done : Option Sent
   done = accepts_now plan s link lanes beat
 
   -- what the entries of a source gain
@@ -205,10 +205,10 @@ not_given layout (Master m) port is = go (crosses_at_port layout port) is
     go true e = cc
     go false e = refl
 
-fresh_due : (plan : Plan) (s : State) (side : LinkSide) (wide n : ℕ) (turn : Turn) (ask : Request)
+fresh_due : (plan : Plan) (s : State) (side : LinkSide) (wide n : ℕ) (turn : Turn) (ask : Sent)
     (due : Option Answer) (seen : Bool) → turn ≡ Asked n ask → HasBegun plan s side wide turn due
     → (seen && begins_reply (s.links (side_of (link_on side n)) (link_number (link_on side n))).replying) ≡ true
-    → is_due_at_reply (order_at plan (port_for plan (link_on side n) ask)) ≡ true
+    → is_due_at_reply (order_at plan (port_for plan (link_on side n) ask.ask)) ≡ true
     → due ≡ None
 fresh_due plan s side wide n turn ask None seen is begun effect late = refl
 fresh_due plan s side wide n turn ask (Some answer) seen is begun effect late =
@@ -225,53 +225,53 @@ fresh_due plan s side wide n turn ask (Some answer) seen is begun effect late =
     go false kept none all = cc
 
 -- a reply that is due as its request is answered is so by the order of the slave, and as it begins
-late_by : (order : Order) (port : ℕ) (slave : PortSlave) (wide : ℕ) (ask : Request) (answer : Answer)
+late_by : (order : Order) (port : ℕ) (slave : PortSlave) (wide : ℕ) (ask : Sent) (answer : Answer)
     → due_answered_by order port slave wide ask ≡ Some answer → is_due_at_reply order ≡ true
 late_by Accept port slave wide ask answer is = cc
 late_by Reply port slave wide ask answer is = refl
 late_by Any port slave wide ask answer is = refl
 
-late_if : (effect : Bool) (port : ℕ) (slave : PortSlave) (wide : ℕ) (ask : Request) (answer : Answer)
+late_if : (effect : Bool) (port : ℕ) (slave : PortSlave) (wide : ℕ) (ask : Sent) (answer : Answer)
     → due_answering port slave wide (ask_if effect (Some ask)) ≡ Some answer
     → (effect ≡ true) × (is_due_at_reply slave.order ≡ true)
 late_if true port slave wide ask answer is = (refl, late_by slave.order port slave wide ask answer is)
 late_if false port slave wide ask answer is = cc
 
-owed_off : (plan : Plan) (port wide n : ℕ) (link : Link) (ask : Request) (due : Option Answer)
-    → (port_for plan link ask == port) ≡ false → n ≡ link_number link
+owed_off : (plan : Plan) (port wide n : ℕ) (link : Link) (ask : Sent) (due : Option Answer)
+    → (port_for plan link ask.ask == port) ≡ false → n ≡ link_number link
     → owed plan port wide (side_of link) (Asked n ask) due ≡ []
 owed_off plan port wide n link ask None off is = refl
 owed_off plan port wide n link ask (Some answer) off is =
     let there : link_on (side_of link) n ≡ link = ap (λ k. link_on (side_of link) k) is ∙ own_link link in
-    ap (λ (b : Bool). if b then (record ask { source = wide }, record answer.reply { source = wide }) ∷ [] else [])
-    (ap (λ l. port_for plan l ask == port) there ∙ off)
+    ap (λ (b : Bool). if b then (with_source wide ask, record answer.reply { source = wide }) ∷ [] else [])
+    (ap (λ l. port_for plan l ask.ask == port) there ∙ off)
 
 -- the last reply is the one that was owed
-last_entry : (plan : Plan) (port wide : ℕ) (link : Link) (ask : Request) (reply : ℕ → Pattern) (beats : List ReplyBeat)
-    (seen : List (AskSeen × ReplySeen)) (front : List (Request × Pattern)) (due : Option Answer)
-    → (port_for plan link ask == port) ≡ true → IsSourced (Asked (link_number link) ask) due
-    → IsSomeAnd due (λ answer. FitsCaptured answer.reply (reply ask.address)) → AreMatched wide seen front
+last_entry : (plan : Plan) (port wide : ℕ) (link : Link) (ask : Sent) (reply : ℕ → Pattern) (beats : List ReplyBeat)
+    (seen : List (AskSeen × ReplySeen)) (front : List (Sent × Pattern)) (due : Option Answer)
+    → (port_for plan link ask.ask == port) ≡ true → IsSourced (Asked (link_number link) ask) due
+    → IsSomeAnd due (λ answer. FitsCaptured answer.reply (reply ask.ask.address)) → AreMatched wide seen front
     → AreMatched wide (seen ++ (
-      record { link = link; ask = ask },
+      record { link = link; sent = ask },
       record { link = link; reply = reply; beats = beats },
     ) ∷ [])
     (front ++ owed plan port wide (side_of link) (Asked (link_number link) ask) due)
 last_entry plan port wide link ask reply beats seen front None goes sourced must all = absurd must
 last_entry plan port wide link ask reply beats seen front (Some answer) goes sourced must all =
     let last : AskSeen × ReplySeen = (
-      record { link = link; ask = ask },
+      record { link = link; sent = ask },
       record { link = link; reply = reply; beats = beats },
     ) in
-    let entry : Request × Pattern = (record ask { source = wide }, record answer.reply { source = wide }) in
-    let same : record answer.reply { source = ask.source } ≡ answer.reply =
+    let entry : Sent × Pattern = (with_source wide ask, record answer.reply { source = wide }) in
+    let same : record answer.reply { source = ask.ask.source } ≡ answer.reply =
     ap (λ k. record answer.reply { source = k }) (sym sourced) in
     let is : IsEntry wide last entry = record {
       ask = refl;
-      fits = subst (λ (r : Pattern). FitsCaptured r (reply ask.address)) (sym same) must;
+      fits = subst (λ (r : Pattern). FitsCaptured r (reply ask.ask.address)) (sym same) must;
     } in
     let owed_is : entry ∷ [] ≡ owed plan port wide (side_of link) (Asked (link_number link) ask) (Some answer) =
     ap (λ (b : Bool). if b then entry ∷ [] else [])
-    (sym (ap (λ l. port_for plan l ask == port) (own_link link) ∙ goes)) in
+    (sym (ap (λ l. port_for plan l ask.ask == port) (own_link link) ∙ goes)) in
     subst (λ l. AreMatched wide (seen ++ last ∷ []) (front ++ l)) owed_is
     (matched_more wide seen front last entry all is)
 
@@ -292,7 +292,7 @@ seen_more plan port asked done answered last reply is counted =
 -- a beat of a reply to the request in flight, whether it is lawful or not
 module _ (plan : Plan) (s : State) (past : List Sighting) (linked : LinksAre plan s past) (steps : AreInStep plan s past)
     (dues : AreDue plan s) (replayed : AreReplayed plan s past) (link : Link) (known : ℕ) (lanes : List ℕ)
-    (has : HasLink plan.layout link) (watched : IsGroupLink plan.layout link) (beat : ReplyHead) (ask : Request)
+    (has : HasLink plan.layout link) (watched : IsGroupLink plan.layout link) (beat : ReplyHead) (ask : Sent)
     (in_flight : (s.flights (side_of link) (wide_of plan link beat.source)).turn ≡ Asked (link_number link) ask) where
   abbrev key : ℕ
   key = wide_of plan link beat.source
@@ -300,7 +300,7 @@ module _ (plan : Plan) (s : State) (past : List Sighting) (linked : LinksAre pla
   abbrev to_port : ℕ
   to_port = (scene_found plan s link (D beat)).port
 
-  abbrev effect_now : Option Request
+  abbrev effect_now : Option Sent
   effect_now = answers_now plan s link beat
 
   -- what is in flight, and what must come
@@ -334,7 +334,7 @@ module _ (plan : Plan) (s : State) (past : List Sighting) (linked : LinksAre pla
           ∙ ap (λ b. gains Answers port b key effect_now) (sym (replayed port))
           ∙ ap (λ p. gains Answers p (s.slaves p) key effect_now) (sym (eqb-true to_port port is))
 
-  pub goes_there : port_for plan link ask ≡ to_port
+  pub goes_there : port_for plan link ask.ask ≡ to_port
   goes_there = reply_goes plan link flying.turn (link_number link) beat ask in_flight
 
   abbrev effects : Bool
@@ -342,13 +342,13 @@ module _ (plan : Plan) (s : State) (past : List Sighting) (linked : LinksAre pla
       && begins_reply (s.links (side_of link) (link_number link)).replying
 
   -- its entry stands last, once its reply is due
-  pub put_last : (port : ℕ) (front : List (Request × Pattern))
+  pub put_last : (port : ℕ) (front : List (Sent × Pattern))
       → entries_of key (history_at plan port past) ≡ front ++ owed plan port key (side_of link) flying.turn flying.due
       → entries_of key (history_at plan port (reply_at link known lanes beat ∷ past)) ≡ front
       ++ owed plan port key (side_of link) flying.turn due_now
   put_last port front is =
-      let order_is : port_for plan (link_on (side_of link) (link_number link)) ask ≡ to_port =
-      ap (λ l. port_for plan l ask) (own_link link) ∙ goes_there in
+      let order_is : port_for plan (link_on (side_of link) (link_number link)) ask.ask ≡ to_port =
+      ap (λ l. port_for plan l ask.ask) (own_link link) ∙ goes_there in
       let fresh : (answer : Answer)
       → due_answering to_port (s.slaves to_port) key (ask_if effects (Some ask)) ≡ Some answer → flying.due ≡ None =
       λ answer due. let so = late_if effects to_port (s.slaves to_port) key ask answer due in
@@ -388,7 +388,7 @@ module _ (plan : Plan) (s : State) (past : List Sighting) (linked : LinksAre pla
   abbrev goes_to : ℕ
   goes_to = (scene_found plan s link (D beat)).port
 
-  abbrev does : Option Request
+  abbrev does : Option Sent
   does = answers_now plan s link beat
 
   -- what is in flight, and what must come
@@ -399,12 +399,12 @@ module _ (plan : Plan) (s : State) (past : List Sighting) (linked : LinksAre pla
   late_due = due_by here.due (due_answering goes_to (s.slaves goes_to) mine does)
 
   -- the request that is answered
-  answers : (ask : Request) × (here.turn ≡ Asked (link_number link) ask)
+  answers : (ask : Sent) × (here.turn ≡ Asked (link_number link) ask)
   answers =
       let found = asked_at (link_number link) here.turn _ allowed.answers in
       (found.0, found.1)
 
-  goes : port_for plan link answers.0 ≡ goes_to
+  goes : port_for plan link answers.0.ask ≡ goes_to
   goes = reply_goes plan link here.turn (link_number link) beat answers.0 answers.1
 
   reply_gained : (port wide : ℕ) → entries_of wide (history_at plan port (reply_at link known lanes beat ∷ past))
@@ -413,7 +413,7 @@ module _ (plan : Plan) (s : State) (past : List Sighting) (linked : LinksAre pla
       (slave_after_all (reset_of plan port) (moments plan port past)) mine does else []) else [])
   reply_gained = gain plan s past linked steps dues replayed link known lanes has watched beat answers.0 answers.1
 
-  mid : (port : ℕ) (front : List (Request × Pattern))
+  mid : (port : ℕ) (front : List (Sent × Pattern))
       → entries_of mine (history_at plan port past) ≡ front ++ owed plan port mine (side_of link) here.turn here.due
       → entries_of mine (history_at plan port (reply_at link known lanes beat ∷ past)) ≡ front
       ++ owed plan port mine (side_of link) here.turn late_due
@@ -436,11 +436,11 @@ module _ (plan : Plan) (s : State) (past : List Sighting) (linked : LinksAre pla
   reply_now = record { link = link; reply = λ address. got address; beats = message }
 
   -- what is captured, after these beats of the link
-  captured_is : captured (s.links (side_of link) (link_number link)) here.turn beat known lanes ≡ got answers.0.address
+  captured_is : captured (s.links (side_of link) (link_number link)) here.turn beat known lanes ≡ got answers.0.ask.address
   captured_is =
       ap (λ t. captured (s.links (side_of link) (link_number link)) t beat known lanes) answers.1
       ∙ ap (λ (u : Under). captured u (Asked (link_number link) answers.0) beat known lanes) (linked link)
-      ∙ sym (reply_on_bus plan.layout link (replying_at plan.layout link past) answers.0.address beat known lanes)
+      ∙ sym (reply_on_bus plan.layout link (replying_at plan.layout link past) answers.0.ask.address beat known lanes)
 
   abbrev asked_now : List AskSeen
   asked_now = asks plan (side_of link) mine past
@@ -449,7 +449,7 @@ module _ (plan : Plan) (s : State) (past : List Sighting) (linked : LinksAre pla
   answered_now = replies plan (side_of link) mine past
 
   abbrev now : AskSeen
-  now = record { link = link; ask = answers.0 }
+  now = record { link = link; sent = answers.0 }
 
   abbrev ends_now : Bool
   ends_now = ends_reply bus (replying_at plan.layout link past) beat
@@ -459,7 +459,7 @@ module _ (plan : Plan) (s : State) (past : List Sighting) (linked : LinksAre pla
   ends_is = ap (λ (u : Under). ends_reply u.bus u.replying beat) (linked link)
 
   -- the exchange that ends is the entry that stands last
-  last_matched : (port : ℕ) (front : List (Request × Pattern)) → side_of link ≡ side_for plan.layout port
+  last_matched : (port : ℕ) (front : List (Sent × Pattern)) → side_of link ≡ side_for plan.layout port
       → ends_now ≡ true
       → AreMatched mine (at_port plan port asked_now answered_now) front
       → AreMatched mine (at_port plan port asked_now answered_now
@@ -469,15 +469,15 @@ module _ (plan : Plan) (s : State) (past : List Sighting) (linked : LinksAre pla
       subst (λ t. AreMatched mine (at_port plan port asked_now answered_now
       ++ (if is_for plan port now then (now, reply_now) ∷ [] else []))
       (front ++ owed plan port mine (side_of link) t late_due)) (sym answers.1)
-      (go (port_for plan link answers.0 == port) refl)
+      (go (port_for plan link answers.0.ask == port) refl)
     where
       seen_here : same_side (side_of link) (side_for plan.layout port) ≡ true
       seen_here = ap (λ sd. same_side (side_of link) sd) (sym side) ∙ same_side-refl (side_of link)
 
-      for_is : is_for plan port now ≡ (port_for plan link answers.0 == port)
-      for_is = ap (λ b. b && (port_for plan link answers.0 == port)) seen_here
+      for_is : is_for plan port now ≡ (port_for plan link answers.0.ask == port)
+      for_is = ap (λ b. b && (port_for plan link answers.0.ask == port)) seen_here
 
-      go : (at : Bool) → (port_for plan link answers.0 == port) ≡ at
+      go : (at : Bool) → (port_for plan link answers.0.ask == port) ≡ at
           → AreMatched mine (at_port plan port asked_now answered_now
           ++ (if is_for plan port now then (now, reply_now) ∷ [] else []))
           (front ++ owed plan port mine (side_of link) (Asked (link_number link) answers.0) late_due)
@@ -493,11 +493,11 @@ module _ (plan : Plan) (s : State) (past : List Sighting) (linked : LinksAre pla
           (subst (λ l. AreMatched mine (at_port plan port asked_now answered_now) l)
           (sym (ap (λ l. front ++ l) none ∙ append-nil front)) all))
       go true is =
-          let there : goes_to ≡ port = sym goes ∙ eqb-true (port_for plan link answers.0) port is in
+          let there : goes_to ≡ port = sym goes ∙ eqb-true (port_for plan link answers.0.ask) port is in
           let effective : takes_effect plan.layout link goes_to ≡ true =
           takes plan.layout link goes_to has watched (port_own plan link here.turn (D beat))
           ∙ ap (λ p. same_side (side_of link) (side_for plan.layout p)) there ∙ seen_here in
-          let must : IsSomeAnd late_due (λ answer. FitsCaptured answer.reply (got answers.0.address)) =
+          let must : IsSomeAnd late_due (λ answer. FitsCaptured answer.reply (got answers.0.ask.address)) =
           subst (λ (r : Pattern). IsMust false (wider_bus plan.layout link goes_to) (s.crossings mine) late_due r) captured_is
           (subst (λ given. IsMust given (wider_bus plan.layout link goes_to) (s.crossings mine) late_due
           (captured (s.links (side_of link) (link_number link)) here.turn beat known lanes))
@@ -538,7 +538,7 @@ module _ (plan : Plan) (s : State) (past : List Sighting) (linked : LinksAre pla
           let step = steps (side_of link) mine in
           let asked_is : asked_now ≡ step.done ++ now ∷ [] =
           step.asks_are ∙ ap (λ t. step.done ++ pending (side_of link) t) answers.1
-          ∙ ap (λ (l : Link). step.done ++ record { link = l; ask = answers.0 } ∷ []) (own_link link) in
+          ∙ ap (λ (l : Link). step.done ++ record { link = l; sent = answers.0 } ∷ []) (own_link link) in
           let left = was.front ++ owed plan port mine (side_of link) here.turn late_due in
           record {
             front = left;

@@ -1,7 +1,7 @@
 -- What lawful beats say of messages.
 use Rattle.std.proofs.Common.{◌≡◌, ◌≢◌, ◌∙◌, ℕ, ◌+◌, ◌≤◌, List, [], ◌∷◌, Some, None, length, ap, sym, subst, arith, length-append}
 use Rattle.std.specs.List.{AllByRecursion}
-use Rattle.tl_types.specs.Request.{Request}
+use Rattle.check_cells.specs.Sent.{Sent}
 use Rattle.check_beats.specs.Bus.{bus_bytes}
 use Rattle.check_beats.specs.Form.{SameFields, SameReplyFields}
 use Rattle.check_beats.specs.Laws.{AreFitting, IsSpelled, CanEnd, asking, begun, ended_asks, AreFittingReplies, IsReplySpelled, ReplyCanEndSo, replying, begun_reply, ended_replies}
@@ -127,10 +127,10 @@ module _ (plan : Plan) (past : List Sighting) (watched : AreWatched plan.layout 
 
   reply_asked : (link : Link) (first : ReplyBeat) (more : List ReplyBeat)
       → begun_replies_at plan.layout link past ≡ first ∷ more
-      → (ask : Request)
+      → (ask : Sent)
       × (next_answered plan (side_of link) (wide_of plan link first.head.source) past
-      ≡ record { link = link; ask = ask } ∷ [])
-      × IsReplyBeatTo ask first.head
+      ≡ record { link = link; sent = ask } ∷ [])
+      × IsReplyBeatTo ask.ask first.head
   reply_asked link first more begun_is =
       let wide = wide_of plan link first.head.source in
       let turn = ((state plan past).flights (side_of link) wide).turn in
@@ -165,8 +165,8 @@ module _ (plan : Plan) (past : List Sighting) (watched : AreWatched plan.layout 
           (sym (asking_here side wide link is at) ∙ asking_here side wide other other_is there)));
       replies_asked = λ link is at.
           let Asked : LinkSide → ℕ → Type 0 =
-          λ sd w. (ask : Request) × (next_answered plan sd w past ≡ record { link = link; ask = ask } ∷ [])
-          × IsReplyBeatTo ask at.first.head in
+          λ sd w. (ask : Sent) × (next_answered plan sd w past ≡ record { link = link; sent = ask } ∷ [])
+          × IsReplyBeatTo ask.ask at.first.head in
           subst (λ sd. Asked sd wide) is (subst (λ w. Asked (side_of link) w) at.of
           (reply_asked link at.first at.more at.begun));
     }

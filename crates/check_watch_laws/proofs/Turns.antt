@@ -3,6 +3,7 @@ use Rattle.std.proofs.Common.{◌≡◌, ◌∙◌, ℕ, ◌⊎◌, inl, inr, Bo
 use Rattle.std.specs.Prelude.{◌==◌}
 use Rattle.std.proofs.lemmas.Bool.{eqb-false}
 use Rattle.tl_types.specs.Request.{Request}
+use Rattle.check_cells.specs.Sent.{Sent}
 use Rattle.check_beats.specs.State.{AskBegun, first_ask}
 use Rattle.check_beats.specs.declared.beat.AskHead.{AskHead}
 use Rattle.check_flight.specs.Flight.{Turn, Flight}
@@ -59,8 +60,8 @@ asking_same m n is = ap number is
     number (Asked k ask) = k
 
 -- what has ended at a reply
-pub asked_at : (n : ℕ) (turn : Turn) (P : Request → Type 0) → OfAsked n turn P → (ask : Request) × (turn ≡ Asked n ask)
-    × P ask
+pub asked_at : (n : ℕ) (turn : Turn) (P : Request → Type 0) → OfAsked n turn P → (ask : Sent) × (turn ≡ Asked n ask)
+    × P ask.ask
 asked_at n Idle P of = absurd of
 asked_at n (Asking m) P of = absurd of
 asked_at n (Asked m ask) P of = (ask, ap (λ k. Asked k ask) of.0, of.1)

@@ -31,7 +31,7 @@ pub of_weaker : (n : ℕ) (turn : Turn) (P Q : Request → Type 0) → OfAsked n
     → OfAsked n turn Q
 of_weaker n Idle P Q of weaker = of
 of_weaker n (Asking m) P Q of weaker = of
-of_weaker n (Asked m ask) P Q of weaker = (of.0, weaker ask of.1)
+of_weaker n (Asked m ask) P Q of weaker = (of.0, weaker ask.ask of.1)
 
 -- one request in flight is at one link
 one_number : (m n : ℕ) (turn : Turn) (P Q : Request → Type 0) → OfAsked m turn P → OfAsked n turn Q → m ≡ n

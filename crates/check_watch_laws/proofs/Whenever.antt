@@ -2,7 +2,7 @@
 -- accepted and before its reply begins.
 use Rattle.std.proofs.Common.{◌≡◌, ◌∙◌, ℕ, ◌≤◌, Bool, true, false, if◌then◌else◌, List, [], ◌∷◌, ◌++◌, length, Option, refl, ap, sym, subst, arith}
 use Rattle.std.specs.Prelude.{◌==◌}
-use Rattle.tl_types.specs.Request.{Request}
+use Rattle.check_cells.specs.Sent.{Sent}
 use Rattle.check_cells.specs.Pattern.{Pattern, FitsPattern}
 use Rattle.check_contests.specs.declared.accepted.Accepted.{Accepted}
 use Rattle.check_contests.specs.Below.{IsBelowTruth}
@@ -22,7 +22,7 @@ use Rattle.check_flight.specs.PortSlave.{PortSlave, accepted_by, answered_by, an
 use Rattle.check_watch.specs.Lawful.{IsLawfulGroup}
 use Rattle.check_watch.specs.Plan.{Plan, IsPlan, Sighting}
 use Rattle.check_watch_laws.specs.Crossed.{AskSeen, ReplySeen, AreWatched}
-use Rattle.check_watch_laws.specs.Memories.{AreEntries, entries_of, exchanges_at, order_at, reset_of}
+use Rattle.check_watch_laws.specs.Memories.{AreEntries, entries_of, exchanges_at, order_at, reset_of, with_source}
 use Rattle.check_watch_laws.specs.Moments.{IsDueAt, RequestMoment, dues_of, entry_due, moments, slave_then}
 use Rattle.check_watch_laws.specs.Moments.Act.{Accepts, Answers}
 use Rattle.check_watch_laws.specs.Whenever.{AlwaysKeepsRulesWhenever, AreFresh, IsDoneWhenever, answer_given, given_in, seen_answer, seen_in}
@@ -33,27 +33,27 @@ use Rattle.check_watch_laws.proofs.Told.{dues_none, dues_cons}
 -- ---- entries, one by one
 
 -- the same request, and what is due says no more than what was given
-pub record IsNoMore (due given : Request × Pattern) : Type 0 where
+pub record IsNoMore (due given : Sent × Pattern) : Type 0 where
   pub ask : due.0 ≡ given.0
   pub fits : FitsPattern due.1 given.1
 
-abbrev AreNoMore : List (Request × Pattern) → List (Request × Pattern) → Type 0
+abbrev AreNoMore : List (Sent × Pattern) → List (Sent × Pattern) → Type 0
 AreNoMore [] [] = Unit {0}
 AreNoMore [] (given ∷ more) = ⊥
 AreNoMore (due ∷ dues) [] = ⊥
 AreNoMore (due ∷ dues) (given ∷ more) = IsNoMore due given × AreNoMore dues more
 
 -- so it is of one source
-of_source : (wide : ℕ) (dues given : List (Request × Pattern)) → AreNoMore dues given
+of_source : (wide : ℕ) (dues given : List (Sent × Pattern)) → AreNoMore dues given
     → AreNoMore (entries_of wide dues) (entries_of wide given)
 of_source wide [] [] all = tt
 of_source wide [] (g ∷ given) all = absurd all
 of_source wide (d ∷ dues) [] all = absurd all
 of_source wide (d ∷ dues) (g ∷ given) all =
     subst (λ b. AreNoMore (if b then d ∷ entries_of wide dues else entries_of wide dues)
-    (if g.0.source == wide then g ∷ entries_of wide given else entries_of wide given))
-    (sym (ap (λ (r : Request). r.source == wide) all.0.ask))
-    (go (g.0.source == wide) (of_source wide dues given all.1))
+    (if g.0.ask.source == wide then g ∷ entries_of wide given else entries_of wide given))
+    (sym (ap (λ (r : Sent). r.ask.source == wide) all.0.ask))
+    (go (g.0.ask.source == wide) (of_source wide dues given all.1))
   where
     go : (b : Bool) → AreNoMore (entries_of wide dues) (entries_of wide given)
         → AreNoMore (if b then d ∷ entries_of wide dues else entries_of wide dues)
@@ -62,17 +62,18 @@ of_source wide (d ∷ dues) (g ∷ given) all =
     go false rest = rest
 
 -- a source does not matter, if both have it
-with_source : (due given : Pattern) (source : ℕ) → FitsPattern due given
+fits_with : (due given : Pattern) (source : ℕ) → FitsPattern due given
     → FitsPattern (record due { source = source }) (record given { source = source })
-with_source due given source fits = record {
+fits_with due given source fits = record {
   op_is = fits.op_is;
   size_is = fits.size_is;
   source_is = refl;
   denied_is = fits.denied_is;
+  counted = fits.counted;
   bytes_fit = fits.bytes_fit;
 }
 
-few : (dues given : List (Request × Pattern)) → AreNoMore dues given → length given ≤ 1 → length dues ≤ 1
+few : (dues given : List (Sent × Pattern)) → AreNoMore dues given → length given ≤ 1 → length dues ≤ 1
 few [] given all one = omega arith
 few (d ∷ []) given all one = omega arith
 few (d ∷ e ∷ dues) [] all one = absurd all
@@ -80,7 +81,7 @@ few (d ∷ e ∷ dues) (g ∷ []) all one = absurd all.1
 few (d ∷ e ∷ dues) (g ∷ h ∷ given) all one = absurd (omega (arith, one))
 
 -- what was captured fits what is due, if it fits what was given
-entries_due : (wide : ℕ) (seen : List (AskSeen × ReplySeen)) (dues given : List (Request × Pattern))
+entries_due : (wide : ℕ) (seen : List (AskSeen × ReplySeen)) (dues given : List (Sent × Pattern))
     → AreNoMore dues given → AreEntries wide seen given → AreEntries wide seen dues
 entries_due wide [] dues given all are = few dues given all are
 entries_due wide (x ∷ seen) [] [] all are = are
@@ -89,8 +90,8 @@ entries_due wide (x ∷ seen) (d ∷ dues) [] all are = absurd all
 entries_due wide (x ∷ seen) (d ∷ dues) (g ∷ given) all are = (
   record {
     ask = all.0.ask ∙ are.0.ask;
-    fits = captured_through (record d.1 { source = x.0.ask.source }) (record g.1 { source = x.0.ask.source })
-        (x.1.reply x.0.ask.address) (with_source d.1 g.1 x.0.ask.source all.0.fits) are.0.fits;
+    fits = captured_through (record d.1 { source = x.0.sent.ask.source }) (record g.1 { source = x.0.sent.ask.source })
+        (x.1.reply x.0.sent.ask.address) (fits_with d.1 g.1 x.0.sent.ask.source all.0.fits) are.0.fits;
   },
   entries_due wide seen dues given all.1 are.1,
 )
@@ -105,13 +106,13 @@ LaterIsNoMore port later =
 
 module _ (port : ℕ) (later : List SlaveMoment) (rest : LaterIsNoMore port later) (slave : PortSlave) (truth : Truth)
     (any : slave.order ≡ Any) (below : IsBelowTruth slave.kept slave.contests truth) (wide : ℕ) where
-  accepts : (ask : Request) → IsBelowTruth (contested_by slave wide ask).kept (contested_by slave wide ask).contests
+  accepts : (ask : Sent) → IsBelowTruth (contested_by slave wide ask).kept (contested_by slave wide ask).contests
       (truth_accepting truth wide ask) → MayAllCome (truth_accepting truth wide ask) later
-      → AreNoMore (dues_of port slave (record { act = Accepts; wide = wide; ask = ask }
+      → AreNoMore (dues_of port slave (record { act = Accepts; wide = wide; sent = ask }
       ∷ seen_in (truth_accepting truth wide ask) later))
       (given_in (truth_accepting truth wide ask) later)
   accepts ask kept may =
-      let here : RequestMoment = record { act = Accepts; wide = wide; ask = ask } in
+      let here : RequestMoment = record { act = Accepts; wide = wide; sent = ask } in
       let after = truth_accepting truth wide ask in
       let seen = seen_in after later in
       let is : dues_of port slave (here ∷ seen) ≡ dues_of port (contested_by slave wide ask) seen =
@@ -130,30 +131,30 @@ module _ (port : ℕ) (later : List SlaveMoment) (rest : LaterIsNoMore port late
       (serving_keeps slave.kept slave.contests truth wide ask below at) may
   takes_effect (Served ask reply) at waits may = absurd waits
 
-  answers : (ask : Request) (reply : Pattern) → truth.course wide ≡ Served ask reply
+  answers : (ask : Sent) (reply : Pattern) → truth.course wide ≡ Served ask reply
       → MayAllCome (truth_answering truth wide) later
-      → AreNoMore (dues_of port slave (record { act = Answers; wide = wide; ask = ask }
+      → AreNoMore (dues_of port slave (record { act = Answers; wide = wide; sent = ask }
       ∷ seen_in (truth_answering truth wide) later))
-      ((record ask { source = wide }, record reply { source = wide }) ∷ given_in (truth_answering truth wide) later)
+      ((with_source wide ask, record reply { source = wide }) ∷ given_in (truth_answering truth wide) later)
   answers ask reply at may =
-      let here : RequestMoment = record { act = Answers; wide = wide; ask = ask } in
+      let here : RequestMoment = record { act = Answers; wide = wide; sent = ask } in
       let after = truth_answering truth wide in
       let seen = seen_in after later in
       let left : PortSlave = record slave { contests = kept_answering slave.contests wide } in
-      let due : IsDueBelow slave.contests wide ask reply =
+      let due : IsDueBelow slave.contests wide ask.ask reply =
       answer_is_due slave.kept slave.contests truth wide ask reply below at in
       let is : dues_of port slave (here ∷ seen)
-      ≡ (record ask { source = wide }, record due.entry.due { source = wide }) ∷ dues_of port left seen =
+      ≡ (with_source wide ask, record due.entry.due { source = wide }) ∷ dues_of port left seen =
       dues_cons port slave here seen
       ∙ ap (λ o. entry_due wide ask (due_answered_by o port slave wide ask) ++ dues_of port (slave_then slave here) seen)
       any
       ∙ ap (λ (k : Option Accepted). entry_due wide ask (answer_of_kept port ask k)
       ++ dues_of port (slave_then slave here) seen) due.kept_as
-      ∙ ap (λ o. (record ask { source = wide }, record due.entry.due { source = wide })
+      ∙ ap (λ o. (with_source wide ask, record due.entry.due { source = wide })
       ∷ dues_of port (answered_by o slave wide ask) seen) any in
       subst (λ l. AreNoMore l
-      ((record ask { source = wide }, record reply { source = wide }) ∷ given_in after later)) (sym is) (
-        record { ask = refl; fits = with_source due.entry.due reply wide due.fits },
+      ((with_source wide ask, record reply { source = wide }) ∷ given_in after later)) (sym is) (
+        record { ask = refl; fits = fits_with due.entry.due reply wide due.fits },
         rest left after any (answering_keeps slave.kept slave.contests truth wide ask reply below at) may,
       )
 
@@ -180,7 +181,7 @@ all_no_more port (SlaveAnswers wide ∷ later) slave truth any below may =
 
 pub whenever_is_due : (plan : Plan) (past : List Sighting) (port : ℕ) (slave : Slave) (all : List SlaveMoment)
     → order_at plan port ≡ Any → (reset_of plan port).contests ≡ [] → IsDoneWhenever plan past port slave all
-    → (history : List (Request × Pattern)) × IsDueAt plan past port history
+    → (history : List (Sent × Pattern)) × IsDueAt plan past port history
 whenever_is_due plan past port slave all any fresh done =
     let reset = reset_of plan port in
     let below : IsBelowTruth reset.kept reset.contests (untouched slave) =

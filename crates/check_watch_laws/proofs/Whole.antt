@@ -2,7 +2,7 @@
 -- only if that is allowed.
 use Rattle.std.proofs.Common.{◌≡◌, ◌∙◌, ℕ, Bool, true, false, if◌then◌else◌, List, [], ◌∷◌, refl, ap, sym, subst, eqb-true}
 use Rattle.std.specs.Prelude.{◌==◌}
-use Rattle.tl_types.specs.Request.{Request}
+use Rattle.check_cells.specs.Sent.{Sent}
 use Rattle.check_beats.specs.State.{Under}
 use Rattle.check_flight.specs.PortSlave.{accepting, may_be_unknown}
 use Rattle.check_flight.proofs.Known.{stays_accepting, stays_answering}
@@ -53,9 +53,9 @@ unknown_stays plan (x ∷ past) port = go ((scene_in_group plan past x).port == 
 
 -- ---- lanes
 
-abbrev ask_in : Request → List AskSeen → Request
+abbrev ask_in : Sent → List AskSeen → Sent
 ask_in other [] = other
-ask_in other (seen ∷ more) = seen.ask
+ask_in other (seen ∷ more) = seen.sent
 
 pub all_compliant : (plan : Plan) (past : List Sighting) → IsLawfulGroup plan past → AreCompliant plan past
 all_compliant plan [] lawful = tt
@@ -63,7 +63,7 @@ all_compliant plan (x ∷ past) lawful = (all_compliant plan past lawful.0, go x
   where
     go : (beat : Beat) → IsAllowed plan (scene_of plan (state plan past) x.link beat)
         (record x { beat = beat }) → IsCompliant plan past (record x { beat = beat }) beat
-    go (A beat) allowed = (allowed.aligned, allowed.known_lanes)
+    go (A beat) allowed = (allowed.aligned, allowed.marked, allowed.known_lanes)
     go (D beat) allowed = (
       allowed.marked,
       λ ask next.
@@ -76,13 +76,13 @@ all_compliant plan (x ∷ past) lawful = (all_compliant plan past lawful.0, go x
           let also = next_is plan past x.link wide turn found.0 (in_step plan past lawful.0 (side_of x.link) wide) found.1
           in
           let same : found.0 ≡ ask = ap (λ l. ask_in ask l) (sym also ∙ next) in
-          let unknown : may_be_unknown here.slave ≡ may_be_unknown (reset_of plan (port_for plan x.link found.0)) =
+          let unknown : may_be_unknown here.slave ≡ may_be_unknown (reset_of plan (port_for plan x.link found.0.ask)) =
           slave_found plan s x.link (D beat) ∙ unknown_stays plan past here.port
           ∙ ap (λ p. may_be_unknown (reset_of plan p)) (sym (reply_goes plan x.link turn (link_number x.link) beat found.0
           found.1)) in
           let bus : here.under.bus ≡ bus_of plan.layout x.link = ap (λ (u : Under). u.bus) (links_are plan past x.link) in
           subst (λ r. HasKnownLanes (bus_of plan.layout x.link)
-          (may_be_unknown (reset_of plan (port_for plan x.link r))) r beat x.known) same
-          (subst (λ b. HasKnownLanes (bus_of plan.layout x.link) b found.0 beat x.known) unknown
-          (subst (λ n. HasKnownLanes n (may_be_unknown here.slave) found.0 beat x.known) bus found.2.lanes)),
+          (may_be_unknown (reset_of plan (port_for plan x.link r.ask))) r.ask beat x.known) same
+          (subst (λ b. HasKnownLanes (bus_of plan.layout x.link) b found.0.ask beat x.known) unknown
+          (subst (λ n. HasKnownLanes n (may_be_unknown here.slave) found.0.ask beat x.known) bus found.2.lanes)),
     )

@@ -3,8 +3,8 @@
 -- bursts" of the TileLink specification; links, sides, wide sources and unknown lanes are this project's own.
 use Rattle.std.specs.Prelude.{ℕ, ◌≤◌, ◌%◌, ◌^◌, if◌then◌else◌, suc, List, [], ◌∷◌, ◌++◌, length, zip, take, slice_range, Option}
 use Rattle.std.specs.List.{AllByRecursion}
-use Rattle.tl_types.specs.Request.{Request}
 use Rattle.check_cells.specs.Pattern.{Pattern}
+use Rattle.check_cells.specs.Sent.{Sent}
 use Rattle.check_beats.specs.Laws.{asking, begun, ended_asks, replying, begun_reply, ended_replies}
 use Rattle.check_beats.specs.Spelling.{AskBeat, ReplyBeat}
 use Rattle.check_beats.specs.State.{AskBegun, ReplyBegun, ends_ask, ask_of, ends_reply, reply_of}
@@ -69,7 +69,7 @@ abbrev pub begun_at : Layout → Link → List Sighting → List AskBeat
 begun_at layout link past = begun (bus_of layout link) (asks_over layout link past)
 
 -- the requests that have ended at a link, each with its beats, in the order of their last beats.
-abbrev pub ended_at : Layout → Link → List Sighting → List (Request × List AskBeat)
+abbrev pub ended_at : Layout → Link → List Sighting → List (Sent × List AskBeat)
 ended_at layout link past = ended_asks (bus_of layout link) (asks_over layout link past)
 
 -- what is left of the reply that is under way at a link; none if none is under way.
@@ -87,10 +87,10 @@ ended_replies_at layout link past = ended_replies (bus_of layout link) (replies_
 
 -- ---- whole messages
 
--- a request, with the link that it crossed
+-- a request as it crossed, with its link
 pub record AskSeen : Type 0 where
   pub link : Link
-  pub ask : Request
+  pub sent : Sent
 
 -- a reply as it was captured, by the address of its request, and its beats, with the link that they crossed
 pub record ReplySeen : Type 0 where
@@ -104,7 +104,7 @@ ask_ended layout past x (A beat) =
     let bus = bus_of layout x.link in
     let before = asking_at layout x.link past in
     if ends_ask bus before beat
-    then record { link = x.link; ask = ask_of bus before beat (take bus x.lanes) } ∷ [] else []
+    then record { link = x.link; sent = ask_of bus before beat (take bus x.lanes) } ∷ [] else []
 ask_ended layout past x (D beat) = []
 
 -- the reply that a beat ends

@@ -6,7 +6,8 @@
 use Rattle.std.specs.Prelude.{◌≡◌, ℕ, ◌≤◌, Bool, true, false, ◌&&◌, ◌==◌, if◌then◌else◌, List, [], ◌∷◌, ◌++◌, length, map, filter, take, Some, slice_get}
 use Rattle.tl_types.specs.Request.{Request}
 use Rattle.check_cells.specs.Pattern.{Pattern, FitsCaptured}
-use Rattle.check_memory.specs.Slave.{expected_of}
+use Rattle.check_cells.specs.Sent.{Sent}
+use Rattle.check_contests.specs.Sent.{expected_of_sent}
 use Rattle.check_flight.specs.declared.order.Order.{Order}
 use Rattle.check_flight.specs.declared.order.Order.TheVariants.{Accept, Reply, Any}
 use Rattle.check_flight.specs.PortSlave.{PortSlave, served_by}
@@ -45,7 +46,7 @@ port_for plan (Master m) ask = route_of plan m ask.address ask.size
 -- the request is one that this port's slave has to do, as it is seen at this link
 abbrev pub is_for : Plan → ℕ → AskSeen → Bool
 is_for plan port seen =
-    same_side (side_of seen.link) (side_for plan.layout port) && (port_for plan seen.link seen.ask == port)
+    same_side (side_of seen.link) (side_for plan.layout port) && (port_for plan seen.link seen.sent.ask == port)
 
 -- ---- in which order the slave does its requests
 
@@ -71,12 +72,16 @@ ask_done plan Accept past x = ask_ended plan.layout past x x.beat
 ask_done plan Reply past x = ask_answered plan past x x.beat
 ask_done plan Any past x = []
 
+-- a request, as if it had this source
+abbrev pub with_source : ℕ → Sent → Sent
+with_source wide sent = record sent { ask = record sent.ask { source = wide } }
+
 -- the request with its wide source, by which the port knows it
-abbrev pub widened : ℕ → AskSeen → Request
-widened wide seen = record seen.ask { source = wide }
+abbrev pub widened : ℕ → AskSeen → Sent
+widened wide seen = with_source wide seen.sent
 
 -- the requests that a port's slave has done, in order; when it does them is the slave's own order
-abbrev pub asks_done : Plan → ℕ → List Sighting → List Request
+abbrev pub asks_done : Plan → ℕ → List Sighting → List Sent
 asks_done plan port [] = []
 asks_done plan port (x ∷ past) =
     asks_done plan port past
@@ -86,31 +91,31 @@ asks_done plan port (x ∷ past) =
 -- ---- what the slave does
 
 -- the slave after each of these requests in turn
-abbrev pub replay_slave : PortSlave → List Request → PortSlave
+abbrev pub replay_slave : PortSlave → List Sent → PortSlave
 replay_slave slave [] = slave
-replay_slave slave (ask ∷ asks) = replay_slave (served_by slave ask) asks
+replay_slave slave (sent ∷ later) = replay_slave (served_by slave sent) later
 
 -- the requests of a history
-abbrev pub asks_in : List (Request × Pattern) → List Request
-asks_in history = map (λ (entry : Request × Pattern). entry.0) history
+abbrev pub asks_in : List (Sent × Pattern) → List Sent
+asks_in history = map (λ (entry : Sent × Pattern). entry.0) history
 
 -- each reply of the history is what is expected of the slave there, after the requests before it
-abbrev pub IsSlaveHistory : PortSlave → List (Request × Pattern) → Type 0
+abbrev pub IsSlaveHistory : PortSlave → List (Sent × Pattern) → Type 0
 IsSlaveHistory reset history =
-    (k : ℕ) (ask : Request) (expected : Pattern) → slice_get history k ≡ Some (ask, expected)
-    → expected ≡ expected_of (replay_slave reset (asks_in (take k history))).kept ask
+    (k : ℕ) (sent : Sent) (expected : Pattern) → slice_get history k ≡ Some (sent, expected)
+    → expected ≡ expected_of_sent (replay_slave reset (asks_in (take k history))).kept sent
 
 -- ---- the replies
 
 -- the captured request is the one of the history, and the captured reply fits what is expected there: but for the source,
 -- which is the master's own if they were seen at a master's link
-pub record IsEntry (wide : ℕ) (seen : AskSeen × ReplySeen) (entry : Request × Pattern) : Type 0 where
+pub record IsEntry (wide : ℕ) (seen : AskSeen × ReplySeen) (entry : Sent × Pattern) : Type 0 where
   pub ask : entry.0 ≡ widened wide seen.0
-  pub fits : FitsCaptured (record entry.1 { source = seen.0.ask.source }) (seen.1.reply seen.0.ask.address)
+  pub fits : FitsCaptured (record entry.1 { source = seen.0.sent.ask.source }) (seen.1.reply seen.0.sent.ask.address)
 
 -- entries of a history are those of captured requests and replies, one by one; one request more may be done, and not
 -- answered yet
-abbrev pub AreEntries : ℕ → List (AskSeen × ReplySeen) → List (Request × Pattern) → Type 0
+abbrev pub AreEntries : ℕ → List (AskSeen × ReplySeen) → List (Sent × Pattern) → Type 0
 AreEntries wide [] entries = length entries ≤ 1
 AreEntries wide (seen ∷ more) [] = ⊥
 AreEntries wide (seen ∷ more) (entry ∷ entries) = IsEntry wide seen entry × AreEntries wide more entries
@@ -122,12 +127,12 @@ exchanges_at plan port wide past =
     (exchanges plan (side_for plan.layout port) wide past)
 
 -- the entries of a history that are of this wide source.
-abbrev pub entries_of : ℕ → List (Request × Pattern) → List (Request × Pattern)
-entries_of wide history = filter (λ (entry : Request × Pattern). entry.0.source == wide) history
+abbrev pub entries_of : ℕ → List (Sent × Pattern) → List (Sent × Pattern)
+entries_of wide history = filter (λ (entry : Sent × Pattern). entry.0.ask.source == wide) history
 
 -- this is what a port's slave has done: the requests to it in order, each with what is expected of it after those before
 -- it, from reset on; and what was captured of each source fits these replies
-pub record IsDoneAt (plan : Plan) (past : List Sighting) (port : ℕ) (history : List (Request × Pattern)) : Type 0 where
+pub record IsDoneAt (plan : Plan) (past : List Sighting) (port : ℕ) (history : List (Sent × Pattern)) : Type 0 where
   pub order : asks_in history ≡ asks_done plan port past
   pub lawful : IsSlaveHistory (reset_of plan port) history
   pub captured : (wide : ℕ) → AreEntries wide (exchanges_at plan port wide past) (entries_of wide history)

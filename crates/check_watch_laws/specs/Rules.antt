@@ -1,9 +1,9 @@
 -- What a lawful list of beats is, in three sentences.
 use Rattle.std.specs.Prelude.{◌≡◌, ◌≢◌, ℕ, List, [], ◌∷◌, ◌++◌}
-use Rattle.tl_types.specs.Request.{Request}
 use Rattle.check_cells.specs.Pattern.{Pattern}
+use Rattle.check_cells.specs.Sent.{Sent}
 use Rattle.check_beats.specs.Form.{IsKnown}
-use Rattle.check_beats.specs.Rules.{IsAlignedBy, IsMarkedBy}
+use Rattle.check_beats.specs.Rules.{IsAlignedBy, IsAskMarkedBy, IsMarkedBy}
 use Rattle.check_flight.specs.declared.order.Order.TheVariants.{Any}
 use Rattle.check_flight.specs.PortSlave.{may_be_unknown}
 use Rattle.check_watch.specs.declared.beat.Beat.{Beat}
@@ -23,9 +23,9 @@ use Rattle.check_watch_laws.specs.Moments.{IsDueAt}
 pub record KeepsRules (plan : Plan) (past : List Sighting) : Type 0 where
   pub messages : AreMessages plan past
   pub memories : (port : ℕ) → order_at plan port ≢ Any
-      → (history : List (Request × Pattern)) × IsDoneAt plan past port history
+      → (history : List (Sent × Pattern)) × IsDoneAt plan past port history
   pub any_orders : (port : ℕ) → order_at plan port ≡ Any
-      → (history : List (Request × Pattern)) × IsDueAt plan past port history
+      → (history : List (Sent × Pattern)) × IsDueAt plan past port history
   pub crossings : plan.layout.links ≡ Both → (wide : ℕ) → MessagesCross plan past wide
 
 -- so it is at each moment: lists of sightings have the latest first, so what crossed up to a moment is an end of the
@@ -35,19 +35,19 @@ AlwaysKeepsRules plan past = (later earlier : List Sighting) → later ++ earlie
 
 -- ---- what is asked of each beat alone
 
--- the address of a request is a multiple of its size, if that is asked; a beat of a reply is marked corrupt only if that is
--- allowed; and each lane of a beat that carries a byte was
--- known: of a request, and of a reply if its port's slave may leave none unknown. Which lanes of a reply carry one is told by
--- the request that it answers
+-- the address of a request is a multiple of its size, if that is asked; a beat is marked corrupt only if that is allowed; and
+-- each lane of a beat that carries a byte was known: of a request, and of a reply if its port's slave may leave none unknown.
+-- Which lanes of a reply carry one is told by the request that it answers
 abbrev pub IsCompliant : Plan → List Sighting → Sighting → Beat → Type 0
-IsCompliant plan past x (A beat) = IsAlignedBy plan.layout.rules beat × IsKnown beat x.known
+IsCompliant plan past x (A beat) =
+    IsAlignedBy plan.layout.rules beat × IsAskMarkedBy plan.layout.rules beat × IsKnown beat x.known
 IsCompliant plan past x (D beat) =
     IsMarkedBy plan.layout.rules beat
-    × ((ask : Request)
+    × ((sent : Sent)
     → next_answered plan (side_of x.link) (wide_of plan x.link beat.source) past
-    ≡ record { link = x.link; ask = ask } ∷ []
-    → HasKnownLanes (bus_of plan.layout x.link) (may_be_unknown (reset_of plan (port_for plan x.link ask))) ask beat
-    x.known)
+    ≡ record { link = x.link; sent = sent } ∷ []
+    → HasKnownLanes (bus_of plan.layout x.link) (may_be_unknown (reset_of plan (port_for plan x.link sent.ask))) sent.ask
+    beat x.known)
 
 -- each of these beats is compliant by itself, after those before it.
 abbrev pub AreCompliant : Plan → List Sighting → Type 0

@@ -1,8 +1,8 @@
 -- A port's slave that does requests in an order that nobody knows: each takes effect at some moment after it is accepted and
 -- before its reply begins (`Moments.antt` of `check_contests`). It is this project's own.
 use Rattle.std.specs.Prelude.{◌≡◌, ◌≢◌, ℕ, List, [], ◌∷◌, ◌++◌}
-use Rattle.tl_types.specs.Request.{Request}
 use Rattle.check_cells.specs.Pattern.{Pattern}
+use Rattle.check_cells.specs.Sent.{Sent}
 use Rattle.check_contests.specs.Laws.{IsBelowAtReset}
 use Rattle.check_contests.specs.Moments.{SlaveMoment, Course, Truth, untouched, truth_after, MayAllCome}
 use Rattle.check_contests.specs.Moments.SlaveMoment.{Accepts as SlaveAccepts, TakesEffect, Answers as SlaveAnswers}
@@ -12,7 +12,7 @@ use Rattle.check_flight.specs.declared.order.Order.TheVariants.{Any}
 use Rattle.check_watch.specs.declared.links.Links.TheVariants.{Both}
 use Rattle.check_watch.specs.Plan.{Plan, Sighting}
 use Rattle.check_watch_laws.specs.Crossings.{MessagesCross}
-use Rattle.check_watch_laws.specs.Memories.{IsDoneAt, order_at, reset_of, AreEntries, exchanges_at, entries_of}
+use Rattle.check_watch_laws.specs.Memories.{IsDoneAt, with_source, order_at, reset_of, AreEntries, exchanges_at, entries_of}
 use Rattle.check_watch_laws.specs.Messages.{AreMessages}
 use Rattle.check_watch_laws.specs.Moments.{RequestMoment, moments}
 use Rattle.check_watch_laws.specs.Moments.Act.{Accepts, Answers}
@@ -22,12 +22,12 @@ use Rattle.check_watch_laws.specs.Moments.Act.{Accepts, Answers}
 -- that the request of a wide source is answered, if it has taken effect.
 abbrev pub seen_answer : ℕ → Course → List RequestMoment
 seen_answer wide Idle = []
-seen_answer wide (Waiting ask) = []
-seen_answer wide (Served ask reply) = record { act = Answers; wide = wide; ask = ask } ∷ []
+seen_answer wide (Waiting sent) = []
+seen_answer wide (Served sent reply) = record { act = Answers; wide = wide; sent = sent } ∷ []
 
 -- what is seen of a moment of such a slave: that a request is accepted, or answered. That it takes effect nobody sees.
 abbrev pub seen_then : Truth → SlaveMoment → List RequestMoment
-seen_then truth (SlaveAccepts wide ask) = record { act = Accepts; wide = wide; ask = ask } ∷ []
+seen_then truth (SlaveAccepts wide sent) = record { act = Accepts; wide = wide; sent = sent } ∷ []
 seen_then truth (TakesEffect wide) = []
 seen_then truth (SlaveAnswers wide) = seen_answer wide (truth.course wide)
 
@@ -39,20 +39,20 @@ seen_in truth (moment ∷ later) = seen_then truth moment ++ seen_in (truth_afte
 -- ---- what it replies
 
 -- a request that is answered, with what was expected of the slave as it took effect
-abbrev pub answer_given : ℕ → Course → List (Request × Pattern)
+abbrev pub answer_given : ℕ → Course → List (Sent × Pattern)
 answer_given wide Idle = []
-answer_given wide (Waiting ask) = []
-answer_given wide (Served ask reply) = (record ask { source = wide }, record reply { source = wide }) ∷ []
+answer_given wide (Waiting sent) = []
+answer_given wide (Served sent reply) = (with_source wide sent, record reply { source = wide }) ∷ []
 
 -- the request that a moment answers, with what was expected of the slave as it took effect; none if the moment is
 -- another.
-abbrev pub given_then : Truth → SlaveMoment → List (Request × Pattern)
-given_then truth (SlaveAccepts wide ask) = []
+abbrev pub given_then : Truth → SlaveMoment → List (Sent × Pattern)
+given_then truth (SlaveAccepts wide sent) = []
 given_then truth (TakesEffect wide) = []
 given_then truth (SlaveAnswers wide) = answer_given wide (truth.course wide)
 
 -- those that are answered among all of these moments, in order
-abbrev pub given_in : Truth → List SlaveMoment → List (Request × Pattern)
+abbrev pub given_in : Truth → List SlaveMoment → List (Sent × Pattern)
 given_in truth [] = []
 given_in truth (moment ∷ later) = given_then truth moment ++ given_in (truth_after truth moment) later
 
@@ -74,7 +74,7 @@ pub record IsDoneWhenever (plan : Plan) (past : List Sighting) (port : ℕ) (sla
 pub record KeepsRulesWhenever (plan : Plan) (past : List Sighting) : Type 0 where
   pub messages : AreMessages plan past
   pub memories : (port : ℕ) → order_at plan port ≢ Any
-      → (history : List (Request × Pattern)) × IsDoneAt plan past port history
+      → (history : List (Sent × Pattern)) × IsDoneAt plan past port history
   pub any_orders : (port : ℕ) → order_at plan port ≡ Any
       → (slave : Slave) × (all : List SlaveMoment) × IsDoneWhenever plan past port slave all
   pub crossings : plan.layout.links ≡ Both → (wide : ℕ) → MessagesCross plan past wide

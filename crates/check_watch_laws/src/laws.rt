@@ -1,7 +1,7 @@
 //! Laws of lawful lists of beats, each on a function that does nothing but carry it.
 ghost use Rattle.std.specs.Prelude.{List, [], ℕ, ◌≡◌, ◌≢◌};
-ghost use Rattle.tl_types.specs.Request.{Request};
 ghost use Rattle.check_cells.specs.Pattern.{Pattern};
+ghost use Rattle.check_cells.specs.Sent.{Sent};
 ghost use Rattle.check_contests.specs.Moments.{SlaveMoment};
 ghost use Rattle.check_memory.specs.declared.slave.Slave.{Slave};
 ghost use Rattle.check_flight.specs.declared.order.Order.TheVariants.{Any};
@@ -30,7 +30,7 @@ pub fn beats_are_messages()
 pub fn memories_are_sequential()
     ensures done { (plan : Plan) (past : List Sighting) → AreWatched plan.layout past → IsLawfulGroup plan past
         → (port : ℕ) → order_at plan port ≢ Any
-        → (history : List (Request × Pattern)) × IsDoneAt plan past port history }
+        → (history : List (Sent × Pattern)) × IsDoneAt plan past port history }
     ensures kept { (plan : Plan) (past : List Sighting) → AreWatched plan.layout past → IsLawfulGroup plan past
         → (port : ℕ) → order_at plan port ≢ Any
         → (state plan past).slaves port ≡ replay_slave (reset_of plan port) (asks_done plan port past) }
@@ -40,7 +40,7 @@ pub fn memories_are_sequential()
 /// port; and what the judge keeps of the slave is what it is after these moments.
 pub fn replies_are_due()
     ensures due { (plan : Plan) (past : List Sighting) → AreWatched plan.layout past → IsLawfulGroup plan past
-        → (port : ℕ) → (history : List (Request × Pattern)) × IsDueAt plan past port history }
+        → (port : ℕ) → (history : List (Sent × Pattern)) × IsDueAt plan past port history }
     ensures kept { (plan : Plan) (past : List Sighting) → AreWatched plan.layout past → IsLawfulGroup plan past
         → (port : ℕ) → (state plan past).slaves port ≡ slave_after_all (reset_of plan port) (moments plan port past) }
 {}
@@ -51,7 +51,7 @@ pub fn replies_are_due()
 pub fn requests_may_be_done_whenever()
     ensures due { (plan : Plan) (past : List Sighting) (port : ℕ) (slave : Slave) (all : List SlaveMoment)
         → order_at plan port ≡ Any → (reset_of plan port).contests ≡ [] → IsDoneWhenever plan past port slave all
-        → (history : List (Request × Pattern)) × IsDueAt plan past port history }
+        → (history : List (Sent × Pattern)) × IsDueAt plan past port history }
     ensures lawful { (plan : Plan) (past : List Sighting) → IsPlan plan → AreFresh plan
         → AreWatched plan.layout past → AreCompliant plan past → AlwaysKeepsRulesWhenever plan past
         → IsLawfulGroup plan past }

@@ -14,7 +14,7 @@ refill_given-requires c =
     let first : c.first_lane-first.result ≡ low beat.address beat.size % 2 ^ w = c.first_lane-first.ensures.value in
     let count : c.min-count.result ≡ min (2 ^ w) (byte_count (op_of beat.opcode beat.param) beat.size) = omega (arith, op) in
     let long : c.first_lane-first.result + c.min-count.result - c.first_lane-first.result ≡ c.min-count.result = omega arith in
-    rw (c.requires.op, long, count, first, one_is_given w beat lanes c.requires.lanes c.requires.set) (one_is_lawful w beat lanes c.requires.formed c.requires.alone)
+    rw (c.requires.op, long, count, first, one_is_given w beat lanes c.requires.lanes c.requires.clean c.requires.set) (one_is_lawful w beat lanes c.requires.formed c.requires.alone)
 
 pub returns : goal.returns
 returns c =
@@ -25,4 +25,4 @@ returns c =
     let first : c.first_lane-first.result ≡ low beat.address beat.size % 2 ^ w = c.first_lane-first.ensures.value in
     let count : c.min-count.result ≡ min (2 ^ w) (byte_count (op_of beat.opcode beat.param) beat.size) = omega (arith, op) in
     let long : c.first_lane-first.result + c.min-count.result - c.first_lane-first.result ≡ c.min-count.result = omega arith in
-    c.refill_given.ensures ∙ rw (c.requires.op, long, count, first, one_is_given w beat lanes c.requires.lanes c.requires.set) refl
+    c.refill_given.ensures ∙ rw (c.requires.op, long, count, first, one_is_given w beat lanes c.requires.lanes c.requires.clean c.requires.set) refl

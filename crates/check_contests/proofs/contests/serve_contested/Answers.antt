@@ -1,7 +1,7 @@
 use Rattle.std.proofs.Common.{◌≡◌, ◌∙◌, sym, ap, subst}
 use Rattle.std.specs.Prelude.{IfOk}
 use Rattle.tl_types.specs.Operation.{carries_bytes}
-use Rattle.check_memory.specs.Partial.{Partial}
+use Rattle.check_memory.specs.Partial.{Partial, after_partial}
 use Rattle.check_contests.proofs.Forgetting.{not_taken, denied_is}
 use Rattle.check_contests.proofs.contests.serve_contested.Goals as goal
 use Rattle.check_contests.proofs.contests.serve_contested.Goals.{else-carries_bytes-via-then-carries_bytes+else-permits, else-carries_bytes-via-else-carries_bytes}
@@ -15,9 +15,9 @@ returns-else-carries_bytes-clause-after c =
     subst P
     (elim c.else-carries_bytes.branch [
       | else-carries_bytes-via-then-carries_bytes+else-permits w ↦
-          denied_is memory kept ask (sym w.permits.ensures ∙ w.if-permits.false)
+          denied_is memory kept ask (after_partial memory ask) (sym w.permits.ensures ∙ w.if-permits.false)
       | else-carries_bytes-via-else-carries_bytes w ↦
-          not_taken memory kept ask
+          not_taken memory kept ask (after_partial memory ask)
           (ap carries_bytes (sym c.op.ensures) ∙ sym c.carries_bytes.ensures ∙ w.if-carries_bytes.false)
     ])
     c.serve_into.ensures.after

@@ -1,12 +1,22 @@
-use Rattle.std.proofs.Common.{◌≡◌, ◌^◌, ◌<◌, true, length, subst, rules}
+use Rattle.std.proofs.Common.{◌≡◌, ◌∙◌, ◌^◌, ◌<◌, true, length, sym, ap, subst, rules}
+use Rattle.tl_types.specs.Operation.{carries_bytes}
 use Rattle.std.specs.Prelude.{OnOk}
 use Rattle.check_memory.specs.Partial.{Partial, permits}
-use Rattle.check_contests.proofs.Cutting.{cut_is, denied_cut}
+use Rattle.check_contests.proofs.Cutting.{cut_is, denied_cut, carrying_cut}
 use Rattle.check_contests.proofs.cut.cut_memory.Goals as goal
+use Rattle.check_contests.proofs.cut.cut_memory.Goals.{then-not-carries_bytes-via-then-not-carries_bytes, then-not-carries_bytes-via-else-not-carries_bytes+then-not-permits_so_far}
 
-pub returns-then-not-permits_so_far-clause-cut : goal.returns-then-not-permits_so_far-clause-cut
-returns-then-not-permits_so_far-clause-cut c =
-    denied_cut c.args.memory.now c.args.ask.now (search rules)
+pub returns-then-not-carries_bytes-clause-cut : goal.returns-then-not-carries_bytes-clause-cut
+returns-then-not-carries_bytes-clause-cut c =
+    let memory = c.args.memory.now in
+    let ask = c.args.ask.now in
+    elim c.then-not-carries_bytes.branch [
+      | then-not-carries_bytes-via-then-not-carries_bytes w ↦
+          carrying_cut memory ask
+          (ap carries_bytes (sym c.op.ensures) ∙ sym c.carries_bytes.ensures ∙ w.if-not-carries_bytes.true)
+      | then-not-carries_bytes-via-else-not-carries_bytes+then-not-permits_so_far w ↦
+          denied_cut memory ask (sym w.permits_so_far.ensures ∙ w.if-not-permits_so_far.true)
+    ]
 
 pub returns-clause-cut : goal.returns-clause-cut
 returns-clause-cut c =

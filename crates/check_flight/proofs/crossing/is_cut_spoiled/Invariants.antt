@@ -5,4 +5,4 @@ use Rattle.check_flight.proofs.crossing.is_cut_spoiled.Given as goal
 -- no byte so far is spoiled
 abbrev pub invariant-loop-place : goal.invariant-loop-place
 invariant-loop-place l =
-    (k : ℕ) → l.width * l.cut ≤ k → k < l.place → slice_index_or l.reply.spoiled k false ≡ false
+    (k : ℕ) → l.width * l.cut ≤ k → k < l.place → slice_index_or l.marks k false ≡ false

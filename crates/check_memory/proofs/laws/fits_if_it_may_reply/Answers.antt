@@ -19,7 +19,7 @@ device_there ask captured fits = record {
   op_is = fits.op_is;
   size_is = fits.size_is;
   source_is = fits.source_is;
-  counted = fits.bytes_fit.counted ∙ length-replicate (reply_byte_count (reply_op_of ask.op) ask.size) None;
+  counted = fits.counted ∙ length-replicate (reply_byte_count (reply_op_of ask.op) ask.size) None;
 }
 
 device_back : (ask : Request) (captured : Pattern) → FitsDevice ask captured → FitsCaptured (device_pattern ask) captured
@@ -28,7 +28,8 @@ device_back ask captured fits = record {
   size_is = fits.size_is;
   source_is = fits.source_is;
   denied_is = λ flag is. cc;
-  bytes_fit = record {
+  counted = fits.counted ∙ sym (length-replicate (reply_byte_count (reply_op_of ask.op) ask.size) None);
+  bytes_fit = λ looked. record {
     counted = fits.counted ∙ sym (length-replicate (reply_byte_count (reply_op_of ask.op) ask.size) None);
     kept = λ place byte clean is. absurd
         (lost byte (sym (none_known (reply_byte_count (reply_op_of ask.op) ask.size) place) ∙ is));

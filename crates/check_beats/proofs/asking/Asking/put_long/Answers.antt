@@ -1,23 +1,23 @@
-use Rattle.std.proofs.Common.{◌∙◌, refl}
+use Rattle.std.proofs.Common.{refl, arith}
 use Rattle.check_beats.specs.Bus.{bus_log, bus_bytes}
-use Rattle.check_beats.proofs.Going.{goes, ended_is_lawful, ends_after, bytes_after}
+use Rattle.check_beats.proofs.Going.{goes, ended_is_lawful, ends_after, bytes_after, marks_after}
 use Rattle.check_beats.proofs.asking.Asking.put_long.Goals as goal
 
-pub push_beat-requires-clause-aligned : goal.push_beat-requires-clause-aligned
-push_beat-requires-clause-aligned c =
+pub push_shown-requires-clause-aligned : goal.push_shown-requires-clause-aligned
+push_shown-requires-clause-aligned c =
     let i = c.self.inside in
     let fits = rw (← c.self.view_is) at c.requires.fits in
     let wide = rw (← c.self.view_is) at c.requires.lanes in
     let some = rw (← c.self.view_is) at c.requires.goes_on in
-    rw c.copy-bytes.ensures (goes (bus_log i.bus) i.first i.beats i.bytes c.args.beat.now c.args.lanes.now c.self.invariant fits wide some).aligned
+    rw c.copy-bytes.ensures (goes (bus_log i.bus) i.first i.beats i.bytes i.marks c.args.beat.now c.args.lanes.now c.self.invariant fits wide some).aligned
 
-pub push_beat-requires-clause-room : goal.push_beat-requires-clause-room
-push_beat-requires-clause-room c =
+pub push_shown-requires-clause-room : goal.push_shown-requires-clause-room
+push_shown-requires-clause-room c =
     let i = c.self.inside in
     let fits = rw (← c.self.view_is) at c.requires.fits in
     let wide = rw (← c.self.view_is) at c.requires.lanes in
     let some = rw (← c.self.view_is) at c.requires.goes_on in
-    rw c.copy-bytes.ensures (goes (bus_log i.bus) i.first i.beats i.bytes c.args.beat.now c.args.lanes.now c.self.invariant fits wide some).room
+    rw c.copy-bytes.ensures (goes (bus_log i.bus) i.first i.beats i.bytes i.marks c.args.beat.now c.args.lanes.now c.self.invariant fits wide some).room
 
 pub refill_from-requires : goal.refill_from-requires
 refill_from-requires c =
@@ -26,9 +26,18 @@ refill_from-requires c =
     let wide = rw (← c.self.view_is) at c.requires.lanes in
     let some = rw (← c.self.view_is) at c.requires.goes_on in
     let ends = rw (← c.self.view_is) at c.requires.ends in
-    let is = goes (bus_log i.bus) i.first i.beats i.bytes c.args.beat.now c.args.lanes.now c.self.invariant fits wide some in
-    rw (c.op_of-op.ensures.value, c.push_beat.ensures, c.copy-bytes.ensures)
-    (ended_is_lawful (bus_log i.bus) i.beats i.bytes c.args.beat.now c.args.lanes.now fits.formed is (ends_after (bus_bytes i.bus) i.first i.beats i.bytes c.args.beat.now some ends))
+    let is = goes (bus_log i.bus) i.first i.beats i.bytes i.marks c.args.beat.now c.args.lanes.now c.self.invariant fits wide some in
+    rw (c.op_of-op.ensures.value, c.push_shown.ensures, c.copy-bytes.ensures)
+    (ended_is_lawful (bus_log i.bus) i.beats i.bytes i.marks c.args.beat.now c.args.lanes.now fits.formed is (ends_after (bus_bytes i.bus) i.first i.beats i.bytes i.marks c.args.beat.now some ends))
+
+pub push-requires : goal.push-requires
+push-requires c =
+    let i = c.self.inside in
+    let fits = rw (← c.self.view_is) at c.requires.fits in
+    let wide = rw (← c.self.view_is) at c.requires.lanes in
+    let some = rw (← c.self.view_is) at c.requires.goes_on in
+    let is = goes (bus_log i.bus) i.first i.beats i.bytes i.marks c.args.beat.now c.args.lanes.now c.self.invariant fits wide some in
+    rw c.refill_from-2.ensures (omega (arith, is.marked, is.room))
 
 pub returns : goal.returns
 returns c =
@@ -36,6 +45,17 @@ returns c =
     let fits = rw (← c.self.view_is) at c.requires.fits in
     let wide = rw (← c.self.view_is) at c.requires.lanes in
     let some = rw (← c.self.view_is) at c.requires.goes_on in
-    let is = goes (bus_log i.bus) i.first i.beats i.bytes c.args.beat.now c.args.lanes.now c.self.invariant fits wide some in
-    c.refill_from.ensures
-    ∙ rw (c.op_of-op.ensures.value, c.push_beat.ensures, c.copy-bytes.ensures, ← c.self.view_is, bytes_after i.first i.beats i.bytes some, is.part) refl
+    let is = goes (bus_log i.bus) i.first i.beats i.bytes i.marks c.args.beat.now c.args.lanes.now c.self.invariant fits wide some in
+    rw (
+      c.refill_from.ensures,
+      c.push.ensures,
+      c.refill_from-2.ensures,
+      c.op_of-op.ensures.value,
+      c.push_shown.ensures,
+      c.copy-bytes.ensures,
+      ← c.self.view_is,
+      bytes_after i.first i.beats i.bytes i.marks some,
+      marks_after i.first i.beats i.bytes i.marks some,
+      is.part,
+      is.marks,
+    ) refl

@@ -26,7 +26,7 @@ returns-then-not-is_idle-clause-reason c layout beyond lanes own =
     let busy : (flight_in view beat.source).turn ≡ Idle → ⊥ =
     λ idle. let yes = c.is_idle.ensures.1 (ap (λ (f : Flight). f.turn) flight ∙ idle) in absurd (cc) in
     first_ask_reason layout (Port c.args.port) here beat c.args.known lanes SourceBusy (λ free. busy (free begins))
-    (up_to layout c.args.rules c.args.map.now c.args.port own here beat c.args.known lanes 10 fits c.in_default.ensures.aligned c.in_default.ensures.known small
+    (up_to layout c.args.rules c.args.map.now c.args.port own here beat c.args.known lanes 10 fits c.in_default.ensures.aligned c.in_default.ensures.marked c.in_default.ensures.known small
     (λ lower. absurd (omega (arith, lower))) (λ lower. absurd (omega (arith, lower))))
 
 pub returns-then-route_bytes-port-clause-reason : goal.returns-then-route_bytes-port-clause-reason
@@ -44,7 +44,7 @@ returns-then-route_bytes-port-clause-reason c layout beyond lanes own =
     first_ask_reason layout (Port c.args.port) here beat c.args.known lanes WrongPort
     (λ placed. let at = found_if_placed layout c.args.rules c.args.map.now c.args.port own beat (placed begins) in
     c.if-route_bytes-port.true ((c.route_bytes.ensures.port c.args.port).1 (rw c.decoded_size.ensures.value at)))
-    (up_to layout c.args.rules c.args.map.now c.args.port own here beat c.args.known lanes 11 fits c.in_default.ensures.aligned c.in_default.ensures.known small
+    (up_to layout c.args.rules c.args.map.now c.args.port own here beat c.args.known lanes 11 fits c.in_default.ensures.aligned c.in_default.ensures.marked c.in_default.ensures.known small
     (λ lower _. free) (λ lower. absurd (omega (arith, lower))))
 
 pub returns-clause-allowed : goal.returns-clause-allowed
@@ -62,5 +62,5 @@ returns-clause-allowed c layout beyond lanes own =
     rw (← c.decoded_size.ensures.value) ((c.route_bytes.ensures.port c.args.port).0 c.if-route_bytes-port.false) in
     let at = placed_if_found layout c.args.rules c.args.map.now c.args.port own beat small found in
     allowed_ask layout (Port c.args.port) here beat c.args.known lanes
-    (up_to layout c.args.rules c.args.map.now c.args.port own here beat c.args.known lanes 20 fits c.in_default.ensures.aligned c.in_default.ensures.known small
+    (up_to layout c.args.rules c.args.map.now c.args.port own here beat c.args.known lanes 20 fits c.in_default.ensures.aligned c.in_default.ensures.marked c.in_default.ensures.known small
     (λ lower _. free) (λ lower _. at))

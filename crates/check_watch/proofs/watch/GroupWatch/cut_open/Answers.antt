@@ -1,4 +1,6 @@
 use Rattle.std.proofs.Common.{◌≡◌, ◌∙◌, Some, sym, rules}
+use Rattle.std.specs.Prelude.{option_map}
+use Rattle.check_cells.specs.Sent.{Sent}
 use Rattle.check_flight.specs.Flight.{asked}
 use Rattle.check_watch.specs.Reset.{IsBeingAnswered}
 use Rattle.check_watch.specs.View.{flight_in, state_in}
@@ -11,7 +13,8 @@ returns-in-Some-clause-cut c = λ plan suits.
     let link = c.args.link in
     let wide = c.args.wide in
     let ask = c.in-Some.ask in
-    let here : asked (flight_in view link wide).turn ≡ Some ask = sym c.asked_so_far.ensures ∙ c.in-Some.is in
+    let here : option_map (λ (sent : Sent). sent.ask) (asked (flight_in view link wide).turn) ≡ Some ask =
+    sym c.asked_so_far.ensures ∙ c.in-Some.is in
     let none : IsBeingAnswered view.layout (state_in view) link wide → ⊥ = search rules in
     on_ok c.cut_at.result
     (open_cut plan (state_in view) link view.slaves c.cut_at.new.self.slaves wide ask here c.requires.here

@@ -1,5 +1,6 @@
 use Rattle.std.proofs.Common.{arith, ◌≡◌, ◌∙◌, ◌<◌, length, Some, ap, sym}
 use Rattle.std.specs.Prelude.{option_map}
+use Rattle.tl_types.specs.Request.{Request}
 use Rattle.check_flight.specs.Flight.{Flight, asked}
 use Rattle.check_watch.specs.View.{flight_in}
 use Rattle.check_watch.proofs.Judging.{port_asked}
@@ -17,10 +18,11 @@ returns-in-None-Master-clause-in_ports c = omega (arith, c.sized.ensures.sized.s
 pub returns-in-Some-default-clause-port : goal.returns-in-Some-default-clause-port
 returns-in-Some-default-clause-port c plan beat suits =
     let view = c.args.self.now in
-    let ask = c.in-Some-default.ask.now in
-    let is : asked (flight_in view c.args.link c.args.wide).turn ≡ Some ask =
+    let sent = c.in-Some-default.sent.now in
+    let is : asked (flight_in view c.args.link c.args.wide).turn ≡ Some sent =
     sym (ap (λ (f : Flight). asked f.turn) c.flight.ensures) ∙ sym c.asked.ensures
     ∙ ap (λ o. option_map (λ a. a.now) o) c.in-Some-default.is-0 in
-    port_asked plan view c.args.link (flight_in view c.args.link c.args.wide).turn ask beat c.port.result suits is
-    (λ number other at. rw (← c.address.ensures, ← c.size.ensures.value)
-    (c.port.ensures.master number other at)) c.port.ensures.port
+    let address : c.address.result ≡ sent.ask.address = c.address.ensures ∙ ap (λ (r : Request). r.address) c.ask.ensures in
+    let size : c.size.result ≡ sent.ask.size = c.size.ensures.value ∙ ap (λ (r : Request). r.size) c.ask-in-Some-default.ensures in
+    port_asked plan view c.args.link (flight_in view c.args.link c.args.wide).turn sent beat c.port.result suits is
+    (λ number other at. rw (← address, ← size) (c.port.ensures.master number other at)) c.port.ensures.port
