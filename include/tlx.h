@@ -142,9 +142,10 @@ struct tlx_answer {
 };
 
 /* A beat that crossed a link, valid and ready. The bus of its link says how many lanes are read: `lanes` and `known` have the first for lane 0,
- * and what stands in them from the bus on is nothing to the judge. Bit k of `known` says that lane k was seen; what is not known of a get
- * or of a reply without bytes does not matter. `address` and `mask` are read of channel A alone, where a bit of `mask` from the bus
- * on is TLX_WRONG_MASK; `denied` of D alone. Another number than 0 and 1 in `corrupt`, or in `denied` of D, is TLX_BAD_ARGUMENT.
+ * and what stands in them from the bus on is nothing to the judge. Bit k of `known` says that lane k was seen; what is not known of a get,
+ * of a reply without bytes or of a beat that is marked corrupt does not matter. `address` and `mask` are read of channel A alone, where a
+ * bit of `mask` from the bus on is TLX_WRONG_MASK; `denied` of D alone. Another number than 0 and 1 in `corrupt`, or in `denied` of D, is
+ * TLX_BAD_ARGUMENT.
  * `line` and `time` are the caller's own and stand in the text of a fault. The struct has 128 bytes; no padding stands before its last 7. */
 struct tlx_beat {
   uint64_t line;

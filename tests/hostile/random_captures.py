@@ -4,7 +4,8 @@ Usage: tests/hostile/random_captures [COUNT [FIRST_SEED [BUS]]]. With BUS all li
 
 A seed has a random system (tests/hostile/random_systems.py): buses of 1 to 64 bytes, also mixed ones after width adapters, memories with unknown and
 volatile bytes, images, tables of sizes, devices, several ranges, also of one memory, masters with sources in low bits, ports that list the
-masters that reach them and their sources there, ports that are judged by themselves, links whose replies come in order, resets in between. A
+masters that reach them and their sources there, ports that are judged by themselves, links whose replies come in order, corrupt data of requests
+and replies, resets in between. A
 crossbar is run there, without a bug or with one, also with adapters that renumber sources or that have memories of their own, and what its
 monitors capture is judged. Then rows of it are changed, left out, doubled or cut short, or are no longer rows. Each capture is judged with
 random options by tlcheck and by tools/tlxtools/judge_model.py, which have to agree in each byte: verdict, trace, counts and status. Limits of time are

@@ -13,7 +13,8 @@ from tlxtools.wide_sources import WideSources, is_reached
 BUGS = ("byte of a reply at its port", "byte of a reply at its master", "byte of a request", "denial of a reply", "lost put", "sent twice",
         "sent to another port", "early reply", "reply to another source", "unknown byte of a reply", "source shifted otherwise", "source of another master",
         "sent without a path", "source sent twice", "number in flight given again", "number of an adapter that the system does not have",
-        "reply that overtakes", "corrupt at one side", "corrupt beat of a reply")
+        "reply that overtakes", "corrupt at one side", "corrupt beat of a reply", "request corrupt at one side", "mask of a corrupt request",
+        "bytes beside a corrupt put")
 
 
 def sizes_of(rng):
@@ -255,8 +256,8 @@ class Transfer:
         self.has_left, self.has_come = master is None, False
         # the request at the master's link and at the port's, and the reply at either
         self.at_master, self.at_port, self.replies = None, None, []
-        # the cuts of the reply, of as many bytes as the wider bus on its way has, in which some beat is corrupt
-        self.corrupt_cuts = frozenset()
+        # the cuts of the request and of the reply, of as many bytes as the wider bus on their way has, in which some beat is corrupt
+        self.asked_cuts = self.corrupt_cuts = frozenset()
 
 
 class Service:
@@ -385,9 +386,17 @@ class Run:
                 if not self.has_bug("source sent twice"):
                     self.free[master].remove(source)
                 ask = asks.pop()
-                transfer = Transfer(ask, self.port_to(master, ask), master, source)
+                transfer = self.begun(ask, self.port_to(master, ask), master, source)
                 self.transfers.append(transfer)
                 channel.wait(transfer, lambda transfer=transfer: self.ask_at_master(transfer))
+
+    def begun(self, ask, port, master=None, source=None):
+        """A request that sets out, of which some cuts are corrupt, if that may be."""
+        transfer = Transfer(ask, port, master, source)
+        if ask.data:
+            transfer.asked_cuts, width = self.some_cuts(transfer), self.wider_bus(transfer)
+            transfer.ask = ask._replace(spoiled=frozenset(place for place in range(len(ask.data)) if place // width in transfer.asked_cuts))
+        return transfer
 
     def port_to(self, master, ask):
         """The port to which a request goes. If the master has no path to the port that has its address, a crossbar with a bug sends it there."""
@@ -402,7 +411,7 @@ class Run:
 
     def asks_behind(self, transfer):
         """What an adapter asks its port when a master asks: the same, two halves of it, a get before a put, what comes to its mind, or nothing."""
-        rng, (name, address, size, data) = self.rng, transfer.ask
+        rng, (name, address, size, data, _) = self.rng, transfer.ask
         asks, how = [transfer.ask], rng.choice(["same", "same", "halves", "get and put", "other", "nothing"])
         if how == "halves" and size and (not data or name.startswith("put")):
             half = 1 << size - 1
@@ -412,7 +421,7 @@ class Run:
         elif how == "other":
             asks = [ask_of(rng, [self.ports[transfer.port]], (), self.system.get("unaligned", False)) for _ in range(rng.randrange(3))]
         asks = [ask for ask in asks if how != "nothing" and port_of(self.system, None, ask.address, ask.size) == transfer.port]
-        return [Transfer(ask, transfer.port) for ask in asks]
+        return [self.begun(ask, transfer.port) for ask in asks]
 
     def ask_at_master(self, transfer):
         behind = [transfer] if self.goes_on(transfer) else self.asks_behind(transfer) if transfer.port in self.fronts else []
@@ -425,12 +434,22 @@ class Run:
             if not self.goes_on(transfer):
                 self.accept(transfer)
 
-        transfer.at_master = Message(self.columns("m", transfer.master, transfer.ask, transfer.source), lambda: True, leave)
+        rows = self.columns(self.buses["m"][transfer.master], transfer, transfer.ask, transfer.source, transfer.asked_cuts)
+        transfer.at_master = Message(rows, lambda: True, leave)
         return transfer.at_master
 
-    def columns(self, side, number, ask, source):
-        rows = self.buses[side][number].asks(ask.name, ask.size, source, ask.address, ask.data, self.junk)
-        return [row + self.rng.choice(["", "", "0"]) for row in rows]
+    def columns(self, bus, transfer, ask, source, cuts):
+        """The beats of a request at a link. The bytes of its corrupt cuts are anything, and lanes of its corrupt beats may be unknown."""
+        data = [self.rng.randrange(256) if byte is not None and place in ask.spoiled else byte for place, byte in enumerate(ask.data)]
+        rows = bus.asks(ask.name, ask.size, source, ask.address, data, self.junk)
+        marked = self.corrupt_beats(bus, transfer, cuts, len(rows))
+        return [self.marked(row, bus) if beat in marked else row + self.rng.choice(["", "", "0"]) for beat, row in enumerate(rows)]
+
+    def marked(self, row, bus):
+        """A beat of a request that is marked corrupt, with anything in its lanes."""
+        words = row.split(",")
+        words[6] = bus.spell_lanes([self.junk() for _ in range(bus.width)])
+        return ",".join(words) + "1"
 
     def owned_wide(self, transfer, port):
         """The source at the port's link that its owner has there. With a bug it is another one, also that of a master that the port does not
@@ -457,9 +476,9 @@ class Run:
         return wide
 
     def ask_at_port(self, transfer, port):
-        wide, ask = self.wide_of(transfer, port), transfer.ask
-        if ask.data and self.has_bug("byte of a request"):
-            ask = ask._replace(data=self.spoiled(ask.data))
+        wide, ask, cuts = self.wide_of(transfer, port), self.ask_on_its_way(transfer.ask), transfer.asked_cuts
+        if ask.data and self.has_bug("request corrupt at one side"):
+            cuts = cuts ^ {0}
         early = self.has_bug("early reply")
         if early:
             self.reply_begins(transfer, port, wide, Service(self, transfer, self.slaves[port]))
@@ -468,8 +487,18 @@ class Run:
             if not early:
                 self.accept(transfer, port, wide)
 
-        transfer.at_port = Message(self.columns("p", port, ask, wide), lambda: transfer.has_left, end)
+        transfer.at_port = Message(self.columns(self.buses["p"][port], transfer, ask, wide, cuts), lambda: transfer.has_left, end)
         return transfer.at_port
+
+    def ask_on_its_way(self, ask):
+        """A request as the crossbar gives it on. With a bug a byte of it is another one, or one of a corrupt cut is given at one side alone."""
+        if ask.data and self.has_bug("byte of a request"):
+            clean = [place for place in range(len(ask.data)) if place not in ask.spoiled]
+            return ask._replace(data=self.spoiled(ask.data, places=clean))
+        if ask.spoiled and ask.name == "putpart" and self.has_bug("mask of a corrupt request"):
+            at = self.rng.choice(sorted(ask.spoiled))
+            return ask._replace(data=[*ask.data[:at], 0 if ask.data[at] is None else None, *ask.data[at + 1:]])
+        return ask
 
     def order_of(self, number, side):
         """When the requests of a port take effect, as the links of a side show it."""
@@ -493,45 +522,50 @@ class Run:
         expected, _ = slave.served_next(transfer.ask)
         carries = reply_of(transfer.ask.name) == "AccessAckData"
         if expected is None:
-            denied = rng.random() < 0.2
-            expected = Reply(denied, [0 if denied else None] * (carries << transfer.ask.size))
-        reply = Reply(expected.denied, [self.junk() if byte is None else byte for byte in expected.data])
+            expected = Reply(None, [None] * (carries << transfer.ask.size))
+        denied = rng.random() < 0.2 if expected.denied is None else expected.denied
+        reply = Reply(denied, [0 if denied else self.junk() if byte is None else byte for byte in expected.data])
+        if transfer.ask.spoiled and slave.writes(transfer.ask) and self.has_bug("bytes beside a corrupt put", 0.9):
+            self.write_beside(transfer.ask, slave)
         if self.has_bug("denial of a reply"):
             reply = Reply(not reply.denied, [0] * len(reply.data))
-        transfer.corrupt_cuts = self.corrupt_cuts(transfer, reply)
+        transfer.corrupt_cuts = self.some_cuts(transfer) if reply.data and not reply.denied else frozenset()
         if reply.data and not reply.denied and self.has_bug("byte of a reply at its port"):
             reply = reply._replace(data=self.spoiled(reply.data))
         if reply.data and not reply.denied and self.has_bug("unknown byte of a reply"):
             reply = reply._replace(data=self.spoiled(reply.data, None))
         return reply
 
+    def write_beside(self, ask, slave):
+        """A corrupt request writes bytes near its own too, which it does not give."""
+        start = slave.start_of(ask)
+        for at in {*range(start - 64, start + (1 << ask.size) + 64)} - slave.writes(ask):
+            slave.cells[at] = self.rng.randrange(256)
+
     def wider_bus(self, transfer):
         """How many bytes the wider bus has of those that a transfer crosses."""
         widths = [] if transfer.master is None else [self.buses["m"][transfer.master].width]
         return max(widths + ([self.buses["p"][transfer.port].width] if transfer.port < len(self.ports) else []))
 
-    def corrupt_cuts(self, transfer, reply):
-        """The cuts of a reply in which some beat is corrupt, if that may be."""
-        if not reply.data or reply.denied or not self.system.get("corrupt") or self.rng.random() < 0.6:
+    def some_cuts(self, transfer):
+        """Some cuts of a message that carries the bytes of a request, or of its reply: in these some beat is corrupt, if that may be."""
+        if not self.system.get("corrupt") or self.rng.random() < 0.6:
             return frozenset()
-        cuts = max(1, len(reply.data) // self.wider_bus(transfer))
+        cuts = max(1, (1 << transfer.ask.size) // self.wider_bus(transfer))
         return frozenset(cut for cut in range(cuts) if self.rng.random() < 0.5)
 
-    def corrupt_beats(self, side, number, transfer, beats):
-        """The corrupt ones of a reply's beats at a link: some of each cut."""
-        width, found = self.buses[side][number].width, set()
-        cuts = transfer.corrupt_cuts
-        if side == "m" and transfer.ask.size and self.has_bug("corrupt at one side"):
-            cuts = cuts ^ {0}
+    def corrupt_beats(self, bus, transfer, cuts, beats):
+        """The corrupt ones of a message's beats at a link: some of each corrupt cut."""
+        found, span = set(), max(1, self.wider_bus(transfer) // bus.width)
         for cut in cuts:
-            span = max(1, self.wider_bus(transfer) // width)
-            within = [beat for beat in range(cut * span, (cut + 1) * span) if beat < beats]
+            # at a link to which it was sent by mistake it may have fewer beats
+            within = [beat for beat in range(cut * span, (cut + 1) * span) if beat < beats] or [beats - 1]
             found |= {beat for beat in within if self.rng.random() < 0.5} or {self.rng.choice(within)}
         return found
 
-    def spoiled(self, data, byte=0):
-        """The bytes with one of them changed."""
-        at = self.rng.randrange(len(data))
+    def spoiled(self, data, byte=0, places=()):
+        """The bytes with one of them changed, which stands at one of these places if there are some."""
+        at = self.rng.choice(places or range(len(data)))
         other = None if byte is None else ((data[at] or 0) + self.rng.randrange(1, 256)) % 256
         return [*data[:at], other, *data[at + 1:]]
 
@@ -548,8 +582,10 @@ class Run:
         data = [None] * (1 << ask.size) if reply.denied else reply.data
         words = [*bus.beats(ask.address, ask.size, data, self.junk)] if kind == "AccessAckData" else [(0, [])]
         rows = []
-        is_spoiled = kind == "AccessAckData" and not reply.denied
-        corrupt_beats = self.corrupt_beats(side, number, transfer, len(words)) if is_spoiled else set()
+        is_spoiled, cuts = kind == "AccessAckData" and not reply.denied, transfer.corrupt_cuts
+        if is_spoiled and side == "m" and ask.size and self.has_bug("corrupt at one side"):
+            cuts = cuts ^ {0}
+        corrupt_beats = self.corrupt_beats(bus, transfer, cuts, len(words)) if is_spoiled else set()
         if self.has_bug("corrupt beat of a reply"):
             corrupt_beats = corrupt_beats ^ {0}
         for beat, (_, lanes) in enumerate(words):

@@ -10,6 +10,8 @@ The third system has a port that is judged by itself, `far`, and one that is com
 The fourth system has links whose replies come in order, core's and `ram`'s.
 
 Replies that are late, and requests that wait for too long, are of the first system, with resets, and of the third.
+
+Corrupt requests are of the first system, with corrupt data.
 """
 
 from tlxtools.causes import ADAPTED, EXCHANGED
@@ -591,4 +593,56 @@ TIMED_APART_CASES = (
     (["--within", "5"], LATE_FAR, (
         "in far, the link of which is judged by itself, or between core and it", "at time 16 it has waited for 6 units of time, 1 more than --within 5")),
     (["--within", "4"], LATE_FAR, ("in far, the link of which is judged by itself, or between core and it",)),
+)
+
+CORRUPT = "corrupt = true\n" + SYSTEM
+# A get is marked corrupt, and a put is.
+MARKED_GET = """10,m0,A,4,0,0,0,1000,01,,,1
+"""
+MARKED_PUT = f"""10,m0,A,0,0,3,0,1000,ff,{LOW},,1
+"""
+# A corrupt put leaves four bytes unknown, and a corrupt atomic two of the next four, of which a put writes one again. Nobody wrote the last byte.
+HALF_KNOWN = """10,p0,A,1,0,3,0,1000,0f,xxxxxxxxxxxxxxxx,,1
+11,p0,D,0,,3,0,,,,1,0
+12,p0,A,3,3,2,1,1004,f0,0000000000000000,,1
+13,p0,D,1,,2,1,,,0000000000000000,0,0
+14,p0,A,0,0,0,0,1005,20,0000aa0000000000,,0
+15,p0,D,0,,0,0,,,,0,0
+16,p0,A,4,0,4,2,1000,ff,,,
+17,p0,D,1,,4,2,,,123456789abcdef0,0,0
+18,p0,D,1,,4,2,,,ff00000000000000,0,0
+"""
+# The adapter forgets the flag.
+FORGOTTEN = """10,m0,A,0,0,3,0,2000,ff,0000000000000000,,1
+11,p1,A,0,0,3,0,2000,f,a3a2a1a0,,0
+12,p1,A,0,0,3,0,2000,f,a7a6a5a4,,0
+"""
+# The flag crosses, and a byte of the second cut has changed. Then the byte that the first cut gives at its third place is not given any more.
+CLEAN_CUT = f"""10,m0,A,1,0,4,0,2000,07,0000000000000000,,1
+11,m0,A,1,0,4,0,2000,ff,{HIGH},,0
+12,p1,A,1,0,4,0,2000,%s,00000000,,1
+13,p1,A,1,0,4,0,2000,0,00000000,,0
+14,p1,A,1,0,4,0,2000,f,b3b2b1b0,,0
+15,p1,A,1,0,4,0,2000,f,b7b6b5%s,,0
+"""
+CORRUPT_CASES = (
+    ([], MARKED_GET, ("get carries no bytes that may be corrupt", "a_corrupt: no get and no prefetch is marked")),
+    (["--links", "ports"], HALF_KNOWN, (
+        "unknown at 0x1000 to 0x1003 since a corrupt put: ram, source 0 (source 0 of core): putpart 0x1000 of 8 bytes xxxxxxxx--------, line 2, time 10",
+        "unknown at 0x1004, 0x1006 to 0x1007 since a corrupt atomic: ram, source 1 (source 1 of core): swap 0x1004 of 4 bytes xxxxxxxx, line 4, time 12",
+        "wrong at 0x1005: expected aa, captured 56", "wrong at 0x100f: expected 00, captured ff")),
+    ([], FORGOTTEN, (
+        "bytes: xxxxxxxxxxxxxxxx at the master's link, a0a1a2a3a4a5a6a7 here",
+        "corrupt bytes: 0 to 7 at the master's link, none here, by beats of the wider bus")),
+    ([], CLEAN_CUT % ("7", "ff"), (
+        "bytes: xxxxxx----------b0b1b2b3b4b5b6b7 at the master's link, xxxxxx----------b0b1b2b3ffb5b6b7 here",
+        "the first difference, at 0x200c: b4 at core's link (line 3, time 11), ff at slow's link (line 7, time 15)")),
+    ([], CLEAN_CUT % ("3", "b4"), (
+        "bytes: xxxxxx----------b0b1b2b3b4b5b6b7 at the master's link, xxxx------------b0b1b2b3b4b5b6b7 here",
+        "the first difference, at 0x2002: xx at core's link (line 2, time 10), -- at slow's link (line 4, time 12)")),
+)
+# Without the key no request is marked.
+UNCORRUPT_CASES = (
+    ([], MARKED_PUT, ("the system file has no `corrupt = true`, so no beat of a request is marked corrupt",
+                      "`corrupt = true` in the system file, if data may be corrupt, as those of a memory with error correction")),
 )

@@ -12,8 +12,8 @@ import subprocess
 import sys
 import tempfile
 
-from explain_cases import APART, APART_CASES, CASES, QUEUED, QUEUED_CASES, RESETTING, SOCKET_CASES, SOCKETS, TIMED_APART_CASES, TIMED_CASES
-from explain_cases import SYSTEM as OF_CASES
+from explain_cases import APART, APART_CASES, CASES, CORRUPT, CORRUPT_CASES, QUEUED, QUEUED_CASES, RESETTING, SOCKET_CASES, SOCKETS
+from explain_cases import SYSTEM as OF_CASES, TIMED_APART_CASES, TIMED_CASES, UNCORRUPT_CASES
 from explained import fault_of_explanation
 from harness import run_test, tell_cases
 from tlxtools import causes
@@ -339,6 +339,7 @@ def main():
              *((has_lines, (*case, SOCKETS)) for case in SOCKET_CASES), *((has_lines, (*case, APART)) for case in APART_CASES),
              *((has_lines, (*case, QUEUED)) for case in QUEUED_CASES), *((has_lines, (*case, RESETTING)) for case in TIMED_CASES),
              *((has_lines, (*case, APART)) for case in TIMED_APART_CASES),
+             *((has_lines, (*case, CORRUPT)) for case in CORRUPT_CASES), *((has_lines, case) for case in UNCORRUPT_CASES),
              *((is_explained, (seed,)) for seed in range(SEEDS)), *((is_refused, case) for case in REFUSED),
              (is_helped, ()), (is_same_from_input, ()), (is_same_from_input, ("-",)), (is_dump_explained, ()), (is_saved, ([], OF_PORT)),
              (is_saved, (["--links", "masters"], OF_MASTER)),

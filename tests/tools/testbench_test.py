@@ -129,8 +129,12 @@ TEXTS = (
     ("resets = true\n" + PORT + MASTER, (), ["//   +reset=TIME", ".RESETS(1)", '$value$plusargs("reset=%d", again)']),
     (PORT + MASTER, (), ["!+reset=TIME", "!.RESETS("]),
     # data are corrupt where the system allows it
-    ("corrupt = true\n" + PORT + MASTER, (), [".CORRUPTS(5)"]),
-    ("corrupt = false\n" + PORT + MASTER, (), ["!.CORRUPTS("]),
+    ("corrupt = true\n" + PORT + MASTER, (), [".RANGES(1), .CORRUPTS(5),", "!.MAX_SIZE(8), .CORRUPTS(5)"]),
+    ("corrupt = false\n" + PORT + MASTER, ("--also", "a_corrupt"), ["!.CORRUPTS("]),
+    # of requests they are if the crossbar has the flag at each link
+    ("corrupt = true\n" + PORT + MASTER, ("--also", "a_corrupt"), [".RANGES(1), .CORRUPTS(5),", ".MAX_SIZE(8), .CORRUPTS(5)"]),
+    ("corrupt = true\n" + PORT + 'wires = { a_corrupt = "-" }\nsignals = "tb.dut.ram_"\n' + MASTER, ("--also", "a_corrupt"),
+     ["!.MAX_SIZE(8), .CORRUPTS(5)"]),
     # no port at all
     (MASTER, (), ["wire crosses = m0_a_valid && m0_a_ready ||", "64'h0, 64'h100, 48'hf0_f0_f0_f0_f0_f0"]),
 )

@@ -115,6 +115,10 @@ class Aims:
     def at_answered(self, master, port, name, size, how):
         yield from self.at_asked(master, port, name, size, "aligned")
 
+    def at_corrupt(self, master, port, name, size, sent):
+        # which beats are corrupt is up to whoever sends the operations
+        yield from self.at_asked(master, port, name, size, "aligned")
+
     def at_beats(self, master, port, channel, count):
         name = "putfull" if channel == "A" else "get"
         sizes = [size for size in self.stimulus.sizes_of(name, port) if max(1, (1 << size) // self.stimulus.bus_of(master)) == count]

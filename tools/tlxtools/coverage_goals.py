@@ -42,6 +42,18 @@ def has_long(port, sizes, bus, channel):
                for name in NAMES for size in sizes)
 
 
+def corrupt_goals(system, master, number, port, sizes):
+    """The bins of corrupt beats, if data may be corrupt: of requests with data that the port serves, and of replies with data to such as it serves."""
+    if not system.get("corrupt"):
+        return
+    for name in NAMES:
+        served = [size for size in sizes if is_supported(port, name, size)]
+        if carries_data(name):
+            yield from (("corrupt", master, number, name, size, "asked") for size in served)
+        if reply_of(name) == "AccessAckData":
+            yield from (("corrupt", master, number, name, size, "answered") for size in served)
+
+
 def goals_of_port(system, master, number, port):
     """The bins of a master's requests to a port: what it serves is given, and what it does not serve is denied. No request has a size of which no
     range holds an aligned one."""
@@ -54,6 +66,7 @@ def goals_of_port(system, master, number, port):
                 yield "answered", master, number, name, size, "given"
             elif port["kind"] != "device":
                 yield "answered", master, number, name, size, "denied"
+    yield from corrupt_goals(system, master, number, port, sizes)
     bus = system["master"][master].get("bus", system.get("bus", BUS))
     for channel in ("A", "D"):
         if has_long(port, sizes, bus, channel):

@@ -78,6 +78,9 @@ class CoveringJudge(Judge):
         if flight and link.side == self.told:
             self.count("gap", flight, "A", self.step_since(flight.asked_at))
             flight.asked_at = self.now
+        if row.corrupt and link.side == self.told:
+            asked = link.flights[row.source]
+            self.count("corrupt", asked, asked.name, row.size, "asked")
 
     def reply(self, link, row):
         """A reply begins with its first beat, and each other beat comes after one."""
@@ -89,6 +92,8 @@ class CoveringJudge(Judge):
             else:
                 self.count("gap", flight, "D", self.step_since(flight.answered_at))
             flight.answered_at = self.now
+            if row.corrupt and not row.denied:
+                self.count("corrupt", flight, flight.name, row.size, "answered")
 
     def begun(self, link, row):
         flight = super().begun(link, row)

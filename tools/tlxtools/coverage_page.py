@@ -2,7 +2,7 @@
 
 import html
 
-from tlxtools.coverage_text import ACCESSES, AFTER, CAUSES, EDGES, ERROR, MOST_IN_FLIGHT, NAMES, SHAPES, SIZES, SOURCES_APART, WHERE, WIDEST_BUS
+from tlxtools.coverage_text import ACCESSES, AFTER, CAUSES, EDGES, ERROR, MOST_IN_FLIGHT, NAMES, SENT, SHAPES, SIZES, SOURCES_APART, WHERE, WIDEST_BUS
 from tlxtools.partial_memory import ranges_of
 
 STYLE = """
@@ -46,17 +46,27 @@ def steps():
     return [f"{after} and more" if after == AFTER[-1] else after for after in AFTER]
 
 
+def rows_by_operation(goals, counts, masters, kind, place, word):
+    """The rows of the bins of a kind at a port that end in a word: one for each master and operation of which one is a goal or was hit."""
+    for number, master in masters:
+        for name in NAMES:
+            bins = [(kind, number, place, name, size, word) for size in SIZES]
+            if any(bin in goals or counts.get(bin) for bin in bins):
+                yield f"{named(master, 'm', number)} {name}", [cell(goals, counts, bin) for bin in bins]
+
+
+def tables_by_operation(goals, counts, masters, place):
+    tables = [(f"replies that were {answer}", "answered", answer) for answer in ("given", "denied")]
+    tables += [(f"corrupt beats of {message}", "corrupt", sent) for message, sent in zip(("requests", "replies"), SENT)]
+    for caption, kind, word in tables:
+        rows = list(rows_by_operation(goals, counts, masters, kind, place, word))
+        if rows:
+            yield table(f"{caption}, by operation and bytes", [1 << size for size in SIZES], rows)
+
+
 def tables_of_port(system, goals, counts, place, port):
     masters = list(enumerate(system["master"]))
-    for answer in ("given", "denied"):
-        rows = []
-        for number, master in masters:
-            for name in NAMES:
-                bins = [("answered", number, place, name, size, answer) for size in SIZES]
-                if any(bin in goals or counts.get(bin) for bin in bins):
-                    rows.append((f"{named(master, 'm', number)} {name}", [cell(goals, counts, bin) for bin in bins]))
-        if rows:
-            yield table(f"replies that were {answer}, by operation and bytes", [1 << size for size in SIZES], rows)
+    yield from tables_by_operation(goals, counts, masters, place)
     rows = []
     for number, master in masters:
         for size in SIZES:

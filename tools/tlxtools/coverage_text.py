@@ -25,6 +25,8 @@ ACCESSES = ("read", "write", "atomic", "hint")
 CAUSES = ("nowhere", "no_path", "unaligned", "beyond", "unserved")
 # Whether a reply overtakes an older one of the same port, or of another.
 WHERE = ("same", "other")
+# Whether a corrupt beat is one of a request or of its reply.
+SENT = ("asked", "answered")
 BEATS = tuple(1 << power for power in range(9))
 SIZES = range(MAX_SIZE + 1)
 NAMES = tuple(OPERATIONS)
@@ -48,6 +50,7 @@ KINDS = {
     "refused": (PORT, CAUSES),
     "lane": (MASTER, SIZES, range(WIDEST_BUS)),
     "after": (PORT, ACCESSES, ACCESSES),
+    "corrupt": (MASTER, PORT, NAMES, SIZES, SENT),
 }
 # A port's number that stands for the error port: it comes after all others.
 ERROR = 1 << 16

@@ -10,8 +10,8 @@ from tlxtools.causes import ADAPTED, CAUSES, DENIED, EXCHANGED, SHIFTED
 from tlxtools.common import carries_data
 from tlxtools.partial_memory import port_of
 from tlxtools.sides import MOST, Sides, Views
-from tlxtools.spelling import bytes_of, counted, hexadecimal, place_of, replied, runs_text
-from tlxtools.story import ANSWERS, NAMES, Story, System, turn_of
+from tlxtools.spelling import bytes_of, counted, hexadecimal, place_of, replied, runs_text, spelled
+from tlxtools.story import ANSWERS, NAMES, Message, Story, System, turn_of
 
 VERDICT = re.compile(r"unlawful: line (\d+), time (\d+), (\S+) ([AD]): (.*)")
 WRONG = re.compile(r"wrong reply: expected (\w+)( denied)?(?: ([0-9a-fx]+))?, captured (\w+)( denied)?(?: ([0-9a-fx]+))?")
@@ -49,8 +49,7 @@ class Explainer:
     def name(self, message):
         """A request in words: its link, its source and whose that is, what it asks, and where it stands."""
         link = self.system.names[message.link]
-        data = f" {hexadecimal(message.data)}" if message.data else ""
-        asks = f"{message.name} {message.address:#x} of {bytes_of(message.size)}{data}"
+        asks = f"{message.name} {message.address:#x} of {bytes_of(message.size)}{' ' * bool(message.data)}{message.text}"
         return f"{link}, source {message.source}{self.whose(message)}: {asks}, {place_of(message.asked)}"
 
     def state(self, message):
@@ -62,7 +61,7 @@ class Explainer:
     def record(self, message):
         """A request for programs."""
         return {"link": self.system.names[message.link], "source": message.source, "operation": message.name, "address": message.address,
-                "bytes": 1 << message.size, "data": hexadecimal(message.data), "asked": [row.line for row in message.asked],
+                "bytes": 1 << message.size, "data": message.text, "asked": [row.line for row in message.asked],
                 "time": message.asked[0].time, "times": [row.time for row in message.asked],
                 "answered": [row.line for row in message.answered], "text": self.text(message)}
 
@@ -92,6 +91,9 @@ class Explainer:
             right = bus.spell_mask(bus.active(row.address(), row.number(5))) + " or fewer bits" * (name == "putpart")
             yield (f"the mask of {bytes_of(row.number(5))} at {row.address():#x} on a bus of {counted(bus.width, 'byte')} is {right}; "
                    f"captured {row.words[8]}")
+        elif fault == "wrong corrupt flag":
+            yield (f"{name} carries no bytes that may be corrupt" if not carries_data(name) else
+                   "the system file has no `corrupt = true`, so no beat of a request is marked corrupt")
         elif fault == "source in flight":
             holder = self.story.flights.get((link, row.number(6))) or self.elsewhere(row)
             if holder:
@@ -150,24 +152,34 @@ class Explainer:
             yield f"nothing is in flight of {whose}"
             return
         yield f"its master sent: {self.text(sent)}"
-        name = begun.name if begun else NAMES[row.number(3), row.number(4)]
-        bus = self.system.buses[row.link]
-        _, lanes = bus.lanes(row.address(), row.number(5))
-        word = row.lanes(bus)
-        here = [word[lane] if row.mask() >> lane & 1 else None for lane in lanes] if carries_data(name) else []
-        data = (begun.data if begun else []) + here
-        pairs = (("operation", sent.name, name), ("address", hex(sent.address), hex(row.address())), ("size", sent.size, row.number(5)))
+        seen = Message(row.link, row.number(6), NAMES[row.number(3), row.number(4)], row.address(), row.number(5), self.system.buses[row.link],
+                       asked=[*(begun.asked if begun else []), row])
+        pairs = (("operation", sent.name, seen.name), ("address", hex(sent.address), hex(seen.address)), ("size", sent.size, seen.size))
         yield from (f"{what}: {one} at the master's link, {other} here" for what, one, other in pairs if one != other)
-        if sent.data and sent.name == name and sent.data != data:
-            yield f"bytes: {hexadecimal(sent.data)} at the master's link, {hexadecimal(data)} here"
-            rows = [*(begun.asked if begun else []), row]
-            yield from self.sides.difference(sent.address, (row.link, rows, data), (sent.link, sent.asked, sent.data))
-            yield from self.sides.of_lanes(sent.asked[0], sent, data, "the bytes here")
+        if sent.data and sent.name == seen.name:
+            yield from self.of_bytes(sent, seen)
         if not sent.is_whole:
             yield "at the master's link it has not ended"
         before = self.story.over.get((row.link, row.number(6)))
         if before and before.asked[0].turned() > sent.asked[0].turned():
             yield f"it crossed before: {self.text(before)}"
+
+    def of_bytes(self, sent, seen):
+        """Which bytes of a request cross otherwise than its master sent them. In corrupt cuts they are free, but not which of them are given."""
+        cuts = self.sides.corrupt_cuts(seen, seen.asked, sent, sent.asked)
+        here, there = (spelled(message.data, cuts[0] | cuts[1]) for message in (seen, sent))
+        if here == there and cuts[0] == cuts[1]:
+            return
+        yield f"bytes: {sent.text} at the master's link, {seen.text} here"
+        yield from self.of_cuts(*cuts, "the master")
+        yield from self.sides.difference(sent.address, (seen.link, seen.asked, here), (sent.link, sent.asked, there))
+        yield from self.sides.of_lanes(sent.asked[0], sent, seen.data, "the bytes here")
+
+    @staticmethod
+    def of_cuts(here, there, name):
+        """That other cuts are corrupt at two links, if they are."""
+        if here != there:
+            yield f"corrupt bytes: {runs_text(there)} at {name}'s link, {runs_text(here)} here, by beats of the wider bus"
 
     # ---- replies
 
@@ -262,10 +274,10 @@ class Explainer:
             yield f"{'denied' if given.denied else 'not denied'} at {port}'s link, {'not denied' if given.denied else 'denied'} here"
         if given and given.reply and captured:
             rows = [*message.answered, row]
-            cuts = self.sides.corrupt_cuts(message, rows, given)
-            if cuts[0] != cuts[1]:
-                yield f"corrupt bytes: {runs_text(cuts[1])} at {port}'s link, {runs_text(cuts[0])} here, by beats of the wider bus"
-            captured, there = ([None if place in cuts[0] | cuts[1] else byte for place, byte in enumerate(data)] for data in (captured, given.reply))
+            cuts = self.sides.corrupt_cuts(message, rows, given, given.answered)
+            yield from self.of_cuts(*cuts, port)
+            captured, there = (["xx" if place in cuts[0] | cuts[1] else hexadecimal([byte]) for place, byte in enumerate(data)]
+                               for data in (captured, given.reply))
             yield from self.sides.difference(message.address, (row.link, rows, captured), (given.link, given.answered, there))
             yield from self.sides.of_lanes(row, message, given.reply, f"the bytes that {port} gave")
 
@@ -288,9 +300,21 @@ class Explainer:
             if not (runs and joined(runs[-1], run)):
                 runs.append(run)
         more = len(wrong) - MOST_BYTES
-        lines = [f"{counted(more, 'wrong byte')} more"] * (more > 0)
+        lines = [f"{counted(more, 'wrong byte')} more"] * (more > 0) + [*self.of_unknown(history)]
         lines += [f"{OF_OTHER}: another master's request has this answer: {self.text(other)}" for other in self.of_others(message, found[6])]
         return lines + [f"{OF_OTHER}: a reply before it has the same word: {self.text(other)}" for other in self.of_same_word()], runs
+
+    def of_unknown(self, history):
+        """Which bytes of a request corrupt ones before it have left unknown."""
+        found = {}
+        for at, held in history.items():
+            lost = [*itertools.takewhile(lambda event: event[1] is None, reversed(held))]
+            writer = lost[-1][0] if lost else None
+            if writer and writer.ask().spoiled:
+                found.setdefault(writer.asked[0].line, (writer, []))[1].append(at)
+        for writer, places in found.values():
+            kind = "put" if writer.name.startswith("put") else "atomic"
+            yield f"unknown at {runs_text(places, hex)} since a corrupt {kind}: {self.name(writer)}"
 
     def of_same_word(self):
         """The last request of this side, but for that of the beat, that got the word of the beat in all lanes. A word that has no known digit but 0

@@ -48,11 +48,22 @@ def digits_of(word, pattern):
     return word
 
 
+def are_same_in_cuts(one, other, width):
+    """Whether two messages carry the same in cuts of so many bytes: the same cuts are spoiled, and the others have the same bytes."""
+    cuts = {place // width for place in one.spoiled}
+    return (len(one.data) == len(other.data) and cuts == {place // width for place in other.spoiled}
+            and all(pair[0] == pair[1] or place // width in cuts for place, pair in enumerate(zip(one.data, other.data))))
+
+
 def crosses_as(given, captured, width):
-    """Whether a master saw the reply that a port gave, in cuts of so many bytes: the same cuts are spoiled, and the others have the same bytes."""
-    cuts = {place // width for place in given.spoiled}
-    return (given.denied == captured.denied and len(given.data) == len(captured.data) and cuts == {place // width for place in captured.spoiled}
-            and all(byte == other or place // width in cuts for place, (byte, other) in enumerate(zip(given.data, captured.data))))
+    """Whether a master saw the reply that a port gave."""
+    return given.denied == captured.denied and are_same_in_cuts(given, captured, width)
+
+
+def is_sent_as(sent, seen, width):
+    """Whether a port saw the request that a master sent: in spoiled cuts too the same bytes are given."""
+    return (sent[:3] == seen[:3] and [byte is None for byte in sent.data] == [byte is None for byte in seen.data]
+            and are_same_in_cuts(sent, seen, width))
 
 
 def must_be_corrupt(opcode, denied):
@@ -77,7 +88,8 @@ class Flight:
     def __init__(self, row, owner, port):
         self.row, self.owner, self.port = row, owner, port
         self.name = NAMES[row.opcode, row.param]
-        self.data, self.answer, self.spoiled = [], [], []
+        # the bytes of the request and of its reply, with the places of each that corrupt beats carried
+        self.data, self.spoiled, self.answer, self.answer_spoiled = [], [], [], []
         # the beats that have crossed of the request and of its reply, and the row that the reply began with
         self.asked, self.answered, self.reply_row = 0, 0, None
         self.is_whole, self.place, self.expected, self.kept = False, None, None, None
@@ -85,7 +97,7 @@ class Flight:
         self.origin, self.has_crossed, self.given = None, False, None
 
     def ask(self):
-        return Ask(self.name, self.row.address, self.row.size, self.data)
+        return Ask(self.name, self.row.address, self.row.size, self.data, frozenset(self.spoiled))
 
 
 class Rows:
@@ -237,7 +249,9 @@ class Judge:
                 link.queue.append(flight)
         if carries_data(flight.name):
             _, lanes = link.bus.lanes(row.address, row.size)
-            flight.data += [row.lanes[lane] if row.mask >> lane & 1 else None for lane in lanes]
+            if row.corrupt:
+                flight.spoiled += range(len(flight.data), len(flight.data) + len(lanes))
+            flight.data += [None if not row.mask >> lane & 1 else 0 if row.corrupt else row.lanes[lane] for lane in lanes]
         flight.asked += 1
         if flight.asked == link.bus.count(row.size, carries_data(flight.name)):
             link.asking, flight.is_whole = None, True
@@ -258,9 +272,9 @@ class Judge:
         active = link.bus.active(row.address, row.size)
         if row.mask != active and not (name == "putpart" and row.mask & ~active == 0):
             raise Unlawful("wrong mask")
-        if row.corrupt:
+        if row.corrupt and not (self.may_be_corrupt and carries_data(name)):
             raise Unlawful("wrong corrupt flag")
-        if carries_data(name) and any(row.mask >> lane & 1 and byte is None for lane, byte in enumerate(row.lanes)):
+        if carries_data(name) and not row.corrupt and any(row.mask >> lane & 1 and byte is None for lane, byte in enumerate(row.lanes)):
             raise Unlawful("unknown data")
 
     def begun(self, link, row):
@@ -278,7 +292,8 @@ class Judge:
     def end_ask(self, link, flight):
         if link.side == "p" and self.crosses(link, flight):
             origin = self.links["m", flight.owner[0]].flights.get(flight.owner[1])
-            if origin is None or not origin.is_whole or origin.has_crossed or origin.ask() != flight.ask():
+            is_there = origin is not None and origin.is_whole and not origin.has_crossed
+            if not is_there or not is_sent_as(origin.ask(), flight.ask(), self.wider_bus(self.links["m", flight.owner[0]], flight)):
                 raise Unlawful("no master sent this request")
             origin.has_crossed, flight.origin = True, origin
         self.serve(link, flight, "accept")
@@ -297,13 +312,13 @@ class Judge:
             _, lanes = link.bus.lanes(flight.row.address, row.size)
             is_spoiled = row.corrupt and not row.denied
             if is_spoiled:
-                flight.spoiled += range(len(flight.answer), len(flight.answer) + len(lanes))
+                flight.answer_spoiled += range(len(flight.answer), len(flight.answer) + len(lanes))
             flight.answer += [0 if row.denied else None if is_spoiled else row.lanes[lane] for lane in lanes]
             if None in flight.answer and not (self.may_be_corrupt or self.slaves[link.side][flight.port].may_answer_unknown()):
                 raise Unlawful("unknown data")
         flight.answered += 1
         is_whole = flight.answered == link.bus.count(row.size, carries)
-        reply = Reply(row.denied, flight.answer, frozenset(flight.spoiled))
+        reply = Reply(row.denied, flight.answer, frozenset(flight.answer_spoiled))
         if is_whole:
             self.check_whole(link, flight, reply)
         # the last fault of a beat
@@ -395,18 +410,19 @@ def turn_of(row):
     return row.time, TURNS[row.side, row.channel], row.number
 
 
-def bytes_text(data, unset):
-    return "".join(unset if byte is None else f"{byte:02x}" for byte in data)
+def bytes_text(data):
+    return "".join("xx" if byte is None else f"{byte:02x}" for byte in data)
 
 
 def ask_text(flight):
-    data = f" {bytes_text(flight.data, '--')}" if flight.data else ""
-    return f"{flight.name} {flight.row.address:#x} {flight.row.size}{data}"
+    """A request as traces spell it: a byte that is given in a corrupt beat is xx."""
+    pairs = ("--" if byte is None else "xx" if place in flight.spoiled else f"{byte:02x}" for place, byte in enumerate(flight.data))
+    return f"{flight.name} {flight.row.address:#x} {flight.row.size}{' ' * bool(flight.data)}{''.join(pairs)}"
 
 
 def reply_text(name, reply):
-    data = f" {bytes_text(reply.data, 'xx')}" if reply.data else ""
-    return f"{reply_of(name)}{' denied' * reply.denied}{data}"
+    data = f" {bytes_text(reply.data)}" if reply.data else ""
+    return f"{reply_of(name)}{' denied' * bool(reply.denied)}{data}"
 
 
 def verdict_of(judge, rows, last_line):

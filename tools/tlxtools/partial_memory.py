@@ -7,9 +7,10 @@ from tlxtools.bus import reply_of
 from tlxtools.common import GROUP_OF, MAX_SIZE
 from tlxtools.wide_sources import is_reached
 
-# A request: its operation, and its bytes if it carries some. A reply: whether it is denied, and its bytes if it carries some.
-Ask = collections.namedtuple("Ask", ["name", "address", "size", "data"])
-# What a reply has: of a captured one also the places of its bytes that a corrupt beat carried, which promise nothing.
+# A request: its operation, its bytes if it carries some, and the places that corrupt beats carried: a byte that is given there is 0.
+Ask = collections.namedtuple("Ask", ["name", "address", "size", "data", "spoiled"], defaults=[frozenset()])
+# A reply: whether it is denied, its bytes if it carries some, and of a captured one the places that corrupt beats carried, which promise nothing. One
+# that is expected may be denied or not if its flag is None.
 Reply = collections.namedtuple("Reply", ["denied", "data", "spoiled"], defaults=[frozenset()])
 
 ALL = (0, MAX_SIZE)
@@ -78,7 +79,7 @@ class Kept:
         """What the reply has to fit, once others may write these bytes before it begins."""
         if self.expected and not self.expected.denied:
             places = range(self.start, self.start + len(self.expected.data))
-            self.expected = Reply(False, [None if at in others else byte for at, byte in zip(places, self.expected.data)])
+            self.expected = self.expected._replace(data=[None if at in others else byte for at, byte in zip(places, self.expected.data)])
 
 
 class Slave:
@@ -126,11 +127,14 @@ class Slave:
         return (None if self.kind == "device" else self.answer(ask)), self.served - 1
 
     def answer(self, ask):
-        """What a memory answers to a request, which then has taken effect."""
+        """What a memory answers to a request, which then has taken effect. A corrupt one may be denied, and nobody knows what it has written."""
         carries = reply_of(ask.name) == "AccessAckData"
         if not self.permits(ask):
             return Reply(True, [0] * (1 << ask.size) if carries else [])
         old = self.window(ask)
+        if ask.spoiled:
+            self.cut(ask)
+            return Reply(None, old if carries else [])
         if ask.data:
             start = self.start_of(ask)
             self.cells.update(zip(range(start, start + len(old)), self.left_by(ask, old)))
@@ -163,7 +167,8 @@ class Slave:
         return new
 
     def cut(self, ask):
-        """A reset cuts a request short, of which these bytes have come: where the bytes stand that it may write, which nobody knows then."""
+        """A request of which these bytes have come is cut short by a reset, or is corrupt: where the bytes stand that it may write, which nobody
+        knows then."""
         places = self.writes(ask)
         if places and not ask.name.startswith("put"):
             places = set(range(self.start_of(ask), self.start_of(ask) + (1 << ask.size)))
@@ -194,8 +199,9 @@ def cleared(before, given):
 
 
 def fits(expected, captured):
-    """Whether a captured reply is one that is expected: as to its unknown bytes it is free, and as to those that are spoiled."""
+    """Whether a captured reply is one that is expected: as to its unknown bytes it is free, and as to those that are spoiled. Where the expected one
+    may be denied, it is free as to that."""
     if expected is None:
         return True
-    return expected.denied == captured.denied and (captured.denied or all(
+    return expected.denied in (None, captured.denied) and (captured.denied or all(
         byte is None or byte == other or place in captured.spoiled for place, (byte, other) in enumerate(zip(expected.data, captured.data))))

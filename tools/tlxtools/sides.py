@@ -6,7 +6,7 @@ for those of ports that are judged by themselves: else nobody knows that they ar
 from tlxtools.bus import reply_of
 from tlxtools.capture_input import said_by
 from tlxtools.common import ORDERS, TLCHECK, carries_data
-from tlxtools.spelling import counted, hexadecimal, place_of, replied
+from tlxtools.spelling import counted, place_of, replied
 from tlxtools.story import ANSWERS, NAMES
 
 # So many requests or replies of a kind are told.
@@ -111,20 +111,20 @@ class Sides:
             yield f"at the other side: {said}"
 
     def difference(self, address, ours, theirs):
-        """The first byte that two messages carry differently: pairs of a link and its beats, each with the bytes."""
+        """The first byte that two messages carry differently: pairs of a link and its beats, each with the bytes as they are spelled."""
         (link, rows, data), (other, beats, given) = ours, theirs
         place = next((place for place, pair in enumerate(zip(data, given)) if pair[0] != pair[1]), None)
         if place is None:
             return
-        here, there = (f"{hexadecimal([found[place]])} at {self.name(at)}'s link ({place_of([beat_with(rows, place, self.system.buses[at])])})"
+        here, there = (f"{found[place]} at {self.name(at)}'s link ({place_of([beat_with(rows, place, self.system.buses[at])])})"
                        for at, rows, found in ((link, rows, data), (other, beats, given)))
         yield f"the first difference, at {address + place:#x}: {there}, {here}"
 
-    def corrupt_cuts(self, message, rows, given):
-        """The places of a reply that lie in corrupt cuts, at its master's link by these rows and at the port's: cuts are beats of the wider bus."""
-        width = max(self.system.buses[message.link].width, self.system.buses[given.link].width)
+    def corrupt_cuts(self, message, rows, other, beats):
+        """The places that lie in corrupt cuts of a message, by its rows at either link: cuts are beats of the wider bus."""
+        width = max(self.system.buses[message.link].width, self.system.buses[other.link].width)
         found = []
-        for places in (message.spoiled(rows), given.spoiled(given.answered)):
+        for places in (message.spoiled(rows), other.spoiled(beats)):
             cuts = {place // width for place in places}
             found.append({place for place in range(1 << message.size) if place // width in cuts})
         return found

@@ -6,6 +6,11 @@ def hexadecimal(data):
     return "".join("xx" if byte is None else f"{byte:02x}" for byte in data)
 
 
+def spelled(data, spoiled):
+    """The bytes of a request, each as a trace spells it: one that is not given, and one of which a corrupt beat tells nothing, are no digits."""
+    return ["--" if byte is None else "xx" if place in spoiled else f"{byte:02x}" for place, byte in enumerate(data)]
+
+
 def counted(number, what):
     return f"{number} {what}{'s' * (number != 1)}"
 
@@ -28,7 +33,7 @@ def replied(answer, denied, data):
     return " ".join([answer] + ["denied"] * bool(denied) + [hexadecimal(data)] * bool(data))
 
 
-def runs_text(places):
+def runs_text(places, spell=str):
     """Numbers of bytes as runs: "0 to 7, 12"; "none" if there are none."""
     runs = []
     for place in sorted(places):
@@ -36,4 +41,4 @@ def runs_text(places):
             runs[-1][1] = place
         else:
             runs.append([place, place])
-    return ", ".join(str(first) if first == last else f"{first} to {last}" for first, last in runs) or "none"
+    return ", ".join(spell(first) if first == last else f"{spell(first)} to {spell(last)}" for first, last in runs) or "none"

@@ -15,6 +15,7 @@ import tomllib
 from tlxtools.bus import Bus, bus_of
 from tlxtools.common import OPERATIONS, REPLIES, carries_data, order_at
 from tlxtools.partial_memory import Ask, Slave, port_of, ranges_of
+from tlxtools.spelling import spelled
 from tlxtools.wide_sources import WideSources
 
 NAMES = {codes: name for name, codes in OPERATIONS.items()}
@@ -64,8 +65,8 @@ class Row:
         return [None if set(pair) & set("xXzZ") else int(pair, 16) for pair in pairs]
 
     def is_spoiled(self):
-        """Whether its bytes promise nothing: it is a corrupt beat of a reply that is not denied."""
-        return self.channel == "D" and self.words[11] == "1" and self.words[10] == "0"
+        """Whether its bytes promise nothing: it is a corrupt beat of a request, or of a reply that is not denied."""
+        return int(self.words[11] or "0") == 1 and self.words[10] != "1"
 
     def turned(self):
         """Where the row stands among all."""
@@ -102,12 +103,17 @@ class Message:
     # most requests are never asked for their bytes
     @property
     def data(self):
-        """The bytes that its beats so far have carried, None for one that is not given."""
+        """The bytes that its beats so far have carried, None for one that is not given, and 0 for one that a corrupt beat gives."""
         found = []
         for row in self.asked if carries_data(self.name) else ():
             mask, word = row.mask(), row.lanes(self.bus)
-            found += [word[lane] if mask >> lane & 1 else None for lane in self.lanes()]
+            found += [None if not mask >> lane & 1 else 0 if row.is_spoiled() else word[lane] for lane in self.lanes()]
         return found
+
+    @property
+    def text(self):
+        """These bytes as a trace spells them."""
+        return "".join(spelled(self.data, self.spoiled(self.asked)))
 
     @property
     def reply(self):
@@ -122,21 +128,21 @@ class Message:
         return [None if row.is_spoiled() else word[lane] for lane in self.lanes()]
 
     def spoiled(self, rows):
-        """The places of bytes that corrupt beats carry, of beats of its reply from the first on."""
+        """The places of bytes that corrupt beats carry, of beats of the request or of its reply from the first on."""
         span = len(self.lanes())
         return {place for beat, row in enumerate(rows) if row.is_spoiled() for place in range(beat * span, (beat + 1) * span)}
 
     def ask(self):
-        return Ask(self.name, self.address, self.size, self.data)
+        return Ask(self.name, self.address, self.size, self.data, frozenset(self.spoiled(self.asked)))
 
     def window(self):
         """The addresses of its bytes."""
         return range(self.address, self.address + (1 << self.size))
 
     def byte(self, address):
-        """The byte that it carries for an address, or None."""
+        """The byte that it carries for an address, or None, of a corrupt beat too."""
         place = address - self.address
-        if not 0 <= place < 1 << self.size:
+        if not 0 <= place < 1 << self.size or place in self.spoiled(self.asked):
             return None
         data = self.data
         return data[place] if place < len(data) else None

@@ -129,7 +129,7 @@ ANYTHING = Value("any", "", {})
 SYSTEM_ROWS = (
     Key("", "bus", BUS_OF, "how many bytes the data buses of links have", BUS),
     Key("", "unaligned", flag(), "with `true` the address of a request may be no multiple of its size, and its slave denies it", False),
-    Key("", "corrupt", flag(), "with `true` beats of replies that are not denied may be marked corrupt, and their bytes promise nothing", False),
+    Key("", "corrupt", flag(), "with `true` beats of puts, atomics and replies with data may be marked corrupt, and their bytes promise nothing", False),
     Key("", "decode", one_of(DECODES), "a request goes to the port one of whose ranges has all its bytes; with `address`, its first byte", "bytes"),
     Key("", "resets", flag(), "with `true` a capture may have rows of resets of the whole system (captures.md, \"Resets\"), and dumps give them", False),
     Key("", "period", integer(1, GREATEST),

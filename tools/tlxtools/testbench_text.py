@@ -10,9 +10,9 @@ A_SIGNALS = ("a_valid", "a_ready", "a_opcode", "a_param", "a_size", "a_source", 
 D_SIGNALS = ("d_valid", "d_ready", "d_opcode", "d_size", "d_source", "d_denied", "d_data")
 WATCHED = (*A_SIGNALS, *D_SIGNALS, "d_corrupt")
 # Those that are watched if the crossbar has them.
-# Where data may be corrupt: so many of 100 beats of a slave are.
-CORRUPTS = 5
 OPTIONAL = ("a_corrupt", "d_param")
+# Where data may be corrupt: so many of 100 beats of a master and of a slave are.
+CORRUPTS = 5
 # What stands at their ports if it has not.
 NOTHING = "1'b0"
 DECLARED = (*WATCHED, *OPTIONAL, "d_sink")
@@ -156,12 +156,18 @@ def connected(signals, link):
     return [f".{signal}({net(link, signal)})" for signal in signals]
 
 
-def master_lines(link, system, most):
+def have_marks(links):
+    """Whether requests may be marked corrupt on their whole way: the crossbar has the flag at each link."""
+    return all(isinstance(link.places.get("a_corrupt"), tuple) for link in links)
+
+
+def master_lines(link, system, most, is_marking):
     ranges = master_map(system, link.number, most, link.widths["address"])
     entries = [f"64'h{base:x}, 64'h{length:x}, {digits_of(sizes)}" for base, length, sizes in reversed(ranges)]
     has_param = isinstance(link.places.get("a_param"), tuple)
     pairs = [("NAME", f'"{link.called}"'), ("NUMBER", link.number), ("SOURCES", link.table["sources"]), *widths_of(link),
-             ("RANGES", len(ranges)), ("MAX_SIZE", min(most, (1 << link.widths["size"]) - 1)), *([("HAS_PARAM", 0)] * (not has_param))]
+             ("RANGES", len(ranges)), ("MAX_SIZE", min(most, (1 << link.widths["size"]) - 1)), *([("HAS_PARAM", 0)] * (not has_param)),
+             *([("CORRUPTS", CORRUPTS)] * is_marking)]
     fixed = parameters_of(pairs)[:-1] + ",\n    .MAP({" + ",\n      ".join(entries) + "}))"
     signals = [*A_SIGNALS, "a_corrupt", *(signal for signal in D_SIGNALS)]
     yield f"  tl_master {fixed}"
@@ -264,14 +270,14 @@ def testbench_text(links, system, words):
     """The testbench. `words` has the path of the system file, the crossbar's module, the style, the types of structs and the sizes of images."""
     most = words["most"]
     masters = [link for link in links if link.side == "m"]
-    resets = system.get("resets", False)
+    resets, is_marking = system.get("resets", False), system.get("corrupt", False) and have_marks(links)
     name = os.path.basename(words["path"])
     lines = [HEAD.format(system=name, top=words["top"], most=1 << most, reset=RESET_PLUSARG * bool(resets))
              + START.format(again="  integer again;\n" * bool(resets), mid=MID_RUN * bool(resets)).rstrip("\n"), ""]
     for link in links:
         lines += declarations(link)
         lines += [f"  wire {link.called}_finished;"] * (link.side == "m")
-        lines += master_lines(link, system, most) if link.side == "m" else slave_lines(link, system, most, words["images"])
+        lines += master_lines(link, system, most, is_marking) if link.side == "m" else slave_lines(link, system, most, words["images"])
         lines.append("")
     lines += vector_lines(links)
     for link in links:
